@@ -30,13 +30,13 @@ use Rattle.sporc_line.proofs.SameKeys.{has_left, has_right, keys_meet, one_readi
 use Rattle.sporc_client.specs.declared.fault.AcceptFault.TheVariants.{Refused}
 use Rattle.sporc_client.specs.PlainClient.{PlainClient, after_pending, committed_of}
 use Rattle.sporc_client.specs.Answers.{accept_fault, is_out, journal_has_room, or_full, refusal_of}
-use Rattle.sporc_client.specs.Run.{Setup, World, Signing, Move, start, IsRun, given, with_client, world_at}
+use Rattle.sporc_client.specs.Run.{Setup, World, Signing, Move, start, IsRun, given, world_at}
 use Rattle.sporc_client.specs.Genuine.{HasSigned}
-use Rattle.sporc_client.specs.Agree.{Agree, HistoriesCollisionFree, IsClient, IsRightful, SameHistoryAndText, StandsBehind}
+use Rattle.sporc_client.specs.Agree.{Agree, NoCollision, IsClient, IsRightful, SameHistoryAndText, StandsBehind}
 use Rattle.sporc_client.specs.Reached.{IsReached}
 use Rattle.sporc_client.specs.Step.{accepted}
 use Rattle.sporc_client.specs.WellFormed.{IsWellFormed}
-use Rattle.sporc_client.proofs.Worlds.{gives_to}
+use Rattle.sporc_client.proofs.Worlds.{gives_to, with_client}
 use Rattle.sporc_client.proofs.InHistories.{named_prefix, one_hash, one_place, one_prefix, same_base}
 use Rattle.sporc_client.proofs.Reached.{reached_at}
 use Rattle.sporc_client.proofs.SignedEntries.{AllSignings, IsSigning, signing_at, signing_in}
@@ -53,7 +53,7 @@ good_of s who c reached = subst (λ (g : Genesis). Good g c.opening.kit c.entrie
 abbrev Free : Genesis → PlainClient → PlainClient → Type 0
 Free g c d = CollisionFree (line_strings g c.opening.kit c.entries ++ line_strings g d.opening.kit d.entries)
 
-free_of : (s : Setup) (i j : Device) (c d : PlainClient) → IsReached s i c → IsReached s j d → HistoriesCollisionFree c d → Free s.genesis c d
+free_of : (s : Setup) (i j : Device) (c d : PlainClient) → IsReached s i c → IsReached s j d → NoCollision c d → Free s.genesis c d
 free_of s i j c d one two free =
     let P : Genesis → Type 0 = λ g. CollisionFree (line_strings g c.opening.kit c.entries ++ line_strings d.opening.genesis d.opening.kit d.entries) in
     let Q : Genesis → Type 0 = λ g. CollisionFree (line_strings s.genesis c.opening.kit c.entries ++ line_strings g d.opening.kit d.entries) in
@@ -79,7 +79,7 @@ alike g c d good good' free h =
       text = one_text g c.opening.kit d.opening.kit c.entries good good'' free' ∙ ap (text_of g d.opening.kit) entries;
     }
 
-same_history : (s : Setup) (i j : Device) (c d : PlainClient) → IsReached s i c → IsReached s j d → HistoriesCollisionFree c d → hash_of s.genesis c.entries ≡ hash_of s.genesis d.entries → SameHistoryAndText c d
+same_history : (s : Setup) (i j : Device) (c d : PlainClient) → IsReached s i c → IsReached s j d → NoCollision c d → hash_of s.genesis c.entries ≡ hash_of s.genesis d.entries → SameHistoryAndText c d
 same_history s i j c d one two free h =
     let g = s.genesis in
     let gc = genesis_of s i c one in
@@ -97,7 +97,7 @@ same_history s i j c d one two free h =
 
 -- ---- one key
 
-one_key : (s : Setup) (i j : Device) (c d : PlainClient) (epoch : ℕ) → IsReached s i c → IsReached s j d → HistoriesCollisionFree c d → is_out c ≡ false → is_out d ≡ false
+one_key : (s : Setup) (i j : Device) (c d : PlainClient) (epoch : ℕ) → IsReached s i c → IsReached s j d → NoCollision c d → is_out c ≡ false → is_out d ≡ false
     → epoch ≤ epoch_of c.entries → epoch ≤ epoch_of d.entries → commitment_at s.genesis (changes c.entries) epoch ≡ commitment_at s.genesis (changes d.entries) epoch
     → key_of c.opening.genesis c.opening.kit c.entries epoch ≡ key_of d.opening.genesis d.opening.kit d.entries epoch
 one_key s i j c d epoch one two free there there' le le' same =
@@ -117,7 +117,7 @@ one_key s i j c d epoch one two free there there' le le' same =
 -- ---- one base
 
 -- an entry that a client of the run signed
-authors_base : (s : Setup) (i : Device) (x : ℕ) (c : PlainClient) (signing : Signing) (e : Entry) → IsReached s i c → IsSigning s signing → HistoriesCollisionFree c signing.client
+authors_base : (s : Setup) (i : Device) (x : ℕ) (c : PlainClient) (signing : Signing) (e : Entry) → IsReached s i c → IsSigning s signing → NoCollision c signing.client
     → StandsBehind x c.entries signing.entry e → signing.client.entries ≡ take e.header.base c.entries
 authors_base s i x c signing e one told free stands =
     let g = s.genesis in

@@ -13,9 +13,9 @@ use Rattle.sporc_client.specs.Allowed.{allows, allows_all, is_allowed}
 use Rattle.sporc_client.specs.Calls.{LeadTo, events_of}
 use Rattle.sporc_client.specs.Log.{Logged}
 use Rattle.sporc_client.specs.PlainClient.{Opening, PlainClient, opened}
-use Rattle.sporc_client.specs.Run.{Setup, World, Move, Open, Restart, IsRun, after, after_all, opening_of, with_client}
+use Rattle.sporc_client.specs.Run.{Setup, World, Move, Open, Restart, IsRun, after, after_all, opening_of}
 use Rattle.sporc_client.specs.Step.{log_of_entries, replay, replay_from, step}
-use Rattle.sporc_client.proofs.Worlds.{happens_to, restarted, restarts}
+use Rattle.sporc_client.proofs.Worlds.{happens_to, restarted, restarts, with_client}
 use Rattle.sporc_client.proofs.Kept.{step_opening}
 use Rattle.sporc_client.proofs.Reached.{put_same}
 

@@ -29,20 +29,20 @@ use Rattle.sporc_client.specs.Log as events
 use Rattle.sporc_client.specs.PlainClient.{PlainClient, opened}
 use Rattle.sporc_client.specs.Reached.{IsReached}
 use Rattle.sporc_client.specs.Rebasing.{rebased}
-use Rattle.sporc_client.specs.Run.{Setup, World, Signing, Move, Open, Happen, Give, Restart, IsRun, May, after, given, key_of_device, opening_of, signings, start, with_client}
-use Rattle.sporc_client.specs.Genuine.{Genuine, IsGenuine}
+use Rattle.sporc_client.specs.Run.{Setup, World, Signing, Move, Open, Happen, Give, Restart, IsRun, May, after, given, key_of_device, opening_of, signings, start}
+use Rattle.sporc_client.specs.Genuine.{Genuine}
 use Rattle.sporc_client.specs.Soundness.{IsOfFirst}
 use Rattle.sporc_client.specs.Step.{accepted, change_comes, edit_comes, form_coming, is_flight, log_of_entries, own_comes, replay, replay_from, restated, step}
 use Rattle.sporc_client.specs.Typed.{IsTypedEvent, IsTypedMove, IsTypedRun}
 use Rattle.sporc_client.specs.WellFormed.{IsWellFormed}
-use Rattle.sporc_client.proofs.Worlds.{gives_to, happens_to, restarted, restarts}
+use Rattle.sporc_client.proofs.Worlds.{gives_to, happens_to, restarted, restarts, with_client}
 use Rattle.sporc_client.proofs.AcceptedHistories.{accepted_as, accepts_all}
 use Rattle.sporc_client.proofs.Reached.{AllReached, reached_after, reached_start, with_client_cases}
 use Rattle.sporc_client.proofs.RosterFacts.{all_filter, all_inserted}
 use Rattle.sporc_client.proofs.SignedEntries.{AllSignings, IsSigning, none_signed, signings_after}
 use Rattle.sporc_client.proofs.SoundClients.{IsSoundAndTyped, made_in_flight}
 use Rattle.sporc_client.proofs.SoundRuns.{AllSound, sound_after}
-use Rattle.sporc_client.proofs.Sourced.{AddGenuine}
+use Rattle.sporc_client.proofs.Sourced.{AddGenuine, IsGenuine}
 use Rattle.sporc_line.proofs.Goods.{good_take}
 use Rattle.sporc_client.proofs.Submitting.{made_by_submission}
 

@@ -15,9 +15,9 @@ use Rattle.sporc_client.specs.PlainClient.{Opening, PlainClient, opened}
 use Rattle.sporc_client.specs.Answers.{journal_has_room, refusal_of}
 use Rattle.sporc_client.specs.Allowed.{allows, is_allowed}
 use Rattle.sporc_client.specs.Step.{accepted, log_of_entries, replay, step}
-use Rattle.sporc_client.specs.Run.{Setup, World, Signing, Move, Open, Happen, Give, Restart, start, after, after_all, May, IsRun, IsAt, given, opening_of, signings, with_client}
+use Rattle.sporc_client.specs.Run.{Setup, World, Signing, Move, Open, Happen, Give, Restart, start, after, after_all, May, IsRun, IsAt, given, opening_of, signings}
 use Rattle.sporc_client.specs.Reached.{IsReached}
-use Rattle.sporc_client.proofs.Worlds.{gives_to, happens_to, restarted, restarts}
+use Rattle.sporc_client.proofs.Worlds.{gives_to, happens_to, restarted, restarts, with_client}
 use Rattle.sporc_client.proofs.Logs.{is_allowed_more, replay_more}
 use Rattle.sporc_client.proofs.AcceptedHistories.{accept_allowed, accepted_as, accepts_all, accept_passes}
 

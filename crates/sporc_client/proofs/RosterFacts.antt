@@ -4,7 +4,7 @@ use Rattle.std.specs.Prelude.{filter, nat_lt}
 use Rattle.std.specs.List.{AllByRecursion, insert}
 use Rattle.sporc_member.specs.declared.member.Member.{Member}
 use Rattle.sporc_member.specs.declared.role.Role.{Role}
-use Rattle.sporc_member.specs.Roster.{insert_sorted, role_once, with_role}
+use Rattle.sporc_member.specs.Roster.{insert_sorted, with_role}
 
 -- a fact that a new role doesn't change
 abbrev pub KeepsRoles : (Member → Type 0) → Type 0
@@ -33,4 +33,4 @@ all_filter P p (x ∷ xs) all = go (p x) (all_filter P p xs all.1)
 
 pub all_roles : (P : Member → Type 0) → KeepsRoles P → (member : ℕ) (role : Role) (members : List Member) → AllByRecursion P members → AllByRecursion P (map (with_role member role) members)
 all_roles P keeps member role [] all = tt
-all_roles P keeps member role (m ∷ members) all = (keeps m (role_once member role m) all.0, all_roles P keeps member role members all.1)
+all_roles P keeps member role (m ∷ members) all = (keeps m (with_role member role m).role all.0, all_roles P keeps member role members all.1)

@@ -9,12 +9,12 @@ use Rattle.sporc_line.proofs.NextEntry.{at_next}
 use Rattle.sporc_client.specs.Answers.{journal_has_room, refusal_of}
 use Rattle.sporc_client.specs.Allowed.{allows}
 use Rattle.sporc_client.specs.PlainClient.{PlainClient, opened}
-use Rattle.sporc_client.specs.Run.{Setup, World, Signing, Move, Open, Happen, Give, Restart, start, after, after_all, IsAt, IsRun, May, given, opening_of, signings, with_client}
+use Rattle.sporc_client.specs.Run.{Setup, World, Signing, Move, Open, Happen, Give, Restart, start, after, after_all, IsAt, IsRun, May, given, opening_of, signings}
 use Rattle.sporc_client.specs.Soundness.{IsSound}
 use Rattle.sporc_client.specs.Step.{accepted, step}
 use Rattle.sporc_client.specs.Typed.{IsTypedMove, IsTypedRun}
 use Rattle.sporc_client.specs.WellFormed.{IsWellFormed}
-use Rattle.sporc_client.proofs.Worlds.{gives_to, happens_to, restarted, restarts}
+use Rattle.sporc_client.proofs.Worlds.{gives_to, happens_to, restarted, restarts, with_client}
 use Rattle.sporc_client.proofs.Reached.{AllReached, put_same, reached_after, reached_start, run_front, with_client_cases}
 use Rattle.sporc_client.proofs.SoundClients.{IsSoundAndTyped, accept_keeps, event_keeps, opened_keeps, restarted_keeps}
 

@@ -1,21 +1,28 @@
 -- If no one forges, each entry of each history comes from a client that holds its author's key.
 use Rattle.std.proofs.Common.{◌≡◌, ℕ, zero, suc, ◌<◌, ◌≤◌, Bool, true, false, cond, List, [], ◌∷◌, ◌++◌, length, take, refl, sym, ap, ◌∙◌, subst, arith, Option, None, Some, ◌⊎◌, inl, inr}
-use Rattle.std.specs.Prelude.{Contains, slice_get}
+use Rattle.std.specs.Prelude.{Contains, Ok, slice_get}
 use Rattle.std.proofs.lemmas.List.{take-take, take-append-le}
 use Rattle.std.proofs.lemmas.List.Elements.{Contains-append_left}
 use Rattle.sporc_member.specs.declared.device.Device.{Device}
+use Rattle.sporc_entry.specs.declared.entry.Entry.{Entry}
+use Rattle.sporc_entry.specs.Entry.{entry_of}
 use Rattle.sporc_head.specs.declared.refusal.Refusal.{Refusal}
 use Rattle.sporc_line.proofs.Lists.{slice_get_push, slice_get-take, take_front}
 use Rattle.sporc_client.specs.Log.{Logged, Edit, Change, Submit, Dropped, Accept, Discard}
 use Rattle.sporc_client.specs.PlainClient.{PlainClient, opened}
 use Rattle.sporc_client.specs.Answers.{journal_has_room, refusal_of}
 use Rattle.sporc_client.specs.Step.{accepted, step}
-use Rattle.sporc_client.specs.Run.{Setup, World, Signing, Move, Open, Happen, Give, Restart, start, after, after_all, IsRun, given, opening_of, signings, with_client, world_at}
-use Rattle.sporc_client.specs.Genuine.{Genuine, IsGenuine}
-use Rattle.sporc_client.proofs.Worlds.{gives_to, happens_to, restarted, restarts}
+use Rattle.sporc_client.specs.Run.{Setup, World, Signing, Move, Open, Happen, Give, Restart, start, after, after_all, IsRun, given, opening_of, signings, world_at}
+use Rattle.sporc_client.specs.Genuine.{Genuine, HasSigned, IsUnderKeyOf}
+use Rattle.sporc_client.proofs.Worlds.{gives_to, happens_to, restarted, restarts, with_client}
 use Rattle.sporc_client.proofs.AcceptedHistories.{accepted_as, accepts_all}
 use Rattle.sporc_client.proofs.Reached.{AllReached, put_same, reached_after, reached_start, with_client_cases}
 use Rattle.sporc_line.proofs.Goods.{good_take}
+
+-- if the author has the key of a device of the run, some device signed the entry under it
+abbrev pub IsGenuine : Setup → World → List (List ℕ) → List ℕ → Type 0
+IsGenuine s w entries bytes = (owner : Device) (e : Entry) → entry_of bytes ≡ Ok e → IsUnderKeyOf s owner entries e
+    → (signer : Device) × HasSigned s w owner signer bytes
 
 -- each entry of a history is genuine where it stands
 abbrev pub AreGenuine : Setup → World → List (List ℕ) → Type 0

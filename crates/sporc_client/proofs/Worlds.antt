@@ -1,12 +1,17 @@
 -- The world after a move of a device that has this client, or none.
-use Rattle.std.proofs.Common.{ℕ, List, ◌++◌, take, Option}
+use Rattle.std.proofs.Common.{ℕ, List, ◌++◌, take, Option, Some, cond}
 use Rattle.std.specs.Option.{option_map_or}
 use Rattle.sporc_member.specs.declared.device.Device.{Device}
+use Rattle.sporc_member.specs.Device.{same_device}
 use Rattle.sporc_client.specs.Answers.{refusal_of}
 use Rattle.sporc_client.specs.Log.{Logged}
 use Rattle.sporc_client.specs.PlainClient.{PlainClient}
 use Rattle.sporc_client.specs.Run.{World, given, put, signings}
 use Rattle.sporc_client.specs.Step.{log_of_entries, replay, step}
+
+-- the clients with this one in its place
+abbrev pub with_client : (Device → Option PlainClient) → Device → PlainClient → Device → Option PlainClient
+with_client clients who c other = cond (same_device other who) (Some c) (clients other)
 
 abbrev pub happens_to : World → Device → Logged → Option PlainClient → World
 happens_to w who event client = option_map_or (λ c. put (record w { signed = w.signed ++ signings who c event }) who (step c event)) client w

@@ -6,13 +6,15 @@ use Rattle.sporc_hash.specs.Strings.{CollisionFree}
 use Rattle.sporc_member.specs.declared.device.Device.{Device}
 use Rattle.sporc_member.specs.Roster.{key_of as live_key_of, member_at}
 use Rattle.sporc_entry.specs.declared.entry.Entry.{Entry}
+use Rattle.sporc_entry.specs.declared.genesis.Genesis.{Genesis}
 use Rattle.sporc_entry.specs.Entry.{author_device, entry_of, signed_string}
 use Rattle.sporc_entry.specs.Version.{version_of}
 use Rattle.sporc_head.specs.declared.refusal.Refusal.{Refusal}
 use Rattle.sporc_head.specs.HeadChecks.{allows as role_allows}
 use Rattle.sporc_head.specs.History.{changes, count_of, epoch_of, hash_of, roster_of}
-use Rattle.sporc_line.specs.Commitments.{commitment_at}
+use Rattle.sporc_line.specs.Commitments.{commitment_at as commitment}
 use Rattle.sporc_line.specs.Keys.{key_of}
+use Rattle.sporc_line.specs.Kit.{Kit}
 use Rattle.sporc_line.specs.LineChecks.{first_fault}
 use Rattle.sporc_line.specs.LineStrings.{line_strings}
 use Rattle.sporc_line.specs.Operations.{operations}
@@ -22,34 +24,34 @@ use Rattle.sporc_client.specs.Answers.{accept_fault, is_out}
 use Rattle.sporc_client.specs.Run.{Setup, Signing, Move, Give, start, after, after_all, world_at, IsAt}
 use Rattle.sporc_client.specs.Genuine.{Genuine, HasSigned, IsUnderKeyOf}
 
--- every string that is hashed for a client's history
-abbrev pub strings_of : PlainClient → List (List ℕ)
-strings_of c = line_strings c.opening.genesis c.opening.kit c.entries
+-- what a client reads off its history
+abbrev pub reading : {A : Type 0} → PlainClient → (Genesis → Kit → List (List ℕ) → A) → A
+reading c of = of c.opening.genesis c.opening.kit c.entries
 
 -- no two different strings that are hashed for two clients' histories have one digest
-abbrev pub HistoriesCollisionFree : PlainClient → PlainClient → Type 0
-HistoriesCollisionFree c d = CollisionFree (strings_of c ++ strings_of d)
+abbrev pub NoCollision : PlainClient → PlainClient → Type 0
+NoCollision c d = CollisionFree (reading c line_strings ++ reading d line_strings)
 
 -- two clients hold one history, and what follows from it; with nothing pending they show one text
 pub record SameHistoryAndText (c d : PlainClient) : Type 0 where
   pub entries : c.entries ≡ d.entries
-  pub operations : operations c.opening.genesis c.opening.kit c.entries ≡ operations d.opening.genesis d.opening.kit d.entries
+  pub operations : reading c operations ≡ reading d operations
   pub members : roster_of c.opening.genesis c.entries ≡ roster_of d.opening.genesis d.entries
   pub text : committed_of c ≡ committed_of d
   pub shown : c.pending ≡ [] → d.pending ≡ [] → shown_of c ≡ shown_of d
 
 -- behind the first x entries of a history stand these bytes, which are this entry
-pub record StandsBehind (x : ℕ) (entries : List (List ℕ)) (bytes : List ℕ) (e : Entry) : Type 0 where
-  pub at : slice_get entries x ≡ Some bytes
+pub record StandsBehind (x : ℕ) (es : List (List ℕ)) (bytes : List ℕ) (e : Entry) : Type 0 where
+  pub at : slice_get es x ≡ Some bytes
   pub reads : entry_of bytes ≡ Ok e
 
--- what holds of an entry behind these ones: it is of the version there, its author is a member there, whose role allows it,
--- with a live device under whose key it verifies and that has so many entries before it
+-- an entry behind these ones: its version, its author's right and key there, and its number
 pub record IsRightful (s : Setup) (before : List (List ℕ)) (e : Entry) : Type 0 where
   pub version : e.header.version ≡ version_of (roster_of s.genesis before).upgraded
-  pub role : IsSomeAnd (member_at (roster_of s.genesis before) e.header.author) (λ m. role_allows m.role e.header.kind ≡ true)
+  pub role : IsSomeAnd (member_at (roster_of s.genesis before) e.header.author)
+      (λ m. role_allows m.role e.header.kind ≡ true)
   pub signature : IsSomeAnd (live_key_of (roster_of s.genesis before) (author_device e.header))
-      (λ bytes. IsSomeAnd (public_key_in bytes) (λ key. verifies key (signed_string e) e.signature ≡ true))
+      (λ k. IsSomeAnd (public_key_in k) (λ key. verifies key (signed_string e) e.signature ≡ true))
   pub number : e.header.number ≡ count_of (author_device e.header) before + 1
 
 module _ (s : Setup) (moves : List Move) where
@@ -59,34 +61,41 @@ module _ (s : Setup) (moves : List Move) where
 
   pub record Agree : Type 0 where
     -- clients with one history hash hold the same
-    pub one_history : (c d : PlainClient) → IsClient c → IsClient d → HistoriesCollisionFree c d
+    pub one_history : (c d : PlainClient) → IsClient c → IsClient d → NoCollision c d
         → hash_of s.genesis c.entries ≡ hash_of s.genesis d.entries → SameHistoryAndText c d
-    -- clients that no change removed, and whose histories have one commitment for an epoch, hold one key of it
-    pub one_key : (c d : PlainClient) (epoch : ℕ) → IsClient c → IsClient d → HistoriesCollisionFree c d
-        → is_out c ≡ false → is_out d ≡ false → epoch ≤ epoch_of c.entries → epoch ≤ epoch_of d.entries
-        → commitment_at s.genesis (changes c.entries) epoch ≡ commitment_at s.genesis (changes d.entries) epoch
-        → key_of c.opening.genesis c.opening.kit c.entries epoch ≡ key_of d.opening.genesis d.opening.kit d.entries epoch
+    -- clients that no change removed hold one key of an epoch, if their histories commit to one
+    pub one_key : (c d : PlainClient) (e : ℕ) → IsClient c → IsClient d → NoCollision c d
+        → is_out c ≡ false → is_out d ≡ false → e ≤ epoch_of c.entries → e ≤ epoch_of d.entries
+        → commitment s.genesis (changes c.entries) e ≡ commitment s.genesis (changes d.entries) e
+        → reading c key_of e ≡ reading d key_of e
     -- clients that accepted one entry agree up to its base
-    pub one_base : (c d : PlainClient) (x y : ℕ) (bytes : List ℕ) (e : Entry) → IsClient c → IsClient d → HistoriesCollisionFree c d
-        → StandsBehind x c.entries bytes e → StandsBehind y d.entries bytes e → take e.header.base c.entries ≡ take e.header.base d.entries
+    pub one_base : (c d : PlainClient) (x y : ℕ) (b : List ℕ) (e : Entry) → IsClient c → IsClient d
+        → NoCollision c d → StandsBehind x c.entries b e → StandsBehind y d.entries b e
+        → take e.header.base c.entries ≡ take e.header.base d.entries
     -- and on all that its author had committed when it signed, if that was a client of the run
-    pub authors_base : (c : PlainClient) (x : ℕ) (signing : Signing) (e : Entry) → IsClient c
-        → Contains (after_all s start moves).signed signing → HistoriesCollisionFree c signing.client
-        → StandsBehind x c.entries signing.entry e → signing.client.entries ≡ take e.header.base c.entries
-    -- every accepted entry verifies under its author's key there, in order, under a right held there
-    pub in_order : (c : PlainClient) (x : ℕ) (bytes : List ℕ) → IsClient c → slice_get c.entries x ≡ Some bytes
+    pub authors_base : (c : PlainClient) (x : ℕ) (made : Signing) (e : Entry) → IsClient c
+        → Contains (after_all s start moves).signed made → NoCollision c made.client
+        → StandsBehind x c.entries made.entry e → made.client.entries ≡ take e.header.base c.entries
+    -- every accepted entry verifies under its author's key there, in order, by a right held there
+    pub in_order : (c : PlainClient) (x : ℕ) (bytes : List ℕ)
+        → IsClient c → slice_get c.entries x ≡ Some bytes
         → (e : Entry) × StandsBehind x c.entries bytes e × IsRightful s (take x c.entries) e
     -- once per history
     pub once_each : (c : PlainClient) (x y : ℕ) (b b' : List ℕ) (e e' : Entry) → IsClient c
         → StandsBehind x c.entries b e → StandsBehind y c.entries b' e'
-        → author_device e.header ≡ author_device e'.header → e.header.number ≡ e'.header.number → x ≡ y
-    -- if no one forges, an entry under the key of a device of the run was signed by then, with this key, by its author
-    pub by_signer : Genuine s moves → (n x : ℕ) (who owner : Device) (c : PlainClient) (bytes : List ℕ) (e : Entry) → IsAt s moves n who c
-        → StandsBehind x c.entries bytes e → IsUnderKeyOf s owner (take x c.entries) e
+        → author_device e.header ≡ author_device e'.header
+        → e.header.number ≡ e'.header.number → x ≡ y
+    -- if no one forges, an entry under a key of the run was signed by then, by its author, with it
+    pub by_signer : Genuine s moves → (n x : ℕ) (who owner : Device) (c : PlainClient)
+        (bytes : List ℕ) (e : Entry) → IsAt s moves n who c → StandsBehind x c.entries bytes e
+        → IsUnderKeyOf s owner (take x c.entries) e
         → HasSigned s (world_at s moves n) owner (author_device e.header) bytes
     -- what a client refuses by `accept` it refuses for the first check that fails
     pub refuses : (c : PlainClient) (position : ℕ) (bytes : List ℕ) (refusal : Refusal) → IsClient c
-        → (accept_fault c position bytes ≡ Some (Refused refusal)) ↔ (first_fault s.genesis c.opening.kit c.entries position bytes ≡ Some refusal)
+        → (accept_fault c position bytes ≡ Some (Refused refusal))
+        ↔ (first_fault s.genesis c.opening.kit c.entries position bytes ≡ Some refusal)
     -- and bytes that it doesn't accept change no client
-    pub unchanged : (n position : ℕ) (who : Device) (c : PlainClient) (bytes : List ℕ) → IsAt s moves n who c → IsSome (accept_fault c position bytes)
-        → (other : Device) → (after s (world_at s moves n) (Give who position bytes)).clients other ≡ (world_at s moves n).clients other
+    pub unchanged : (n position : ℕ) (who : Device) (c : PlainClient) (bytes : List ℕ)
+        → IsAt s moves n who c → IsSome (accept_fault c position bytes) → (other : Device)
+        → (after s (world_at s moves n) (Give who position bytes)).clients other
+        ≡ (world_at s moves n).clients other

@@ -11,7 +11,7 @@ use Rattle.sporc_member.specs.Roster.{key_of, member_at}
 use Rattle.sporc_line.specs.LineChecks.{first_fault}
 use Rattle.sporc_client.specs.declared.limits.TheConstants.{MAX_EDIT_BYTES, MAX_EVENTS, MAX_PENDING}
 use Rattle.sporc_client.specs.declared.fault.AcceptFault.{AcceptFault}
-use Rattle.sporc_client.specs.declared.fault.AcceptFault.TheVariants as accepts
+use Rattle.sporc_client.specs.declared.fault.AcceptFault.TheVariants.{JournalFull, Refused}
 use Rattle.sporc_client.specs.declared.fault.EditFault.{EditFault}
 use Rattle.sporc_client.specs.declared.fault.EditFault.TheVariants as edits
 use Rattle.sporc_client.specs.declared.fault.RestartFault.{RestartFault}
@@ -69,7 +69,7 @@ discard_fault c = unless (journal_has_room c) edits.JournalFull
 
 -- an entry's first failed check, or else that the journal is full
 abbrev pub or_full : Bool → Option Refusal → Option AcceptFault
-or_full room refusal = option_or (option_map accepts.Refused refusal) (if room then None else Some accepts.JournalFull)
+or_full room r = option_or (option_map Refused r) (if room then None else Some JournalFull)
 
 abbrev pub refusal_of : PlainClient → ℕ → List ℕ → Option Refusal
 refusal_of c position bytes = first_fault c.opening.genesis c.opening.kit c.entries position bytes

@@ -1,4 +1,4 @@
--- When no one forges: each entry that is accepted under the key of a device of the run was signed by a client with that key.
+-- When no one forges: what is accepted under the key of a device of the run, such a client signed.
 use Rattle.std.specs.Prelude.{◌≡◌, ℕ, suc, List, [], ◌∷◌, ◌++◌, Some, Contains, Ok}
 use Rattle.sporc_member.specs.declared.device.Device.{Device}
 use Rattle.sporc_member.specs.Roster.{key_of}
@@ -9,9 +9,9 @@ use Rattle.sporc_client.specs.PlainClient.{PlainClient}
 use Rattle.sporc_client.specs.Run.{Setup, Signing, World, Move, IsAt, key_of_device, world_at}
 
 -- behind these entries the entry's author has the key of this device of the run
-pub record IsUnderKeyOf (s : Setup) (owner : Device) (entries : List (List ℕ)) (e : Entry) : Type 0 where
+pub record IsUnderKeyOf (s : Setup) (owner : Device) (es : List (List ℕ)) (e : Entry) : Type 0 where
   pub of_run : Contains s.devices owner
-  pub key : key_of (roster_of s.genesis entries) (author_device e.header) ≡ Some (key_of_device s owner)
+  pub key : key_of (roster_of s.genesis es) (author_device e.header) ≡ Some (key_of_device s owner)
 
 -- a client of the signer signed the entry, under the key of the owner
 pub record HasSigned (s : Setup) (w : World) (owner signer : Device) (bytes : List ℕ) : Type 0 where
@@ -21,12 +21,9 @@ pub record HasSigned (s : Setup) (w : World) (owner signer : Device) (bytes : Li
   pub entry : signing.entry ≡ bytes
   pub key : key_of_device s signer ≡ key_of_device s owner
 
--- if the author has such a key, some device signed the entry under it
-abbrev pub IsGenuine : Setup → World → List (List ℕ) → List ℕ → Type 0
-IsGenuine s w entries bytes = (owner : Device) (e : Entry) → entry_of bytes ≡ Ok e → IsUnderKeyOf s owner entries e
-    → (signer : Device) × HasSigned s w owner signer bytes
-
--- each entry that a move adds to a client's history is genuine there
+-- each entry that a move adds to a client's history, under such a key, was signed under it
 abbrev pub Genuine : Setup → List Move → Type 0
-Genuine s moves = (n : ℕ) (who : Device) (c d : PlainClient) (bytes : List ℕ) → IsAt s moves n who c → IsAt s moves (suc n) who d
-    → d.entries ≡ c.entries ++ bytes ∷ [] → IsGenuine s (world_at s moves n) c.entries bytes
+Genuine s moves = (n : ℕ) (who : Device) (c d : PlainClient) (bytes : List ℕ)
+    → IsAt s moves n who c → IsAt s moves (suc n) who d → d.entries ≡ c.entries ++ bytes ∷ []
+    → (owner : Device) (e : Entry) → entry_of bytes ≡ Ok e → IsUnderKeyOf s owner c.entries e
+    → (signer : Device) × HasSigned s (world_at s moves n) owner signer bytes

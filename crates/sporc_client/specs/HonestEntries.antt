@@ -10,7 +10,7 @@ use Rattle.sporc_member.specs.Roster.{after_change, key_of, member_at, removes}
 use Rattle.sporc_epoch.specs.Streams.{stream_of}
 use Rattle.sporc_head.specs.declared.limits.TheConstants.{MAX_ENTRIES}
 use Rattle.sporc_head.specs.History.{CommittedChange, change_in, epoch_of, is_by, is_removed, roster_of}
-use Rattle.sporc_client.specs.Agree.{HistoriesCollisionFree}
+use Rattle.sporc_client.specs.Agree.{NoCollision}
 use Rattle.sporc_client.specs.Allowed.{allows, new_key_of}
 use Rattle.sporc_client.specs.Log.{Submit}
 use Rattle.sporc_client.specs.PlainClient.{PlainClient, me_of}
@@ -50,4 +50,4 @@ pub record CanReceive (c d : PlainClient) (bytes : List ℕ) : Type 0 where
   pub room : length d.entries < MAX_ENTRIES
   pub not_removed : is_removed (me_of d) d.entries ≡ false
   pub key : IfSome (change_in bytes) (λ change. removes (me_of d) change.body.change ≡ false → CanLearnKey c d change)
-  pub free : HistoriesCollisionFree c d
+  pub free : NoCollision c d

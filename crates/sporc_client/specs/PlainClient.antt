@@ -19,7 +19,7 @@ pub record PlainClient : Type 0 where
   pub opening : Opening
   -- its history, each entry's bytes, oldest first
   pub entries : List (List ℕ)
-  -- its own edits and changes that are not committed, each edit stated on the text after those before it
+  -- its own edits and changes that are not committed, each edit stated on the text before it
   pub pending : List Pending
   -- the entry made of the first of them, while it is on its way
   pub flight : Option (List ℕ)

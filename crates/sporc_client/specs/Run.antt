@@ -10,22 +10,26 @@ use Rattle.sporc_entry.specs.declared.genesis.Genesis.{Genesis}
 use Rattle.sporc_epoch.specs.Keys.{Keys}
 use Rattle.sporc_head.specs.declared.refusal.Refusal.{Refusal}
 use Rattle.sporc_line.specs.Good.{Meets}
+use Rattle.sporc_line.specs.Kit.{Kit}
 use Rattle.sporc_client.specs.Log.{Logged, Submit}
 use Rattle.sporc_client.specs.PlainClient.{Opening, PlainClient, opened}
 use Rattle.sporc_client.specs.Step.{accepted, log_of_entries, replay, step}
 use Rattle.sporc_client.specs.Answers.{journal_has_room, refusal_of}
 use Rattle.sporc_client.specs.Allowed.{allows}
 
--- a document, the devices of its members that run this program, and what each was given: its pairwise keys and its private key
+-- a document, the devices of members that run this program, each's pairwise keys and private key
 pub record Setup : Type 0 where
   pub genesis : Genesis
   pub devices : List Device
   pub pairs : Device → Keys
   pub private : Device → LmsPrivate
 
--- what a device's client is opened with, if it has this ring
+-- a device's kit and what its client is opened with, if it has this ring
+abbrev pub kit_in : Setup → Device → Keys → Kit
+kit_in s who ring = record { me = who; ring = ring; pairs = s.pairs who }
+
 abbrev pub opening_of : Setup → Device → Keys → Opening
-opening_of s who ring = record { genesis = s.genesis; kit = record { me = who; ring = ring; pairs = s.pairs who }; key = s.private who }
+opening_of s who ring = record { genesis = s.genesis; kit = kit_in s who ring; key = s.private who }
 
 -- the bytes of a device's public key
 abbrev pub key_of_device : Setup → Device → List ℕ
@@ -57,12 +61,9 @@ pub data Move : Type 0 where
   -- it goes back to its first k entries
   Restart : (who : Device) (k : ℕ) → Move
 
--- the clients with this one in its place
-abbrev pub with_client : (Device → Option PlainClient) → Device → PlainClient → Device → Option PlainClient
-with_client clients who c other = if same_device other who then Some c else clients other
-
+-- the world with this client in its place
 abbrev pub put : World → Device → PlainClient → World
-put w who c = record w { clients = with_client w.clients who c }
+put w who c = record w { clients = λ d. if same_device d who then Some c else w.clients d }
 
 -- what a client signs by an event
 abbrev pub signings : Device → PlainClient → Logged → List Signing
@@ -77,10 +78,12 @@ given c bytes None = if journal_has_room c then accepted c bytes else c
 -- the world after a move, which changes nothing if it is of a client that is not there
 abbrev pub after : Setup → World → Move → World
 after s w (Open who ring) = put w who (opened (opening_of s who ring))
-after s w (Happen who event) =
-    option_map_or (λ c. put (record w { signed = w.signed ++ signings who c event }) who (step c event)) (w.clients who) w
-after s w (Give who position bytes) = option_map_or (λ c. put w who (given c bytes (refusal_of c position bytes))) (w.clients who) w
-after s w (Restart who k) = option_map_or (λ c. put w who (replay c.opening (log_of_entries (take k c.entries)))) (w.clients who) w
+after s w (Happen who e) = option_map_or
+    (λ c. put (record w { signed = w.signed ++ signings who c e }) who (step c e)) (w.clients who) w
+after s w (Give who position bytes) =
+    option_map_or (λ c. put w who (given c bytes (refusal_of c position bytes))) (w.clients who) w
+after s w (Restart who k) = option_map_or
+    (λ c. put w who (replay c.opening (log_of_entries (take k c.entries)))) (w.clients who) w
 
 -- after moves in order
 abbrev pub after_all : Setup → World → List Move → World
@@ -88,7 +91,7 @@ after_all s w moves = fold (after s) w moves
 
 -- a move may happen
 abbrev pub May : Setup → World → Move → Type 0
-May s w (Open who ring) = Contains s.devices who × Meets s.genesis 0 (get ring 0) s.genesis.commitment
+May s w (Open who r) = Contains s.devices who × Meets s.genesis 0 (get r 0) s.genesis.commitment
 May s w (Happen who event) = IsSomeAnd (w.clients who) (λ c. allows c event ≡ true)
 May s w (Give who position bytes) = IsSomeAnd (w.clients who) (λ c. ⊤)
 May s w (Restart who k) = IsSomeAnd (w.clients who) (λ c. k ≤ length c.entries)

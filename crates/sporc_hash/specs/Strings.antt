@@ -5,12 +5,12 @@ use Rattle.sporc_hash.specs.Chain.{genesis_string, genesis_value, entry_string, 
 
 -- both strings of each entry, from a first value on
 abbrev pub entry_strings : List ℕ → List (List ℕ) → List (List ℕ)
-entry_strings value [] = []
-entry_strings value (e ∷ es) = entry_string e ∷ link_string value e ∷ entry_strings (next_value value e) es
+entry_strings v [] = []
+entry_strings v (e ∷ es) = entry_string e ∷ link_string v e ∷ entry_strings (next_value v e) es
 
 -- the strings of a history's chain
 abbrev pub chain_strings : List ℕ → List (List ℕ) → List (List ℕ)
-chain_strings genesis entries = genesis_string genesis ∷ entry_strings (genesis_value genesis) entries
+chain_strings genesis es = genesis_string genesis ∷ entry_strings (genesis_value genesis) es
 
 -- the commitment string of an epoch's key, where the key is given
 abbrev pub key_string : List ℕ → ℕ → Option (List ℕ) → List (List ℕ)
@@ -24,8 +24,8 @@ key_strings document keys (suc n) = key_strings document keys n ++ key_string do
 
 -- every string that is hashed for a history of n epochs
 abbrev pub strings : List ℕ → List (List ℕ) → List ℕ → (ℕ → Option (List ℕ)) → ℕ → List (List ℕ)
-strings genesis entries document keys n = chain_strings genesis entries ++ key_strings document keys n
+strings genesis es document keys n = chain_strings genesis es ++ key_strings document keys n
 
 -- no two different strings of the list have one SHA-256 digest
 abbrev pub CollisionFree : List (List ℕ) → Type 0
-CollisionFree strings = (x y : List ℕ) → Contains strings x → Contains strings y → sha256 x ≡ sha256 y → x ≡ y
+CollisionFree xs = (x y : List ℕ) → Contains xs x → Contains xs y → sha256 x ≡ sha256 y → x ≡ y

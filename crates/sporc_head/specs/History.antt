@@ -33,7 +33,7 @@ epoch_of entries = length (changes entries)
 
 -- the members after a history
 abbrev pub roster_of : Genesis → List (List ℕ) → Roster
-roster_of genesis entries = roster_after genesis.founders (map (λ c. c.body.change) (changes entries))
+roster_of genesis es = roster_after genesis.founders (map (λ c. c.body.change) (changes es))
 
 -- whether a history removes a device, or its member
 abbrev pub is_removed : Device → List (List ℕ) → Bool

@@ -10,4 +10,4 @@ commitment_started genesis (Some change) = change.body.commitment
 -- that of the genesis, or of the change that starts the epoch
 abbrev pub commitment_at : Genesis → List CommittedChange → ℕ → List ℕ
 commitment_at genesis committed zero = genesis.commitment
-commitment_at genesis committed (suc epoch) = commitment_started genesis (slice_get committed epoch)
+commitment_at genesis committed (suc e) = commitment_started genesis (slice_get committed e)

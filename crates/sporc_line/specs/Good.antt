@@ -8,7 +8,7 @@ use Rattle.sporc_line.specs.LineChecks.{first_fault}
 
 -- there is a key of an epoch, and it meets a commitment
 abbrev pub Meets : Genesis → ℕ → Option (List ℕ) → List ℕ → Type 0
-Meets genesis epoch key commitment = IsSomeAnd key (λ k. commitment_of genesis.document epoch k ≡ commitment)
+Meets g epoch key commitment = IsSomeAnd key (λ k. commitment_of g.document epoch k ≡ commitment)
 
 -- the key of epoch 0 meets the commitment of the genesis, and each entry failed no check where it stands
 pub record Good (genesis : Genesis) (kit : Kit) (entries : List (List ℕ)) : Type 0 where

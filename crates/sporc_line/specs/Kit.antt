@@ -2,7 +2,7 @@
 use Rattle.sporc_member.specs.declared.device.Device.{Device}
 use Rattle.sporc_epoch.specs.Keys.{Keys}
 
--- which device it is, keys of epochs (that of epoch 0, or the hints of a joiner), and the keys that its member shares with others
+-- which device it is, keys of epochs (of epoch 0, or a joiner's hints), those shared with members
 pub record Kit : Type 0 where
   pub me : Device
   pub ring : Keys

@@ -9,4 +9,4 @@ use Rattle.sporc_line.specs.Keys.{key_of}
 
 -- those of its chain, and the commitment strings of its epochs' keys
 abbrev pub line_strings : Genesis → Kit → List (List ℕ) → List (List ℕ)
-line_strings genesis kit entries = strings (genesis_bytes genesis) entries genesis.document (key_of genesis kit entries) (epoch_of entries + 1)
+line_strings g k es = strings (genesis_bytes g) es g.document (key_of g k es) (epoch_of es + 1)

@@ -16,7 +16,7 @@ first_device member = record { member = member; number = FIRST_DEVICE }
 abbrev pub same_device : Device → Device → Bool
 same_device a b = (a.member == b.member) && (a.number == b.number)
 
--- whether a device stands before another in the order of members, and of numbers where the member is one
+-- whether a device stands before another in the order of members, and of a member's numbers
 abbrev pub is_before : Device → Device → Bool
 is_before a b = nat_lt a.member b.member || ((a.member == b.member) && nat_lt a.number b.number)
 

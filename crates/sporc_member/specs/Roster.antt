@@ -17,8 +17,8 @@ use Rattle.sporc_member.specs.Lists.{insert_by}
 use Rattle.sporc_member.specs.Role.{same_role, is_admin}
 use Rattle.sporc_base.specs.FirstFault.{unless, first_of}
 
--- the members in ascending order of their numbers; their live devices in the order of members, and of numbers; every device
--- that ever was one, in the order of use; and whether the document was upgraded
+-- the members and their live devices, in ascending order of numbers; every device that was one, in
+-- the order of use; and whether the document was upgraded
 pub record Roster : Type 0 where
   pub members : List Member
   pub devices : List LiveDevice
@@ -37,7 +37,7 @@ member_at roster number = find (λ m. m.member == number) roster.members
 
 -- the key of a live device
 abbrev pub key_of : Roster → Device → Option (List ℕ)
-key_of roster device = option_map (λ d. d.key) (find (λ d. same_device d.device device) roster.devices)
+key_of roster who = option_map (λ d. d.key) (find (λ d. same_device d.device who) roster.devices)
 
 -- the numbers of a member's live devices
 abbrev pub devices_of : Roster → ℕ → List ℕ
@@ -66,13 +66,9 @@ has_role (Some m) role = same_role m.role role
 abbrev pub insert_sorted : Member → List Member → List Member
 insert_sorted m members = insert_by (λ m. m.member) m members
 
--- the role of a member, once the one with this number has this role
-abbrev pub role_once : ℕ → Role → Member → Role
-role_once number role m = if m.member == number then role else m.role
-
 -- the member, once the one with this number has this role
 abbrev pub with_role : ℕ → Role → Member → Member
-with_role number role m = record { member = m.member; role = role_once number role m }
+with_role number role m = record m { role = if m.member == number then role else m.role }
 
 -- with a device more
 abbrev pub with_device : Device → List ℕ → Roster → Roster
@@ -91,13 +87,14 @@ with_members members roster = record roster { members = members }
 
 -- the roster after a change
 abbrev pub after_change : Roster → Change → Roster
-after_change roster (Add member role key) =
-    with_device (first_device member) key (with_members (insert_sorted (record { member = member; role = role }) roster.members) roster)
-after_change roster (Remove member) =
-    with_devices (λ d. not (d.member == member)) (with_members (filter (λ m. not (m.member == member)) roster.members) roster)
-after_change roster (SetRole member role) = with_members (map (with_role member role) roster.members) roster
-after_change roster (AddDevice member device key) = with_device (record { member = member; number = device }) key roster
-after_change roster (DropDevice member device) = with_devices (λ d. not (same_device d (record { member = member; number = device }))) roster
+after_change roster (Add m role key) = with_device (first_device m) key
+    (with_members (insert_sorted (record { member = m; role = role }) roster.members) roster)
+after_change roster (Remove m) = with_devices (λ d. not (d.member == m))
+    (with_members (filter (λ x. not (x.member == m)) roster.members) roster)
+after_change roster (SetRole m role) = with_members (map (with_role m role) roster.members) roster
+after_change roster (AddDevice m n key) = with_device (record { member = m; number = n }) key roster
+after_change roster (DropDevice m n) =
+    with_devices (λ d. not (same_device d (record { member = m; number = n }))) roster
 after_change roster Upgrade = record roster { upgraded = true }
 
 -- ---- why a roster refuses a change
@@ -167,6 +164,6 @@ roster_after founders changes = fold after_change (founded founders) changes
 
 -- whether a change removes a device, or its member
 abbrev pub removes : Device → Change → Bool
-removes device (Remove member) = member == device.member
-removes device (DropDevice member number) = same_device (record { member = member; number = number }) device
+removes device (Remove m) = m == device.member
+removes device (DropDevice m n) = same_device (record { member = m; number = n }) device
 removes device _ = false

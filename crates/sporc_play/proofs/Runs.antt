@@ -16,7 +16,7 @@ use Rattle.sporc_script.specs.declared.command.Command.{Command}
 use Rattle.sporc_script.specs.declared.play_line.PlayLine.{PlayLine}
 use Rattle.sporc_play.specs.Cast.{first_ring, founders_of, has_admin, openers_by, setup_of}
 use Rattle.sporc_play.specs.Derived.{first_key}
-use Rattle.sporc_play.specs.Moves.{IsOneRun, moment, moves_from, moves_of}
+use Rattle.sporc_play.specs.Moves.{IsOneRun, moves_from, moves_of}
 use Rattle.sporc_play.specs.Scene.{Effect, Scene, effect_of, after, after_each, opening, opening_moves, openings}
 use Rattle.sporc_play.proofs.ByteClients.{AreByteClients, AreByteKeys, IsByteMove, moves_bytes}
 use Rattle.sporc_play.proofs.ByteFacts.{AreBytes, bytes_sha}
@@ -39,7 +39,7 @@ take_front : (xs ys : List Move) → take (length xs) (xs ++ ys) ≡ xs
 take_front [] ys = refl
 take_front (x ∷ xs) ys = ap (λ (moves : List Move). x ∷ moves) (take_front xs ys)
 
-moves_front : (cast : List PlayLine) (commands : List (Scene → Command)) (n : ℕ) → take (moment cast commands n) (moves_of cast commands) ≡ moves_of cast (take n commands)
+moves_front : (cast : List PlayLine) (commands : List (Scene → Command)) (n : ℕ) → take (length (moves_of cast (take n commands))) (moves_of cast commands) ≡ moves_of cast (take n commands)
 moves_front cast commands n =
     let s = setup_of cast in
     let scene = opening cast in
@@ -49,7 +49,7 @@ moves_front cast commands n =
     ap (λ (cs : List (Scene → Command)). opening_moves cast ++ moves_from s scene cs) (sym (take-append-drop n commands))
     ∙ ap (λ (moves : List Move). opening_moves cast ++ moves) (moves_append s scene first (drop n commands))
     ∙ sym (append_assoc (opening_moves cast) (moves_from s scene first) rest) in
-    ap (take (moment cast commands n)) split ∙ take_front (moves_of cast first) rest
+    ap (take (length (moves_of cast (take n commands)))) split ∙ take_front (moves_of cast first) rest
 
 pub one_run_of : (cast : List PlayLine) (commands : List (Scene → Command)) → IsTypedRun (setup_of cast) (moves_of cast commands) → IsOneRun cast commands
 one_run_of cast commands run =

@@ -2,10 +2,10 @@
 use Rattle.std.proofs.Common.{Bool, true, false, cond, List, [], ◌∷◌, Option, Some, None, refl}
 use Rattle.std.specs.Prelude.{IsSome}
 use Rattle.sporc_client.specs.PlainClient.{PlainClient, opened}
-use Rattle.sporc_client.specs.Run.{Setup, World, Move, Open, Happen, Give, Restart, after as after_move, after_all, given, opening_of, with_client}
+use Rattle.sporc_client.specs.Run.{Setup, World, Move, Open, Happen, Give, Restart, after as after_move, after_all, given, opening_of}
 use Rattle.sporc_client.specs.Answers.{refusal_of}
 use Rattle.sporc_client.specs.Step.{step}
-use Rattle.sporc_client.proofs.Worlds.{gives_to, happens_to, restarted, restarts}
+use Rattle.sporc_client.proofs.Worlds.{gives_to, happens_to, restarted, restarts, with_client}
 use Rattle.sporc_member.specs.declared.device.Device.{Device}
 use Rattle.sporc_member.specs.Device.{same_device}
 use Rattle.sporc_script.specs.declared.command.Command.{Command}

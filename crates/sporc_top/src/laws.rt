@@ -24,9 +24,9 @@ ghost use Rattle.sporc_top.specs.Uses.{OutsideUse};
 
 use sporc_outside::LeafDisk;
 
-/// If `play` answers 0 for a text that the source tells, the text is a script, its report was written, nothing else, and its
-/// play is one run of its members' clients, who agree at any two moments. No one forges in that of a script without `sign`,
-/// `flip` and `cut`. A script without an admin has no command. docs/HEADLINE.md has what this says, file by file.
+/// If `play` answers 0 for a text that the source tells, the text is a script, its report alone was
+/// written, and its play is one run of clients who agree at any two moments. No one forges without
+/// `sign`, `flip` and `cut`; without an admin there is no command. docs/HEADLINE.md says more.
 pub fn plays_agree<D: LeafDisk>()
     ensures { (words : List (List ℕ)) (outside : OutsideUse) (text : List ℕ)
         → RunOutcome D.told words outside 0
