@@ -25,7 +25,7 @@ use sporc_delta::Delta;
 use sporc_head::Examined;
 use sporc_line::Line;
 use sporc_member::{Change, Device, Role};
-use sporc_outside::Calls;
+use sporc_memory::Calls;
 use sporc_samples::{Cast, Member};
 use std::alloc::Global;
 use std::fmt::Debug;

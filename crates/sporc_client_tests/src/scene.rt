@@ -9,7 +9,7 @@ use sporc_delta::Delta;
 use sporc_epoch::{Pairs, Ring};
 use sporc_line::Line;
 use sporc_member::Device;
-use sporc_outside::{Calls, MemoryDisk};
+use sporc_memory::{Calls, MemoryDisk};
 use sporc_samples::{Cast, epoch_key, pair_key};
 use std::alloc::Global;
 use std::process::Abort;

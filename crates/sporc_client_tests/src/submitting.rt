@@ -5,7 +5,7 @@ use crate::room::{Room, edit};
 use crate::scene::{MemoryClient, RANDOM, insertion, no_calls, removal};
 use sporc_client::{SubmitFault, Submitted};
 use sporc_member::Change;
-use sporc_outside::Calls;
+use sporc_memory::Calls;
 use sporc_samples::{Cast, History, insertion as insertion_bytes};
 use std::alloc::Global;
 use std::process::Abort;

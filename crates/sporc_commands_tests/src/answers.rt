@@ -4,7 +4,8 @@ ghost use Rattle.std.specs.Prelude.{◌<◌};
 
 use crate::checks::check_answer;
 use crate::place::{Answer, Streams, few_words};
-use sporc_outside::{Calls, ListedChance, MemoryFolder, MemoryNet, OpenGate};
+use sporc_memory::{Calls, ListedChance, MemoryFolder, MemoryNet};
+use sporc_outside::OpenGate;
 use sporc_top::run;
 use std::alloc::Global;
 use std::process::Abort;

@@ -3,7 +3,7 @@
 use crate::checks::check;
 use crate::place::{Place, named};
 use sporc_base::is_same;
-use sporc_outside::PipeNet;
+use sporc_memory::PipeNet;
 use std::alloc::Global;
 use std::process::Abort;
 use std::sync::Wait;

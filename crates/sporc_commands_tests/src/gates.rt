@@ -4,7 +4,8 @@
 use crate::checks::check;
 use crate::document::{entries, history_file, of_member, of_server};
 use crate::place::Place;
-use sporc_outside::{Gate, PipeNet};
+use sporc_memory::PipeNet;
+use sporc_outside::Gate;
 use sporc_samples::Cast;
 use std::alloc::Global;
 use std::process::Abort;

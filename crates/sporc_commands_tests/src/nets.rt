@@ -1,14 +1,12 @@
 //! Nets some of whose calls fail.
 
 ghost use Rattle.std.specs.Prelude.{◌<◌};
-ghost use Rattle.sporc_outside.specs.MemoryNetModel.{IsFresh};
+ghost use Rattle.sporc_memory.specs.MemoryNetModel.{IsFresh};
 
 use crate::bytes::bytes_of;
 use crate::place::{Answer, Failing, NONE, Place, calls, calls_of};
-use sporc_outside::{
-    Calls, Counted, Dial, Failed, Link, Links, Listen, MemoryLink, MemoryNet, PipeLink, PipeNet,
-    Sink, Source, Stream,
-};
+use sporc_memory::{Calls, MemoryLink, MemoryNet, PipeLink, PipeNet};
+use sporc_outside::{Counted, Dial, Failed, Link, Links, Listen, Sink, Source, Stream};
 use std::alloc::Global;
 use std::process::Abort;
 use std::sync::Wait;

@@ -4,10 +4,8 @@ ghost use Rattle.std.specs.Prelude.{◌≡◌, ◌<◌, IfOk};
 
 use crate::bytes::bytes_of;
 use sporc_base::is_same;
-use sporc_outside::{
-    Calls, Dial, DiskBytes, Gate, ListedChance, Listen, MemoryFolder, MemorySink, MemorySource,
-    NamedFile, OpenGate, PipeNet,
-};
+use sporc_memory::{Calls, ListedChance, MemoryFolder, MemorySink, MemorySource, PipeNet};
+use sporc_outside::{Dial, FileBytes, Gate, Listen, NamedFile, OpenGate};
 use sporc_top::run;
 use std::alloc::{AllocError, Global};
 use std::process::Abort;
@@ -121,8 +119,8 @@ pub fn named(rt: &impl Abort, alloc: Global, name: &str, bytes: &[u8]) -> NamedF
 }
 
 fn copy_of(rt: &impl Abort, alloc: Global, name: &[u8], bytes: &[u8]) -> NamedFile {
-    let name = DiskBytes::new(bytes_of(rt, alloc, name));
-    let bytes = DiskBytes::new(bytes_of(rt, alloc, bytes));
+    let name = FileBytes::new(bytes_of(rt, alloc, name));
+    let bytes = FileBytes::new(bytes_of(rt, alloc, bytes));
     NamedFile { name, bytes }
 }
 

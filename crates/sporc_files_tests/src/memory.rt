@@ -1,7 +1,8 @@
 //! Files, calls and sinks in memory.
 
 use crate::bytes::bytes_of;
-use sporc_outside::{Calls, DiskBytes, MemorySink, NamedFile};
+use sporc_memory::{Calls, MemorySink};
+use sporc_outside::{FileBytes, NamedFile};
 use std::alloc::Global;
 use std::process::Abort;
 
@@ -12,8 +13,8 @@ pub fn calls(rt: &impl Abort, alloc: Global, failing: u64) -> Calls {
 }
 
 fn named(rt: &impl Abort, alloc: Global, name: &str, bytes: Vec<u8>) -> NamedFile {
-    let name = DiskBytes::new(bytes_of(rt, alloc, name.as_bytes()));
-    let bytes = DiskBytes::new(bytes);
+    let name = FileBytes::new(bytes_of(rt, alloc, name.as_bytes()));
+    let bytes = FileBytes::new(bytes);
     NamedFile { name, bytes }
 }
 

@@ -5,7 +5,8 @@ use crate::samples::short_sample;
 use sporc_base::is_same;
 use sporc_head::Refusal;
 use sporc_order::{Order, Tail};
-use sporc_outside::{AppendRequest, Calls, DiskBytes, MemoryAppendFile};
+use sporc_memory::{AppendRequest, Calls, MemoryAppendFile};
+use sporc_outside::FileBytes;
 use sporc_samples::Cast;
 use sporc_store::{TailFault, TailFile};
 use std::alloc::Global;
@@ -13,7 +14,7 @@ use std::process::Abort;
 
 // A file with these bytes, no call of which fails.
 fn file_of(rt: &impl Abort, alloc: Global, bytes: &[u8]) -> MemoryAppendFile {
-    let name = DiskBytes::new(Vec::new(alloc));
+    let name = FileBytes::new(Vec::new(alloc));
     let bytes = bytes.to_vec(alloc).expect(rt, "memory");
     MemoryAppendFile::new(alloc, name, bytes, Calls::failing(Vec::new(alloc))).expect(rt, "memory")
 }

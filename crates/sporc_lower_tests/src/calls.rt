@@ -4,7 +4,7 @@ ghost use Rattle.std.specs.Prelude.{◌≡◌};
 
 use crate::checks::check;
 use sporc_base::is_same;
-use sporc_outside::{Calls, DiskCall, DiskRequest};
+use sporc_memory::{Calls, DiskCall, DiskRequest};
 use std::alloc::Global;
 use std::process::Abort;
 

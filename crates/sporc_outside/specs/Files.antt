@@ -1,5 +1,5 @@
 -- Files by name, as a folder tells them.
-use Rattle.std.specs.Prelude.{◌≡◌, ◌≤◌, ◌<◌, ℕ, suc, List, [], ◌∷◌, ◌++◌, length, take, drop, Option, None, Some, IsSome, false, slice_set, slice_index_or, if◌then◌else◌}
+use Rattle.std.specs.Prelude.{◌≡◌, ◌≤◌, ◌<◌, ℕ, List, [], ◌∷◌, length, Option, None, Some, IsSome, false, if◌then◌else◌}
 use Rattle.std.specs.Str.{bytes_eq}
 use Rattle.sporc_outside.specs.Counts.{Rose}
 use Rattle.sporc_outside.specs.Told.{IfBoth, IfTold}
@@ -84,14 +84,6 @@ TakesBack (Some []) files new stored = Unit {0}
 TakesBack None files new stored = Unit {0}
 TakesBack (Some (name ∷ names)) None new stored = Unit {0}
 
--- why the bytes of a file in memory are not handed out
-abbrev pub IsAbsence : List NamedFile → List ℕ → FileFault → Type 0
-IsAbsence files name Missing = file_in files name ≡ None
-IsAbsence files name Failed = ⊥
-IsAbsence files name (TooLong len) = IsTooLong (Some files) name len
-IsAbsence files name Exists = ⊥
-IsAbsence files name Memory = ⊥
-
 -- ---- files that are appended to, and that are removed
 
 -- why a file is not handed out to be appended to
@@ -139,12 +131,3 @@ without_file (f ∷ fs) name = if bytes_eq f.name name then fs else f ∷ withou
 abbrev pub RemovesFile : List ℕ → Option (List NamedFile) → Option (List NamedFile) → Type 0
 RemovesFile name None new = new ≡ None
 RemovesFile name (Some files) new = new ≡ Some (without_file files name)
-
--- the first file with this name stands at a place
-pub record IsPlaceOf (files : List NamedFile) (name : List ℕ) (place : ℕ) : Type 0 where
-  pub within : place < length files
-  pub file : NamedFile
-  pub is : (other : NamedFile) → slice_index_or files place other ≡ file
-  pub found : file_in files name ≡ Some file.bytes
-  pub others : (bytes : List ℕ) → with_file files name bytes ≡ slice_set files place (record file { bytes = bytes })
-  pub without : without_file files name ≡ take place files ++ drop (suc place) files

@@ -1,7 +1,7 @@
 -- Commands that act on one client, on the state and on the scene that it stands for.
 use Rattle.std.proofs.Common.{◌≡◌, ℕ, Bool, true, false, cond, List, [], ◌∷◌, ◌++◌, length, take, map, refl, sym, ap, ◌∙◌, subst, append-nil, Option, None, Some, option_map}
 use Rattle.std.specs.Prelude.{nat_le}
-use Rattle.sporc_outside.specs.MemoryDisk.{MemoryDiskModel}
+use Rattle.sporc_memory.specs.MemoryDisk.{MemoryDiskModel}
 use Rattle.sporc_head.specs.declared.refusal.Refusal.{Refusal}
 use Rattle.sporc_client.specs.Answers.{journal_has_room, refusal_of}
 use Rattle.sporc_client.specs.ClientModel.{ClientModel, state_of}

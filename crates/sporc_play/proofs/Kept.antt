@@ -1,7 +1,7 @@
 -- Entries that are made of others, and comparisons: what a state becomes, and what is told.
 use Rattle.std.proofs.Common.{◌≡◌, ℕ, zero, suc, ◌+◌, ◌-◌, ◌<◌, ◌≤◌, List, [], ◌∷◌, ◌++◌, length, take, set, refl, sym, ap, ◌∙◌, subst, arith, Option, None, Some, option_map}
 use Rattle.std.specs.Prelude.{◌↔◌, IfSome, slice_get}
-use Rattle.sporc_outside.specs.MemoryDisk.{MemoryDiskModel}
+use Rattle.sporc_memory.specs.MemoryDisk.{MemoryDiskModel}
 use Rattle.sporc_client.specs.ClientModel.{ClientModel, state_of}
 use Rattle.sporc_client.specs.Log.{Logged, journal_of}
 use Rattle.sporc_client.specs.PlainClient.{Opening, PlainClient}

@@ -6,7 +6,7 @@ use Rattle.std.specs.List.{AllByRecursion, list_any}
 use Rattle.std.proofs.lemmas.List.{take_all}
 use Rattle.std.proofs.lemmas.List.Elements.{All-from_recursion}
 use Rattle.lms_sign.specs.Signer.{SignerModel}
-use Rattle.sporc_outside.specs.MemoryDisk.{MemoryDiskModel}
+use Rattle.sporc_memory.specs.MemoryDisk.{MemoryDiskModel}
 use Rattle.sporc_epoch.specs.Keys.{Keys}
 use Rattle.sporc_client.specs.ClientModel.{ClientModel, state_of}
 use Rattle.sporc_client.specs.Run.{Move}

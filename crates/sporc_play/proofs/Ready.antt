@@ -6,7 +6,7 @@ use Rattle.std.proofs.lemmas.Bool.{and_parts}
 use Rattle.std.proofs.lemmas.List.{length-map}
 use Rattle.lms_tree.specs.LmsPrivate.{LmsPrivate}
 use Rattle.lms_sign.specs.Signer.{SignerModel}
-use Rattle.sporc_outside.specs.MemoryDisk.{MemoryDiskModel}
+use Rattle.sporc_memory.specs.MemoryDisk.{MemoryDiskModel}
 use Rattle.sporc_entry.specs.declared.genesis.Genesis.{Genesis}
 use Rattle.sporc_entry.specs.Genesis.{IsGenesis}
 use Rattle.sporc_client.specs.PlainClient.{Opening}

@@ -21,7 +21,7 @@ use Rattle.sporc_client.specs.PlainClient.{PlainClient}
 use Rattle.sporc_client.specs.Submissions.{Due, Waiting, Nothing, Drop, Refuse, Sign, answered, due, is_signing, submission, submission_added}
 use Rattle.sporc_play.specs.Report.{submit_line}
 use Rattle.sporc_play.specs.Scene.{entries_in, leaf_after, leaf_next}
-use Rattle.sporc_outside.specs.MemoryDisk.{MemoryDiskModel}
+use Rattle.sporc_memory.specs.MemoryDisk.{MemoryDiskModel}
 use Rattle.sporc_outside.specs.LeafDisk.{DiskTold}
 use Rattle.sporc_play.specs.declared.seat.Seat.{Seat}
 use Rattle.sporc_play.specs.Derived.{random_of}

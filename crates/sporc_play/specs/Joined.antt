@@ -10,7 +10,7 @@ use Rattle.sporc_epoch.specs.declared.fault.HintFault.{HintFault}
 use Rattle.sporc_line.specs.Kit.{kit_of}
 use Rattle.sporc_line.specs.Openings.{open_checks}
 use Rattle.sporc_line.specs.declared.fault.LineOpenFault.{LineOpenFault}
-use Rattle.sporc_outside.specs.MemoryDisk.{MemoryDiskModel}
+use Rattle.sporc_memory.specs.MemoryDisk.{MemoryDiskModel}
 use Rattle.sporc_client.specs.ClientModel.{ClientModel}
 use Rattle.sporc_client.specs.Run.{Setup}
 use Rattle.sporc_play.specs.declared.made.Found.{Found}

@@ -23,7 +23,7 @@ use sporc_entry::{Founders, Genesis};
 use sporc_epoch::{Pairs, Ring};
 use sporc_hash::commit;
 use sporc_member::{Change, Device, Founder};
-use sporc_outside::{Calls, MemoryDisk};
+use sporc_memory::{Calls, MemoryDisk};
 use sporc_script::{Command, Height, Pair, PlayLine, RosterChange, Tree, Width};
 use std::alloc::{AllocError, Global};
 use std::collections::BTreeMap;

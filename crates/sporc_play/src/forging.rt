@@ -35,7 +35,7 @@ use sporc_entry::{
 };
 use sporc_epoch::{Pairs, SealFault, seal_change_at, stream_of};
 use sporc_member::{Change, Device, FIRST_DEVICE};
-use sporc_outside::MemoryDisk;
+use sporc_memory::MemoryDisk;
 use sporc_script::{Forgery, Insertion, Suffix, What};
 use std::alloc::{AllocError, Global};
 use std::collections::BTreeMap;

@@ -18,7 +18,7 @@ use sporc_entry::Genesis;
 use sporc_epoch::Ring;
 use sporc_line::LineOpenFault;
 use sporc_member::Device;
-use sporc_outside::MemoryDisk;
+use sporc_memory::MemoryDisk;
 use std::alloc::Global;
 
 /// The client of a device. Its leaf file is in memory.

@@ -3,7 +3,7 @@
 ghost use Rattle.std.specs.Prelude.{◌≡◌, ◌<◌, false};
 
 use sporc_order::Order;
-use sporc_outside::{Calls, MemoryLink};
+use sporc_memory::{Calls, MemoryLink};
 use sporc_samples::{Cast, History};
 use std::alloc::Global;
 use std::process::Abort;

@@ -3,7 +3,7 @@
 use crate::memory::calls;
 use hex::FromHex;
 use sporc_base::put_at;
-use sporc_outside::ListedChance;
+use sporc_memory::ListedChance;
 use std::alloc::Global;
 use std::process::Abort;
 

@@ -6,7 +6,7 @@ use crate::checks::{check, check_answer, check_same};
 use crate::memory::empty_sink;
 use sporc_files::{Fault, File, Names};
 use sporc_member::Device;
-use sporc_outside::{DiskBytes, NamedFile};
+use sporc_outside::{FileBytes, NamedFile};
 use std::alloc::Global;
 use std::process::Abort;
 use std::thread::Threads;
@@ -89,7 +89,7 @@ fn are_the_files(rt: &impl Abort, alloc: Global, files: &[NamedFile], len: usize
     }
 }
 
-fn are_the_names(rt: &impl Abort, asked: &[DiskBytes]) {
+fn are_the_names(rt: &impl Abort, asked: &[FileBytes]) {
     check(rt, "number of names", asked.len() == ASKED.len());
     for (name, expected) in asked.iter().zip(&ASKED) {
         check_same(rt, expected, name.as_slice(), expected.as_bytes());

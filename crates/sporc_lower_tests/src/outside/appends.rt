@@ -1,7 +1,8 @@
 use crate::calls::failing;
 use crate::checks::check;
 use sporc_base::is_same;
-use sporc_outside::{AppendFile, Counted, Folder, MemoryAppendFile, MemoryFolder};
+use sporc_memory::{MemoryAppendFile, MemoryFolder};
+use sporc_outside::{AppendFile, Counted, Folder};
 use std::alloc::Global;
 use std::process::Abort;
 

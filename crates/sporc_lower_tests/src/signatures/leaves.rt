@@ -5,7 +5,8 @@ use crate::calls::{failing, has_calls};
 use crate::checks::check;
 use lms_leaf::{LeafFault, Leaves, blank, laws};
 use sporc_base::is_same;
-use sporc_outside::{Counted, MemoryDisk};
+use sporc_memory::MemoryDisk;
+use sporc_outside::Counted;
 use std::alloc::Global;
 use std::process::Abort;
 

@@ -6,7 +6,7 @@ use lms_ots::OtsType;
 use lms_sign::Signer;
 use lms_tree::{LmsType, verify};
 use sporc_base::is_same;
-use sporc_outside::MemoryDisk;
+use sporc_memory::MemoryDisk;
 use std::alloc::Global;
 use std::process::Abort;
 

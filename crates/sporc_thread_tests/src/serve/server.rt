@@ -1,14 +1,15 @@
 //! A server over links in memory.
 
 ghost use Rattle.std.specs.Prelude.{◌≤◌, ◌<◌, []};
-ghost use Rattle.sporc_outside.specs.MemoryNetModel.{AreFresh};
+ghost use Rattle.sporc_memory.specs.MemoryNetModel.{AreFresh};
 ghost use Rattle.sporc_wire.specs.declared.limits.TheConstants.{MAX_SESSIONS};
 
 use crate::objects::{calls, empty_order, listed_link};
 use crate::serve::notes::Notes;
 use sporc_base::is_same;
 use sporc_order::Order;
-use sporc_outside::{Gate, MemoryLink, MemoryNet};
+use sporc_memory::{MemoryLink, MemoryNet};
+use sporc_outside::Gate;
 use sporc_samples::Cast;
 use sporc_serve::{ServeFault, serve, serve_kept};
 use std::alloc::Global;

@@ -1,4 +1,4 @@
-use Rattle.sporc_outside.specs.MemoryNetModel.{AreFresh}
+use Rattle.sporc_memory.specs.MemoryNetModel.{AreFresh}
 use Rattle.sporc_commands_tests.proofs.nets.net_of_all.Given as goal
 
 abbrev pub invariant-loop-stream : goal.invariant-loop-stream

@@ -4,7 +4,7 @@ use Rattle.sporc_member.specs.declared.device.Device.{Device}
 use Rattle.sporc_member.specs.Device.{first_device}
 use Rattle.sporc_client.specs.ClientModel.{ClientModel, state_of}
 use Rattle.sporc_client.specs.PlainClient.{PlainClient}
-use Rattle.sporc_outside.specs.MemoryDisk.{MemoryDiskModel}
+use Rattle.sporc_memory.specs.MemoryDisk.{MemoryDiskModel}
 use Rattle.sporc_play.specs.Generated.{generated_cast}
 use Rattle.sporc_play.specs.Seats.{seated}
 use Rattle.sporc_play.proofs.Batched.{seated_by}

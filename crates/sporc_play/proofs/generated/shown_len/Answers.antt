@@ -2,7 +2,7 @@ use Rattle.std.proofs.Common.{Option, ap, sym, subst, ◌∙◌}
 use Rattle.std.specs.Prelude.{Contains, option_map}
 use Rattle.sporc_member.specs.declared.device.Device.{Device}
 use Rattle.sporc_client.specs.ClientModel.{ClientModel, state_of}
-use Rattle.sporc_outside.specs.MemoryDisk.{MemoryDiskModel}
+use Rattle.sporc_memory.specs.MemoryDisk.{MemoryDiskModel}
 use Rattle.sporc_play.specs.Generated.{generated_cast, seen_len}
 use Rattle.sporc_play.specs.Seats.{seated}
 use Rattle.sporc_play.proofs.Batched.{seated_there}

@@ -1,6 +1,6 @@
 use Rattle.std.proofs.Common.{◌++◌, List, ℕ, Option, map, option_map, string_bytes, ap, sym, ◌∙◌, Vec, Global}
 use Rattle.std.specs.Prelude.{Result}
-use Rattle.sporc_outside.specs.MemoryDisk.{MemoryDiskModel}
+use Rattle.sporc_memory.specs.MemoryDisk.{MemoryDiskModel}
 use Rattle.sporc_client.specs.ClientModel.{ClientModel, state_of}
 use Rattle.sporc_play.specs.Joined.{seat_joined, seat_with}
 use Rattle.sporc_play.specs.Report.{join_line, joined_line}

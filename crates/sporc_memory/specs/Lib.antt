@@ -1,0 +1,9 @@
+pub mod CallsModel
+pub mod MemoryLinkModel
+pub mod MemoryNetModel
+pub mod ListedChanceModel
+pub mod MemoryBytesModel
+pub mod MemoryDisk
+pub mod MemoryFolderModel
+pub mod MemoryAppendFile
+pub mod MemoryStreams

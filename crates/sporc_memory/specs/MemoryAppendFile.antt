@@ -1,0 +1,106 @@
+-- A file that is appended to, in memory, as its log tells it: what a read gives and what a crash may leave, after any of its calls.
+use Rattle.std.specs.Prelude.{◌≡◌, ◌⊎◌, ℕ, Bool, List, [], ◌∷◌, ◌++◌, ◌/◌, length, take, fold, if◌then◌else◌, true, false, Result, Ok, Err, Some, refl}
+use Rattle.std.proofs.Common.{subst, sym, inl}
+use Rattle.std.proofs.Math.Seq.{take-length}
+use Rattle.sporc_outside.specs.AppendFile.{AppendTold}
+use Rattle.sporc_memory.specs.CallsModel.{CallsModel}
+use Rattle.sporc_memory.specs.declared.append_call.AppendCall.{AppendCall}
+use Rattle.sporc_memory.specs.declared.append_call.AppendRequest.{AppendRequest}
+use Rattle.sporc_memory.specs.declared.append_call.AppendRequest.TheVariants.{Read, Append, Cut, Sync}
+
+-- its name, what it held at first, its calls since, and which of them are to fail
+pub record MemoryAppendFileModel : Type 0 where
+  pub name : List ℕ
+  pub first : List ℕ
+  pub log : List AppendCall
+  pub calls : CallsModel
+
+-- bytes, and those of which any prefix may stand behind them
+pub record Loose : Type 0 where
+  pub bytes : List ℕ
+  pub behind : List ℕ
+
+abbrev pub loose : List ℕ → List ℕ → Loose
+loose bytes behind = record { bytes = bytes; behind = behind }
+
+-- what a read gives, and what else a crash may leave since the last sync that succeeded
+pub record AppendState : Type 0 where
+  pub bytes : List ℕ
+  pub unsynced : List Loose
+
+-- the state after a request that succeeded or failed; an append or a cut that failed leaves what a read gives
+abbrev pub after_request : AppendState → Bool → AppendRequest → AppendState
+after_request s done (Append more) = record {
+  bytes = if done then s.bytes ++ more else s.bytes;
+  unsynced = loose s.bytes more ∷ s.unsynced;
+}
+after_request s done (Cut len) = record {
+  bytes = if done then take len s.bytes else s.bytes;
+  unsynced = loose s.bytes [] ∷ loose (take len s.bytes) [] ∷ s.unsynced;
+}
+after_request s done Sync = record s { unsynced = if done then [] else s.unsynced }
+after_request s done Read = s
+
+abbrev pub after_call : AppendState → AppendCall → AppendState
+after_call s call = after_request s call.done call.request
+
+-- a request that writes
+abbrev pub IsWrite : AppendRequest → Type 0
+IsWrite (Append bytes) = Unit {0}
+IsWrite (Cut len) = Unit {0}
+IsWrite Read = ⊥
+IsWrite Sync = ⊥
+
+-- the log after a call that returned this; a call that failed may be missing in it
+abbrev pub LogsCall : {T E : Type 0} → List AppendCall → List AppendCall → AppendRequest → Result T E → Type 0
+LogsCall old new request (Ok _) = new ≡ old ++ record { request = request; done = true } ∷ []
+LogsCall old new request (Err _) = (new ≡ old ++ record { request = request; done = false } ∷ []) ⊎ (new ≡ old)
+
+-- the state after these calls on a file of these bytes
+abbrev pub state_after : List ℕ → List AppendCall → AppendState
+state_after first log = fold after_call (record { bytes = first; unsynced = [] }) log
+
+-- what a read of the file gives
+abbrev pub bytes_of : MemoryAppendFileModel → List ℕ
+bytes_of file = (state_after file.first file.log).bytes
+
+-- one of these, with a prefix of what may stand behind it
+abbrev pub IsLoose : List Loose → List ℕ → Type 0
+IsLoose [] image = ⊥
+IsLoose (part ∷ parts) image = ((n : ℕ) × (image ≡ part.bytes ++ take n part.behind)) ⊎ IsLoose parts image
+
+-- what a crash in this state may leave
+abbrev pub IsImage : AppendState → List ℕ → Type 0
+IsImage s image = (image ≡ s.bytes) ⊎ IsLoose s.unsynced image
+
+-- what a crash after the first m calls may leave
+abbrev pub images_of : MemoryAppendFileModel → ℕ → List ℕ → Type 0
+images_of file m image = IsImage (state_after file.first (take m file.log)) image
+
+abbrev pub file_told : MemoryAppendFileModel → AppendTold
+file_told file = record {
+  name = Some file.name;
+  stored = Some (bytes_of file);
+  moment = length file.log;
+  images = images_of file;
+  faults = file.calls.faults;
+}
+
+-- three of what a part may leave: with nothing behind it, with half of what may stand there, and with all of that
+abbrev pub three_of : Loose → List (List ℕ)
+three_of part = part.bytes ∷ (part.bytes ++ take (length part.behind / 2) part.behind) ∷ (part.bytes ++ part.behind) ∷ []
+
+-- three for each part, those of the first part last
+abbrev pub listed_of : List Loose → List (List ℕ)
+listed_of [] = []
+listed_of (part ∷ parts) = listed_of parts ++ three_of part
+
+-- some of the images: three for each part since the last sync that succeeded, and last of them what a read gives
+abbrev pub some_images : AppendState → List (List ℕ)
+some_images s = listed_of s.unsynced ++ s.bytes ∷ []
+
+-- what a read gives is an image
+pub bytes_are_image : (file : MemoryAppendFileModel) → images_of file (length file.log) (bytes_of file)
+bytes_are_image file =
+    let P : List AppendCall → Type 0 = λ log. IsImage (state_after file.first log) (bytes_of file) in
+    subst P (sym (take-length file.log)) (inl refl)
