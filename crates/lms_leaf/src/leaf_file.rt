@@ -29,7 +29,7 @@ pub(crate) fn blocks_of(height: u32) -> usize
     requires { IsLeafHeight height }
     ensures value { result ≡ block_count height }
     ensures leaves { LEAVES_PER_BLOCK * result ≡ 2 ^ height }
-    ensures small { 2 ^ height < 2 ^ 32 }
+    ensures within { 2 ^ height < 2 ^ 32 }
 {
     (1 << height) / LEAVES_PER_BLOCK as usize
 }

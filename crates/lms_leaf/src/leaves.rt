@@ -56,7 +56,7 @@ impl<D: LeafDisk> Leaves<D> {
             length bytes ≡ block_count height)) }
         ensures err { IfErr result (λ fault.
             OpenFaults D.told (block_count height) disk fault.0 fault.1) }
-        ensures count { (D.told disk).faults ≤ (D.told (disk_after result)).faults }
+        ensures kept { (D.told disk).faults ≤ (D.told (disk_after result)).faults }
     {
         match find_next(alloc, &mut disk, height) {
             Ok(next) => {
@@ -137,7 +137,7 @@ fn find_next<D: LeafDisk>(alloc: Global, disk: &mut D, height: u32) -> Result<u3
     ensures synced_first { OnOk result (IfSome (D.told disk.old).stored (λ bytes.
         IsSyncedFirst D.told disk.old disk.new)) }
     ensures stored { (D.told disk.new).stored ≡ (D.told disk.old).stored }
-    ensures count { (D.told disk.old).faults ≤ (D.told disk.new).faults }
+    ensures kept { (D.told disk.old).faults ≤ (D.told disk.new).faults }
 {
     let blocks = blocks_of(height);
     let mut bytes = vec![in alloc; 0u8; blocks]?;

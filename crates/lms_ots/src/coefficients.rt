@@ -8,9 +8,9 @@ use crate::ots_type::OtsType;
 /// The `i`-th number of `w` bits in `s`, high bits first (RFC 8554, section 3.1.3).
 pub fn coef(s: &[u8], i: usize, w: u32) -> u8
     requires width { IsWidth w }
-    requires inside { (i + 1) * w ≤ 8 * length s.now }
+    requires limit { (i + 1) * w ≤ 8 * length s.now }
     ensures value { result ≡ coef_of s.now i w }
-    ensures small { result < 2 ^ w }
+    ensures within { result < 2 ^ w }
 {
     let per_byte = (8 / w) as usize;
     let place = (i % per_byte) as u32;

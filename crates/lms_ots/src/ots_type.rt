@@ -57,7 +57,7 @@ impl OtsType {
     /// The number of parts of a key and of a signature, 32 bytes each.
     pub fn p(self) -> usize
         ensures value { result ≡ part_count_of self }
-        ensures bound { result ≤ 265 }
+        ensures within { result ≤ 265 }
     {
         match self {
             OtsType::W1 => 265,

@@ -50,7 +50,7 @@ impl<D: LeafDisk> Signer<D> {
     pub fn draw(&mut self) -> Result<Ticket, LeafFault>
         ensures draws { Draws D.told self.old.leaves result self.new.leaves }
         ensures faults { DrawFaults D.told self.old.leaves result self.new.leaves }
-        ensures can_sign { IfOk result (λ ticket. ticket < 2 ^ height_of self.old.key.lms) }
+        ensures within { IfOk result (λ ticket. ticket < 2 ^ height_of self.old.key.lms) }
         ensures key { self.new.key ≡ self.old.key }
     {
         let leaf = self.leaves.draw()?;

@@ -53,7 +53,7 @@ pub record Verifies (key : LmsPublic) (message signature : List ℕ) : Type 0 wh
   pub form : HasForm key signature
   pub root : root_in key message signature ≡ key.root
 
--- the same as tests that compute
+-- that the signature has the form which the key asks for, as tests that compute
 abbrev pub has_form : LmsPublic → List ℕ → Bool
 has_form key signature =
     (length signature == lms_signature_len_of key)

@@ -47,7 +47,7 @@ impl LmsType {
     /// The height: a tree has `2^height` leaves.
     pub fn height(self) -> u32
         ensures value { result ≡ height_of self }
-        ensures bound { result ≤ 25 }
+        ensures within { result ≤ 25 }
     {
         match self {
             LmsType::H5 => 5,

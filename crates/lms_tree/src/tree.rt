@@ -77,8 +77,8 @@ fn fill_leaves<R: Threads + Sync>(
     leaves: &mut [[u8; 32]],
     workers: u32,
 )
-    requires room { 2 * length leaves.old ≤ 2 ^ 32 }
-    requires workers { 0 < workers }
+    requires limit { 2 * length leaves.old ≤ 2 ^ 32 }
+    requires positive { 0 < workers }
     ensures { (q : ℕ) → q < length leaves.old → slice_index_or leaves.new q []
         ≡ leaf_value id.now (length leaves.old + q) (ots_public_of ots id.now q seed.now) }
 {
@@ -172,7 +172,7 @@ impl Tree {
         ots: OtsType,
         workers: u32,
     ) -> Result<Tree, Memory>
-        requires workers { 1 ≤ workers × workers ≤ 64 }
+        requires range { 1 ≤ workers × workers ≤ 64 }
         ensures ok { IfOk result (λ tree. tree ≡ record { lms = lms; ots = ots; id = id.now; seed = seed.now }) }
     {
         let nodes = leaves_by(rt, alloc, seed, id, lms, ots, workers)?;

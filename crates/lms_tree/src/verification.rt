@@ -30,7 +30,7 @@ fn has_form(key: &LmsPublic, signature: &[u8]) -> bool
 
 // The root to which a one-time public key at leaf `q` leads.
 fn root_from(key: &LmsPublic, q: u32, path: &[u8], candidate: &[u8; 32]) -> [u8; 32]
-    requires leaf { q < 2 ^ height_of key.now.lms }
+    requires limit { q < 2 ^ height_of key.now.lms }
     requires size { length path.now ≡ 32 * height_of key.now.lms }
     ensures { result ≡ root_from key.now q path.now candidate.now }
 {

@@ -17,7 +17,7 @@ abbrev pub Answers : {X F : Type 0} → Result X F → Option F → Type 0
 Answers (Ok x) fault = fault ≡ None
 Answers (Err e) fault = fault ≡ Some e
 
--- the same, if the call may also answer that memory ran out
+-- a call answered by this first fault, or that there is none, or that memory ran out
 abbrev pub AnswersUnless : {X F : Type 0} → F → Result X F → Option F → Type 0
 AnswersUnless memory (Ok x) fault = fault ≡ None
 AnswersUnless memory (Err e) fault = e ≢ memory → fault ≡ Some e

@@ -6,7 +6,7 @@ abbrev pub Gives : {X Y F : Type 0} → (X → Y) → Result X F → Result Y F 
 Gives view (Ok x) answer = answer ≡ Ok (view x)
 Gives view (Err fault) answer = answer ≡ Err fault
 
--- the same, if the call may also answer that memory ran out
+-- a call answered what the definition gives, or that memory ran out
 abbrev pub GivesUnless : {X Y F : Type 0} → F → (X → Y) → Result X F → Result Y F → Type 0
 GivesUnless memory view (Ok x) answer = answer ≡ Ok (view x)
 GivesUnless memory view (Err fault) answer = fault ≢ memory → answer ≡ Err fault

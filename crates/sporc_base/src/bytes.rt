@@ -16,7 +16,7 @@ pub fn is_same(a: &[u8], b: &[u8]) -> bool
 /// Writes a field into bytes, from a place on.
 #[tactic(auto, using(std::proofs::lemmas::Slice::overwrites))]
 pub fn put_at(bytes: &mut [u8], place: usize, field: &[u8])
-    requires within { place + length field.now ≤ length bytes.old }
+    requires in_bounds { place + length field.now ≤ length bytes.old }
     ensures value { take (place + length field.now) bytes.new ≡ take place bytes.old ++ field.now }
     ensures rest { drop (place + length field.now) bytes.new ≡ drop (place + length field.now) bytes.old }
 {

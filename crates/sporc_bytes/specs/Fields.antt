@@ -20,7 +20,7 @@ abbrev pub ◌>>=◌ : {A B F : Type 0} → Result A F → (A → Result B F) �
 (Ok x) >>= f = f x
 (Err fault) >>= f = Err fault
 
--- the same, its fault told in other words
+-- an answer whose fault is told in other words
 abbrev pub fault_as : {A D F : Type 0} → (D → F) → Result A D → Result A F
 fault_as f (Ok x) = Ok x
 fault_as f (Err fault) = Err (f fault)

@@ -7,7 +7,7 @@ use Rattle.sporc_head.specs.History.{change_in}
 use Rattle.sporc_line.specs.Good.{Good}
 use Rattle.sporc_line.proofs.NextEntry.{at_next}
 use Rattle.sporc_client.specs.declared.limits.TheConstants.{MAX_EVENTS}
-use Rattle.sporc_client.specs.Allowed.{allows, is_allowed}
+use Rattle.sporc_client.specs.Allowed.{can_log, is_allowed}
 use Rattle.sporc_client.specs.Answers.{accept_fault, journal_has_room, or_full, refusal_of}
 use Rattle.sporc_client.specs.Log.{Accept}
 use Rattle.sporc_client.specs.PlainClient.{Opening, PlainClient}
@@ -31,13 +31,13 @@ accepted_as c bytes = go (is_flight c bytes) (is_some (change_in bytes))
     go false false = record { opening = refl; entries = refl }
 
 -- an entry that no check refuses at some position is the next one
-pub accept_allowed : (c : PlainClient) (by position : ℕ) (bytes : List ℕ) → refusal_of c position bytes ≡ None → journal_has_room c ≡ true → allows c (Accept by bytes) ≡ true
+pub accept_allowed : (c : PlainClient) (by position : ℕ) (bytes : List ℕ) → refusal_of c position bytes ≡ None → journal_has_room c ≡ true → can_log c (Accept by bytes) ≡ true
 accept_allowed c by position bytes none room =
     allowed_accept c by bytes (at_next c.opening.genesis c.opening.kit c.entries position bytes none) (ltb-true (length c.shown) MAX_EVENTS room)
 
 -- an entry whose acceptance is allowed is one that no check refuses
-pub accept_passes : (c : PlainClient) (by : ℕ) (bytes : List ℕ) → allows c (Accept by bytes) ≡ true → refusal_of c (length c.entries + 1) bytes ≡ None
-unfolding allows accept_fault
+pub accept_passes : (c : PlainClient) (by : ℕ) (bytes : List ℕ) → can_log c (Accept by bytes) ≡ true → refusal_of c (length c.entries + 1) bytes ≡ None
+unfolding can_log accept_fault
 accept_passes c by bytes may = go (refusal_of c (length c.entries + 1) bytes) may
   where
     go : (o : Option Refusal) → is_none (or_full (journal_has_room c) o) ≡ true → o ≡ None

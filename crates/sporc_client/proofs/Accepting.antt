@@ -3,7 +3,7 @@ use Rattle.std.proofs.Common.{◌≡◌, ℕ, ◌+◌, ◌*◌, ◌<◌, ◌≤�
 use Rattle.std.proofs.lemmas.Bool.{lt-ltb}
 use Rattle.std.proofs.lemmas.Slice.Eq.{bytes_eq-Decides}
 use Rattle.std.specs.Option.{is_none, is_some}
-use Rattle.sporc_delta.specs.Marks.{inserted_len, retains}
+use Rattle.sporc_delta.specs.Marks.{inserted_len, keep_marks}
 use Rattle.sporc_xform.proofs.LengthLemmas.{out_len-le}
 use Rattle.sporc_entry.specs.declared.change.ChangeBody.{ChangeBody}
 use Rattle.sporc_entry.specs.declared.entry.Entry.{Entry}
@@ -13,10 +13,10 @@ use Rattle.sporc_head.specs.declared.limits.TheConstants.{MAX_ENTRIES}
 use Rattle.sporc_head.specs.History.{change_in, change_read, committed_by}
 use Rattle.sporc_line.specs.Document.{text_of}
 use Rattle.sporc_line.specs.LineChecks.{first_fault}
-use Rattle.sporc_delta.proofs.Lengths.{inserted_len-retains}
+use Rattle.sporc_delta.proofs.Lengths.{inserted_len-keep_marks}
 use Rattle.sporc_line.proofs.FormLengths.{length-apply}
 use Rattle.sporc_client.specs.declared.limits.TheConstants.{MAX_EVENTS, MAX_HEAD_BYTES}
-use Rattle.sporc_client.specs.Allowed.{allows}
+use Rattle.sporc_client.specs.Allowed.{can_log}
 use Rattle.sporc_client.specs.Answers.{accept_fault, journal_has_room, or_full, refusal_of}
 use Rattle.sporc_client.specs.Log.{Accept}
 use Rattle.sporc_client.specs.PlainClient.{PlainClient, committed_of, shown_of}
@@ -80,10 +80,10 @@ accepted_small c bytes sound small fault few room = go (is_flight c bytes) (is_s
 
     go : (own change : Bool) → IsSmall (if own then own_comes c bytes else if change then change_comes c bytes else edit_comes c bytes)
     go true change =
-        let more = few_more c.shown (retains (length (shown_of c))) room small.shown (omega (arith, inserted_len-retains (length (shown_of c)))) in
+        let more = few_more c.shown (keep_marks (length (shown_of c))) room small.shown (omega (arith, inserted_len-keep_marks (length (shown_of c)))) in
         record { entries = entries; committed = committed; pending = omega (arith, small.pending, length-drop 1 c.pending); short = short_drop c.pending small.short; events = more.events; shown = more.inserted }
     go false true =
-        let more = few_more c.shown (retains (length (shown_of c))) room small.shown (omega (arith, inserted_len-retains (length (shown_of c)))) in
+        let more = few_more c.shown (keep_marks (length (shown_of c))) room small.shown (omega (arith, inserted_len-keep_marks (length (shown_of c)))) in
         record { entries = entries; committed = committed; pending = small.pending; short = small.short; events = more.events; shown = more.inserted }
     go false false =
         let form = form_coming c bytes in
@@ -97,6 +97,6 @@ or_full_none true None a b = refl
 or_full_none false None a b = absurd cc
 or_full_none room (Some refusal) a b = absurd cc
 
-pub allowed_accept : (c : PlainClient) (by : ℕ) (bytes : List ℕ) → NoFault c bytes → length c.shown < MAX_EVENTS → allows c (Accept by bytes) ≡ true
-unfolding allows accept_fault
+pub allowed_accept : (c : PlainClient) (by : ℕ) (bytes : List ℕ) → NoFault c bytes → length c.shown < MAX_EVENTS → can_log c (Accept by bytes) ≡ true
+unfolding can_log accept_fault
 allowed_accept c by bytes fault room = or_full_none (journal_has_room c) (refusal_of c (length c.entries + 1) bytes) (lt-ltb (length c.shown) MAX_EVENTS room) fault

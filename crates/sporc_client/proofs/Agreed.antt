@@ -17,11 +17,11 @@ use Rattle.sporc_entry.specs.Entry.{author_device, entry_of, signed_string}
 use Rattle.sporc_head.specs.declared.refusal.Refusal.{Refusal}
 use Rattle.sporc_head.specs.HeadChecks.{allows, allows_member, verifies_device, verifies_under}
 use Rattle.sporc_head.specs.History.{changes, epoch_of, hash_of, roster_of}
-use Rattle.sporc_line.specs.Keys.{key_of}
+use Rattle.sporc_line.specs.Keys.{epoch_key}
 use Rattle.sporc_line.specs.LineChecks.{first_fault}
 use Rattle.sporc_line.specs.LineStrings.{line_strings}
 use Rattle.sporc_line.specs.Operations.{operations}
-use Rattle.sporc_line.specs.Commitments.{commitment_at}
+use Rattle.sporc_line.specs.Commitments.{commitment_after}
 use Rattle.sporc_line.specs.Document.{text_of}
 use Rattle.sporc_line.specs.Good.{Good, Meets}
 use Rattle.sporc_line.proofs.Passes.{Passes}
@@ -98,21 +98,21 @@ same_history s i j c d one two free h =
 -- ---- one key
 
 one_key : (s : Setup) (i j : Device) (c d : PlainClient) (epoch : ℕ) → IsReached s i c → IsReached s j d → NoCollision c d → is_out c ≡ false → is_out d ≡ false
-    → epoch ≤ epoch_of c.entries → epoch ≤ epoch_of d.entries → commitment_at s.genesis (changes c.entries) epoch ≡ commitment_at s.genesis (changes d.entries) epoch
-    → key_of c.opening.genesis c.opening.kit c.entries epoch ≡ key_of d.opening.genesis d.opening.kit d.entries epoch
+    → epoch ≤ epoch_of c.entries → epoch ≤ epoch_of d.entries → commitment_after s.genesis (changes c.entries) epoch ≡ commitment_after s.genesis (changes d.entries) epoch
+    → epoch_key c.opening.genesis c.opening.kit c.entries epoch ≡ epoch_key d.opening.genesis d.opening.kit d.entries epoch
 one_key s i j c d epoch one two free there there' le le' same =
     let g = s.genesis in
     let mine = line_strings g c.opening.kit c.entries in
     let yours = line_strings g d.opening.kit d.entries in
     let its = keys_meet g c.opening.kit c.entries (good_of s i c one) there epoch le in
     let theirs = keys_meet g d.opening.kit d.entries (good_of s j d two) there' epoch le' in
-    ap (λ (g : Genesis). key_of g c.opening.kit c.entries epoch) (genesis_of s i c one)
-    ∙ same_key g epoch (mine ++ yours) (key_of g c.opening.kit c.entries epoch) (key_of g d.opening.kit d.entries epoch) (commitment_at g (changes c.entries) epoch) (free_of s i j c d one two free)
+    ap (λ (g : Genesis). epoch_key g c.opening.kit c.entries epoch) (genesis_of s i c one)
+    ∙ same_key g epoch (mine ++ yours) (epoch_key g c.opening.kit c.entries epoch) (epoch_key g d.opening.kit d.entries epoch) (commitment_after g (changes c.entries) epoch) (free_of s i j c d one two free)
     (λ x h. has_left g c.opening.kit c.entries yours epoch x le h)
     (λ x h. has_right g d.opening.kit d.entries mine epoch x le' h)
     its
-    (subst (Meets g epoch (key_of g d.opening.kit d.entries epoch)) (sym same) theirs)
-    ∙ sym (ap (λ (g : Genesis). key_of g d.opening.kit d.entries epoch) (genesis_of s j d two))
+    (subst (Meets g epoch (epoch_key g d.opening.kit d.entries epoch)) (sym same) theirs)
+    ∙ sym (ap (λ (g : Genesis). epoch_key g d.opening.kit d.entries epoch) (genesis_of s j d two))
 
 -- ---- one base
 

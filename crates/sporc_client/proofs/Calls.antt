@@ -9,7 +9,7 @@ use Rattle.sporc_member.specs.Device.{same_device}
 use Rattle.sporc_member.proofs.SameDevice.{same_one}
 use Rattle.sporc_epoch.specs.Keys.{Keys}
 use Rattle.sporc_line.specs.Good.{Meets}
-use Rattle.sporc_client.specs.Allowed.{allows, allows_all, is_allowed}
+use Rattle.sporc_client.specs.Allowed.{can_log, can_log_all, is_allowed}
 use Rattle.sporc_client.specs.Calls.{LeadTo, events_of}
 use Rattle.sporc_client.specs.Log.{Logged}
 use Rattle.sporc_client.specs.PlainClient.{Opening, PlainClient, opened}
@@ -39,24 +39,24 @@ put_other clients who c other differs = go (same_device other who) refl
     go false is = refl
 
 -- events that a client allows, one after another
-events_lead : (s : Setup) (w : World) (who : Device) (c : PlainClient) (added : List Logged) → w.clients who ≡ Some c → allows_all c added ≡ true → LeadTo s w (events_of who added) who (replay_from c added)
+events_lead : (s : Setup) (w : World) (who : Device) (c : PlainClient) (added : List Logged) → w.clients who ≡ Some c → can_log_all c added ≡ true → LeadTo s w (events_of who added) who (replay_from c added)
 events_lead s w who c [] at may = record { run = tt; client = at; others = λ other differs. refl }
 events_lead s w who c (event ∷ added) at may =
-    let p = and_parts (allows c event) (allows_all (step c event) added) may in
+    let p = and_parts (can_log c event) (can_log_all (step c event) added) may in
     let there : (happens_to w who event (w.clients who)).clients who ≡ Some (step c event) =
     ap (λ (o : Option PlainClient). (happens_to w who event o).clients who) at ∙ put_same w.clients who (step c event) in
     let rest = events_lead s (happens_to w who event (w.clients who)) who (step c event) added there p.1 in
     record {
-      run = (subst (λ (o : Option PlainClient). IsSomeAnd o (λ c. allows c event ≡ true)) (sym at) p.0, rest.run);
+      run = (subst (λ (o : Option PlainClient). IsSomeAnd o (λ c. can_log c event ≡ true)) (sym at) p.0, rest.run);
       client = rest.client;
       others = λ other differs. rest.others other differs ∙ ap (λ (o : Option PlainClient). (happens_to w who event o).clients other) at ∙ put_other w.clients who (step c event) other differs;
     }
 
 -- ---- logs
 
-allowed_rest : (c : PlainClient) (log added : List Logged) → allows_all c (log ++ added) ≡ true → allows_all (replay_from c log) added ≡ true
+allowed_rest : (c : PlainClient) (log added : List Logged) → can_log_all c (log ++ added) ≡ true → can_log_all (replay_from c log) added ≡ true
 allowed_rest c [] added may = may
-allowed_rest c (event ∷ log) added may = allowed_rest (step c event) log added (and_parts (allows c event) (allows_all (step c event) (log ++ added)) may).1
+allowed_rest c (event ∷ log) added may = allowed_rest (step c event) log added (and_parts (can_log c event) (can_log_all (step c event) (log ++ added)) may).1
 
 pub replay_append : (o : Opening) (log added : List Logged) → replay_from (replay o log) added ≡ replay o (log ++ added)
 unfolding replay

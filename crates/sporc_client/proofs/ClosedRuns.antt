@@ -21,7 +21,7 @@ use Rattle.sporc_head.specs.declared.refusal.Refusal.{Refusal}
 use Rattle.sporc_head.specs.History.{CommittedChange, change_in, changes, roster_of}
 use Rattle.sporc_client.specs.declared.pending.Pending.{Pending}
 use Rattle.sporc_client.specs.declared.pending.Pending.TheVariants as items
-use Rattle.sporc_client.specs.Allowed.{allows}
+use Rattle.sporc_client.specs.Allowed.{can_log}
 use Rattle.sporc_client.specs.Answers.{journal_has_room, refusal_of}
 use Rattle.sporc_client.specs.Closed.{AddsItsKey, AreClosed, HasItsKey, IsClosed, IsClosedMove, IsItsKey, IsSigned}
 use Rattle.sporc_client.specs.Log.{Logged}
@@ -185,7 +185,7 @@ entry_own s c bytes e (items.Change change ∷ pending) reads first own =
 none_own : (s : Setup) (x : Signing) → Contains [] x → OwnEntry s x.entry
 none_own s x (place, within, at) = absurd (omega (arith, within))
 
-signings_own : (s : Setup) (who : Device) (c : PlainClient) (event : Logged) → IsWellFormed s → IsReached s who c → IsSoundAndTyped c → IsTypedEvent event → allows c event ≡ true → IsOwn s c
+signings_own : (s : Setup) (who : Device) (c : PlainClient) (event : Logged) → IsWellFormed s → IsReached s who c → IsSoundAndTyped c → IsTypedEvent event → can_log c event ≡ true → IsOwn s c
     → (x : Signing) → Contains (signings who c event) x → OwnEntry s x.entry
 signings_own s who c (events.Edit by seen marks) well reached known typed may own x at = none_own s x at
 signings_own s who c (events.Change by change) well reached known typed may own x at = none_own s x at
@@ -225,7 +225,7 @@ own_after : (s : Setup) (w : World) (move : Move) → IsWellFormed s → AllReac
 own_after s w (Open who ring) well reached sound typed may closed all = own_with s w who (opened (opening_of s who ring)) w.signed all (record { items = tt; entries = tt }) all.signed
 own_after s w (Happen who event) well reached sound typed may closed all = go (w.clients who) refl may
   where
-    go : (o : Option PlainClient) → w.clients who ≡ o → IsSomeAnd o (λ c. allows c event ≡ true) → AllOwn s (happens_to w who event o)
+    go : (o : Option PlainClient) → w.clients who ≡ o → IsSomeAnd o (λ c. can_log c event ≡ true) → AllOwn s (happens_to w who event o)
     go None is may = absurd may
     go (Some c) is may = own_with s w who (step c event) (w.signed ++ signings who c event) all (step_own s w who c event all closed (all.clients who c is)) (λ x at. elim (Contains-append_cases w.signed (signings who c event) x at) [
       | inl p ↦ all.signed x p

@@ -6,8 +6,8 @@ use Rattle.std.proofs.lemmas.List.Elements.{filter_map-append}
 use Rattle.lms_sign.specs.Signer.{SignerModel}
 use Rattle.sporc_base.specs.FirstFault.{first_of}
 use Rattle.sporc_delta.specs.declared.limits.TheConstants.{MAX_TEXT_LEN}
-use Rattle.sporc_delta.specs.Marks.{Mark, base_len, inserted_len, replacement, retains}
-use Rattle.sporc_delta.proofs.Lengths.{base_len-retains}
+use Rattle.sporc_delta.specs.Marks.{Mark, base_len, inserted_len, replacement, keep_marks}
+use Rattle.sporc_delta.proofs.Lengths.{base_len-keep_marks}
 use Rattle.sporc_suffix.specs.Forms.{all_inserted, later_over, reached}
 use Rattle.sporc_suffix.proofs.Following.{all_inserted-append, Follow-take}
 use Rattle.sporc_member.specs.declared.change.Change.{Change as MemberChange}
@@ -17,7 +17,7 @@ use Rattle.sporc_line.proofs.FormLengths.{length-text, reached-le}
 use Rattle.sporc_client.specs.declared.event.Event.TheVariants as events
 use Rattle.sporc_client.specs.declared.limits.TheConstants.{MAX_EVENTS, MAX_SHOWN_LEN}
 use Rattle.sporc_client.specs.declared.pending.Pending.TheVariants as items
-use Rattle.sporc_client.specs.Allowed.{allows}
+use Rattle.sporc_client.specs.Allowed.{can_log}
 use Rattle.sporc_client.specs.Answers.{change_checks, edit_checks}
 use Rattle.sporc_client.specs.ClientInvariant.{ClientInvariant, plain_of}
 use Rattle.sporc_client.specs.ClientModel.{AreInOrder, leaf_in, leaves_of}
@@ -31,20 +31,20 @@ use Rattle.sporc_client.proofs.Shown.{LeadTo, base_len-replacement, base_restate
 use Rattle.sporc_client.proofs.Small.{change_small, discard_small, edit_small, inserted_len-bytes, length-shown, lengths}
 use Rattle.sporc_client.proofs.Soundness.{change_sound, discard_sound, edit_sound}
 
-allowed_change : (c : PlainClient) (by : ℕ) (change : MemberChange) → first_of (change_checks c) ≡ None → allows c (Change by change) ≡ true
-unfolding allows
+allowed_change : (c : PlainClient) (by : ℕ) (change : MemberChange) → first_of (change_checks c) ≡ None → can_log c (Change by change) ≡ true
+unfolding can_log
 allowed_change c by change checks = rw (change_fault_is c, checks) refl
 
-allowed_edit : (c : PlainClient) (by seen : ℕ) (marks : List Mark) → first_of (edit_checks c seen marks) ≡ None → allows c (Edit by seen marks) ≡ true
-unfolding allows
+allowed_edit : (c : PlainClient) (by seen : ℕ) (marks : List Mark) → first_of (edit_checks c seen marks) ≡ None → can_log c (Edit by seen marks) ≡ true
+unfolding can_log
 allowed_edit c by seen marks checks = rw (edit_fault_is c seen marks, checks) refl
 
 -- the leaves of a log, behind an event that signs nothing
 leaves_same : (log : List Logged) (event : Logged) → leaf_in event ≡ None → leaves_of (log ++ event ∷ []) ≡ leaves_of log
 leaves_same log event none = filter_map-append leaf_in log (event ∷ []) ∙ ap (λ (ns : List ℕ). leaves_of log ++ ns) (rw none refl) ∙ append_nil (leaves_of log)
 
-allowed_discard : (c : PlainClient) (by : ℕ) → length c.shown < MAX_EVENTS → allows c (Discard by) ≡ true
-unfolding allows
+allowed_discard : (c : PlainClient) (by : ℕ) → length c.shown < MAX_EVENTS → can_log c (Discard by) ≡ true
+unfolding can_log
 allowed_discard c by room = rw (lt-ltb (length c.shown) MAX_EVENTS room) refl
 
 -- what restating an edit asks of the shown deltas
@@ -90,8 +90,8 @@ module _ {D : Type 0} (line : LineModel) (signer : SignerModel D) (ticket : Opti
       omega (arith, length_of_shown, length-shown (committed_of c) c.pending known.sound.stated, l.committed, l.pending)
 
   -- a delta that keeps all of the shown text is stated on it
-  pub kept_base : (form : List Mark) (n : ℕ) → form ≡ retains n → n ≡ length (text_after own.shown) → base_len form ≡ reached 0 own.shown
-  kept_base form n is len = rw is (base_len-retains n ∙ len ∙ length-text own.shown known.sound.follow)
+  pub kept_base : (form : List Mark) (n : ℕ) → form ≡ keep_marks n → n ≡ length (text_after own.shown) → base_len form ≡ reached 0 own.shown
+  kept_base form n is len = rw is (base_len-keep_marks n ∙ len ∙ length-text own.shown known.sound.follow)
 
   -- and so is one that replaces it
   pub replaced_base : (form : List Mark) (n : ℕ) (text : List ℕ) → form ≡ replacement n text → n ≡ length (text_after own.shown) → base_len form ≡ reached 0 own.shown

@@ -1,6 +1,6 @@
 -- Worked examples: logs, pending edits that another's edit passes, what events do to a client, and what a run keeps.
 use Rattle.std.proofs.Common.{◌≡◌, List, [], ◌∷◌, ◌++◌, None, refl}
-use Rattle.sporc_delta.specs.Marks.{Retain, Delete, Insert}
+use Rattle.sporc_delta.specs.Marks.{Keep, Remove, Insert}
 use Rattle.sporc_member.specs.declared.device.Device.{Device}
 use Rattle.sporc_member.specs.Device.{first_device}
 use Rattle.sporc_epoch.specs.Keys.{Keys}
@@ -24,19 +24,19 @@ places_count_on = refl
 -- at one place the other's text comes first: over "x", another's "a" before it, and two of its own, "b" before it and "c"
 -- between
 ties_go_to_the_earlier :
-    rebased (Insert 97 ∷ Retain ∷ []) (items.Edit (Insert 98 ∷ Retain ∷ []) ∷ items.Edit (Retain ∷ Insert 99 ∷ Retain ∷ []) ∷ [])
-    ≡ items.Edit (Retain ∷ Insert 98 ∷ Retain ∷ []) ∷ items.Edit (Retain ∷ Retain ∷ Insert 99 ∷ Retain ∷ []) ∷ []
+    rebased (Insert 97 ∷ Keep ∷ []) (items.Edit (Insert 98 ∷ Keep ∷ []) ∷ items.Edit (Keep ∷ Insert 99 ∷ Keep ∷ []) ∷ [])
+    ≡ items.Edit (Keep ∷ Insert 98 ∷ Keep ∷ []) ∷ items.Edit (Keep ∷ Keep ∷ Insert 99 ∷ Keep ∷ []) ∷ []
 ties_go_to_the_earlier = refl
 
 -- and to the shown text the other adds its "a" in front
 ties_beyond :
-    beyond (Insert 97 ∷ Retain ∷ []) (items.Edit (Insert 98 ∷ Retain ∷ []) ∷ items.Edit (Retain ∷ Insert 99 ∷ Retain ∷ []) ∷ [])
-    ≡ Insert 97 ∷ Retain ∷ Retain ∷ Retain ∷ []
+    beyond (Insert 97 ∷ Keep ∷ []) (items.Edit (Insert 98 ∷ Keep ∷ []) ∷ items.Edit (Keep ∷ Insert 99 ∷ Keep ∷ []) ∷ [])
+    ≡ Insert 97 ∷ Keep ∷ Keep ∷ Keep ∷ []
 ties_beyond = refl
 
 -- an insertion inside what the other removes stays, and stands alone
 insertions_survive_removals :
-    rebased (Delete ∷ Delete ∷ []) (items.Edit (Retain ∷ Insert 98 ∷ Retain ∷ []) ∷ []) ≡ items.Edit (Insert 98 ∷ []) ∷ []
+    rebased (Remove ∷ Remove ∷ []) (items.Edit (Keep ∷ Insert 98 ∷ Keep ∷ []) ∷ []) ≡ items.Edit (Insert 98 ∷ []) ∷ []
 insertions_survive_removals = refl
 
 -- ---- events: "a" is written on the empty text, and then "b" by one who had not seen it
@@ -45,12 +45,12 @@ abbrev two_edits : Opening → PlainClient
 two_edits o = replay_from (opened o) (events.Edit 0 0 (Insert 97 ∷ []) ∷ events.Edit 1 0 (Insert 98 ∷ []) ∷ [])
 
 -- the second is restated behind the first
-second_is_restated : (o : Opening) → (two_edits o).pending ≡ items.Edit (Insert 97 ∷ []) ∷ items.Edit (Retain ∷ Insert 98 ∷ []) ∷ []
+second_is_restated : (o : Opening) → (two_edits o).pending ≡ items.Edit (Insert 97 ∷ []) ∷ items.Edit (Keep ∷ Insert 98 ∷ []) ∷ []
 second_is_restated o = refl
 
 -- the entry of the first comes back: the second stays as it was, stated on the text that is committed now
 own_entry_comes : (o : Opening)
-    → (replay_from (two_edits o) (events.Submit 0 (7 ∷ []) ∷ events.Accept 0 (7 ∷ []) ∷ [])).pending ≡ items.Edit (Retain ∷ Insert 98 ∷ []) ∷ []
+    → (replay_from (two_edits o) (events.Submit 0 (7 ∷ []) ∷ events.Accept 0 (7 ∷ []) ∷ [])).pending ≡ items.Edit (Keep ∷ Insert 98 ∷ []) ∷ []
 own_entry_comes o = refl
 
 -- what is given up takes the entry on its way with it

@@ -33,7 +33,7 @@ use Rattle.sporc_head.specs.HeadChecks.{allows_member, names_leaf, roster_checks
 use Rattle.sporc_head.specs.History.{CommittedChange, change_in, changes, count_of, epoch_of, hash_of, is_removed, roster_of}
 use Rattle.sporc_head.proofs.Grows.{change_in_read}
 use Rattle.sporc_line.specs.Kit.{Kit}
-use Rattle.sporc_line.specs.Keys.{key_after, key_of}
+use Rattle.sporc_line.specs.Keys.{key_after, epoch_key}
 use Rattle.sporc_line.specs.LineStrings.{line_strings}
 use Rattle.sporc_line.specs.LineChecks.{first_fault, is_new_key, key_checks, key_checks_of, new_key_checks}
 use Rattle.sporc_line.specs.Operations.{Operation, edit_marks}
@@ -196,7 +196,7 @@ module _ (g : Genesis) (mine yours : Kit) (entries edits : List (List ℕ)) (aut
   stay : changes (entries ++ edits) ≡ changes entries
   stay = changes_stay author entries edits others
 
-  pub key_stays : (e : ℕ) → key_of g yours (entries ++ edits) e ≡ key_of g yours entries e
+  pub key_stays : (e : ℕ) → epoch_key g yours (entries ++ edits) e ≡ epoch_key g yours entries e
   key_stays e = ap (λ (cs : List CommittedChange). key_after g yours cs e) stay
 
   mine_in : HasKeys g mine entries all_strings
@@ -207,8 +207,8 @@ module _ (g : Genesis) (mine yours : Kit) (entries edits : List (List ℕ)) (aut
       let more : e ≤ epoch_of (entries ++ edits) = omega (arith, le, ap length stay) in
       has_right g yours (entries ++ edits) (line_strings g mine entries) e x more (subst (λ (k : Option (List ℕ)). Contains (key_string g.document e k) x) (sym (key_stays e)) h)
 
-  -- the same keys
-  pub one_key : (e : ℕ) → e ≤ epoch_of entries → is_removed mine.me entries ≡ false → is_removed yours.me (entries ++ edits) ≡ false → key_of g mine entries e ≡ key_of g yours (entries ++ edits) e
+  -- both have the same keys
+  pub one_key : (e : ℕ) → e ≤ epoch_of entries → is_removed mine.me entries ≡ false → is_removed yours.me (entries ++ edits) ≡ false → epoch_key g mine entries e ≡ epoch_key g yours (entries ++ edits) e
   one_key e le there there' =
       let there'' : is_removed yours.me entries ≡ false = ap (list_any (λ (c : CommittedChange). removes yours.me c.body.change)) (sym stay) ∙ there' in
       same_epoch_keys g mine yours entries all_strings e good yours_good free mine_in yours_in there there'' le ∙ sym (key_stays e)
@@ -220,13 +220,13 @@ module _ (g : Genesis) (mine yours : Kit) (entries edits : List (List ℕ)) (aut
 -- ---- an edit
 
 edit_keys : (g : Genesis) (kit : Kit) (entries edits : List (List ℕ)) (e : Entry) (marks : List Mark) (text : List ℕ) → change_of e ≡ None → e.header.base ≡ length entries
-    → edit_marks (key_of g kit (entries ++ edits) e.header.epoch) e ≡ Some marks → text_of g kit entries ≡ text → base_len marks ≡ length text
+    → edit_marks (epoch_key g kit (entries ++ edits) e.header.epoch) e ≡ Some marks → text_of g kit entries ≡ text → base_len marks ≡ length text
     → first_of (key_checks g kit (entries ++ edits) e) ≡ None
 unfolding key_checks
 edit_keys g kit entries edits e marks text none base reads same long =
     let front : take e.header.base (entries ++ edits) ≡ entries = take_at entries edits e.header.base (sym base) in
     ap (λ (o : Option ChangeBody). first_of (key_checks_of g kit (entries ++ edits) e o)) none
-    ∙ edit_passes (length (text_of g kit (take e.header.base (entries ++ edits)))) (edit_marks (key_of g kit (entries ++ edits) e.header.epoch) e) marks reads
+    ∙ edit_passes (length (text_of g kit (take e.header.base (entries ++ edits)))) (edit_marks (epoch_key g kit (entries ++ edits) e.header.epoch) e) marks reads
     (long ∙ ap length (sym same) ∙ ap (λ (es : List (List ℕ)). length (text_of g kit es)) (sym front))
 
 no_roster_checks : (g : Genesis) (entries : List (List ℕ)) (e : Entry) → change_of e ≡ None → first_of (roster_checks (roster_of g entries) (change_of e)) ≡ None
@@ -234,10 +234,10 @@ no_roster_checks g entries e none = ap (λ (o : Option ChangeBody). first_of (ro
 
 -- the marks of an edit that a client made, under the key of its epoch
 edit_reads : (c : PlainClient) (chosen : Chosen) (marks : List Mark) (e : Entry) → e ≡ entry_made c chosen (items.Edit marks) → HasKey c → Spells marks (delta_bytes marks)
-    → (change_of e ≡ None) × (edit_marks (key_of c.opening.genesis c.opening.kit c.entries (epoch_of c.entries)) e ≡ Some marks)
+    → (change_of e ≡ None) × (edit_marks (epoch_key c.opening.genesis c.opening.kit c.entries (epoch_of c.entries)) e ≡ Some marks)
 edit_reads c chosen marks e same has spells = (
   ap change_of same ∙ no_change c chosen marks,
-  ap (edit_marks (key_of c.opening.genesis c.opening.kit c.entries (epoch_of c.entries))) same ∙ reads_edit c chosen marks has spells,
+  ap (edit_marks (epoch_key c.opening.genesis c.opening.kit c.entries (epoch_of c.entries))) same ∙ reads_edit c chosen marks has spells,
 )
 
 -- who sends and who receives, over one genesis
@@ -292,7 +292,7 @@ module _ (s : Setup) (i j : Device) (c d : PlainClient) (bytes : List ℕ) (sent
   its_others = subst (λ (d : Device). AllByRecursion (IsOthersEdit d) edits) (sym author) sent.can.others
 
   -- both read the key of the epoch
-  current_keys : key_of g c.opening.kit c.entries (epoch_of c.entries) ≡ key_of g d.opening.kit (c.entries ++ edits) (epoch_of c.entries)
+  current_keys : epoch_key g c.opening.kit c.entries (epoch_of c.entries) ≡ epoch_key g d.opening.kit (c.entries ++ edits) (epoch_of c.entries)
   current_keys =
       let l : epoch_of c.entries ≤ epoch_of c.entries = omega arith in
       one_key g c.opening.kit d.opening.kit c.entries edits (author_device e.header) its_others sent.sender.good its_good its_free (epoch_of c.entries) l sent.makes.due.not_removed its_place
@@ -313,8 +313,8 @@ module _ (s : Setup) (i j : Device) (c d : PlainClient) (bytes : List ℕ) (sent
       let read = edit_reads c (chosen_in c e) marks e same has spells in
       let S : List Pending → Type 0 = λ ps. AreStated (committed_of c) ps in
       let base : base_len marks ≡ length (committed_of c) = (subst S due.first sent.known.sound.stated).0 in
-      let marks_there : edit_marks (key_of g d.opening.kit (c.entries ++ edits) e.header.epoch) e ≡ Some marks =
-      ap (λ (n : ℕ). edit_marks (key_of g d.opening.kit (c.entries ++ edits) n) e) facts.epoch
+      let marks_there : edit_marks (epoch_key g d.opening.kit (c.entries ++ edits) e.header.epoch) e ≡ Some marks =
+      ap (λ (n : ℕ). edit_marks (epoch_key g d.opening.kit (c.entries ++ edits) n) e) facts.epoch
       ∙ ap (λ (key : Option (List ℕ)). edit_marks key e) (sym current_keys) ∙ read.1 in
       let text : text_of g d.opening.kit c.entries ≡ committed_of c =
       sym (one_text g c.opening.kit d.opening.kit c.entries edits (author_device e.header) its_others sent.sender.good its_good its_free) in
@@ -323,7 +323,7 @@ module _ (s : Setup) (i j : Device) (c d : PlainClient) (bytes : List ℕ) (sent
 -- ---- a change
 
 keys_of_change : (g : Genesis) (kit : Kit) (entries : List (List ℕ)) (e : Entry) (body : ChangeBody) → change_of e ≡ Some body
-    → first_of (new_key_checks g.document kit.me (epoch_of entries + 1) body (key_of g kit entries (epoch_of entries)) (key_after g kit (changes entries ++ committed e body ∷ []) (epoch_of entries + 1))) ≡ None
+    → first_of (new_key_checks g.document kit.me (epoch_of entries + 1) body (epoch_key g kit entries (epoch_of entries)) (key_after g kit (changes entries ++ committed e body ∷ []) (epoch_of entries + 1))) ≡ None
     → first_of (key_checks g kit entries e) ≡ None
 unfolding key_checks
 keys_of_change g kit entries e body is h = ap (λ (o : Option ChangeBody). first_of (key_checks_of g kit entries e o)) is ∙ h
@@ -454,18 +454,18 @@ module _ (s : Setup) (i j : Device) (c d : PlainClient) (bytes : List ℕ) (sent
           ∙ (can_learn stays).hinted after
           ∙ ap Some (ap (new_key_of pairs (stream_of sent.makes.entry.header)) (sym change_is) ∙ sym shown_new)
 
-  old_there : key_of c.opening.genesis d.opening.kit (c.entries ++ sent.can.edits) (epoch_of (c.entries ++ sent.can.edits)) ≡ Some sealing.old
+  old_there : epoch_key c.opening.genesis d.opening.kit (c.entries ++ sent.can.edits) (epoch_of (c.entries ++ sent.can.edits)) ≡ Some sealing.old
   old_there =
-      ap (key_of c.opening.genesis d.opening.kit (c.entries ++ sent.can.edits)) epoch_there ∙ sym (current_keys s i j c d bytes sent) ∙ has.is ∙ ap Some (sym current)
+      ap (epoch_key c.opening.genesis d.opening.kit (c.entries ++ sent.can.edits)) epoch_there ∙ sym (current_keys s i j c d bytes sent) ∙ has.is ∙ ap Some (sym current)
 
   new_there : removes (me_of d) sealed.change ≡ false
       → (is_some (key_after c.opening.genesis d.opening.kit (changes (c.entries ++ sent.can.edits) ++ committed sent.makes.entry sealed ∷ []) (epoch_of (c.entries ++ sent.can.edits) + 1)) ≡ true)
-      × (is_new_key c.opening.genesis.document (epoch_of (c.entries ++ sent.can.edits) + 1) sealed (key_of c.opening.genesis d.opening.kit (c.entries ++ sent.can.edits) (epoch_of (c.entries ++ sent.can.edits)))
+      × (is_new_key c.opening.genesis.document (epoch_of (c.entries ++ sent.can.edits) + 1) sealed (epoch_key c.opening.genesis d.opening.kit (c.entries ++ sent.can.edits) (epoch_of (c.entries ++ sent.can.edits)))
       (key_after c.opening.genesis d.opening.kit (changes (c.entries ++ sent.can.edits) ++ committed sent.makes.entry sealed ∷ []) (epoch_of (c.entries ++ sent.can.edits) + 1)) ≡ true)
   new_there stays =
       let key = found stays in (
         ap is_some key,
-        ap (λ (n : ℕ). is_new_key c.opening.genesis.document (n + 1) sealed (key_of c.opening.genesis d.opening.kit (c.entries ++ sent.can.edits) (epoch_of (c.entries ++ sent.can.edits)))
+        ap (λ (n : ℕ). is_new_key c.opening.genesis.document (n + 1) sealed (epoch_key c.opening.genesis d.opening.kit (c.entries ++ sent.can.edits) (epoch_of (c.entries ++ sent.can.edits)))
             (key_after c.opening.genesis d.opening.kit (changes (c.entries ++ sent.can.edits) ++ committed sent.makes.entry sealed ∷ []) (epoch_of (c.entries ++ sent.can.edits) + 1))) epoch_there
             ∙ ap (λ (o : Option (List ℕ)). is_new_key c.opening.genesis.document (epoch_of c.entries + 1) sealed o
             (key_after c.opening.genesis d.opening.kit (changes (c.entries ++ sent.can.edits) ++ committed sent.makes.entry sealed ∷ []) (epoch_of (c.entries ++ sent.can.edits) + 1))) old_there

@@ -18,7 +18,7 @@ use Rattle.sporc_entry.specs.Entry.{author_device, entry_of}
 use Rattle.sporc_entry.specs.Genesis.{genesis_bytes}
 use Rattle.sporc_head.specs.History.{count_of, epoch_of, hash_of, is_by, is_read_by}
 use Rattle.sporc_line.specs.Kit.{Kit}
-use Rattle.sporc_line.specs.Keys.{key_of}
+use Rattle.sporc_line.specs.Keys.{epoch_key}
 use Rattle.sporc_line.specs.LineStrings.{line_strings}
 use Rattle.sporc_line.specs.Good.{Good}
 use Rattle.sporc_line.proofs.Lists.{take_slice_get_more}
@@ -34,8 +34,8 @@ chains_free g kit kit' A B free x y in_x in_y same = free x y (more x in_x) (mor
   where
     more : (z : List ℕ) → Contains (chain_strings (genesis_bytes g) A ++ chain_strings (genesis_bytes g) B) z → Contains (line_strings g kit A ++ line_strings g kit' B) z
     more z h = elim (Contains-append_cases (chain_strings (genesis_bytes g) A) (chain_strings (genesis_bytes g) B) z h) [
-      | inl p ↦ Contains-append_left (line_strings g kit A) (line_strings g kit' B) z (Contains-append_left (chain_strings (genesis_bytes g) A) (key_strings g.document (key_of g kit A) (epoch_of A + 1)) z p)
-      | inr p ↦ Contains-append_right (line_strings g kit A) (line_strings g kit' B) z (Contains-append_left (chain_strings (genesis_bytes g) B) (key_strings g.document (key_of g kit' B) (epoch_of B + 1)) z p)
+      | inl p ↦ Contains-append_left (line_strings g kit A) (line_strings g kit' B) z (Contains-append_left (chain_strings (genesis_bytes g) A) (key_strings g.document (epoch_key g kit A) (epoch_of A + 1)) z p)
+      | inr p ↦ Contains-append_right (line_strings g kit A) (line_strings g kit' B) z (Contains-append_left (chain_strings (genesis_bytes g) B) (key_strings g.document (epoch_key g kit' B) (epoch_of B + 1)) z p)
     ]
 
 pub one_hash : (g : Genesis) (kit kit' : Kit) (A B : List (List ℕ)) → CollisionFree (line_strings g kit A ++ line_strings g kit' B) → hash_of g A ≡ hash_of g B → A ≡ B

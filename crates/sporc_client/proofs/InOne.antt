@@ -1,7 +1,7 @@
 -- Deltas that follow each other, in one.
 use Rattle.std.proofs.Common.{◌≡◌, ℕ, List, [], ◌∷◌, length, fold, refl, ap, sym, ◌∙◌, subst}
-use Rattle.sporc_delta.specs.Marks.{Mark, apply, base_len, insertion, inserts, out_len, retains}
-use Rattle.sporc_delta.proofs.Lengths.{base_len-inserts, base_len-retains}
+use Rattle.sporc_delta.specs.Marks.{Mark, apply, base_len, insertion, insert_marks, out_len, keep_marks}
+use Rattle.sporc_delta.proofs.Lengths.{base_len-insert_marks, base_len-keep_marks}
 use Rattle.std.proofs.lemmas.List.{append-nil as append_nil}
 use Rattle.sporc_delta.specs.Transforms.{compose}
 use Rattle.sporc_xform.proofs.InTurn.{apply-compose}
@@ -11,7 +11,7 @@ use Rattle.sporc_client.specs.declared.pending.Pending.{Pending}
 use Rattle.sporc_client.specs.declared.pending.Pending.TheVariants.{Edit, Change}
 use Rattle.sporc_client.specs.PlainClient.{after_pending}
 use Rattle.sporc_client.specs.Rebasing.{AreOver, AreStated, in_one}
-use Rattle.sporc_client.proofs.Shown.{apply-inserts, apply-retains}
+use Rattle.sporc_client.proofs.Shown.{apply-insert_marks, apply-keep_marks}
 
 -- ---- pending edits in one
 
@@ -47,14 +47,14 @@ first_in_one start (Edit marks) rest over =
 -- ---- a text and then what is pending
 
 pub insertion_base : (text : List ℕ) → base_len (insertion 0 0 text) ≡ 0
-insertion_base text = ap base_len (append_nil (inserts text)) ∙ base_len-inserts text
+insertion_base text = ap base_len (append_nil (insert_marks text)) ∙ base_len-insert_marks text
 
 pub insertion_text : (text : List ℕ) → apply (insertion 0 0 text) [] ≡ text
-insertion_text text = ap (λ (ms : List Mark). apply ms []) (append_nil (inserts text)) ∙ apply-inserts text
+insertion_text text = ap (λ (ms : List Mark). apply ms []) (append_nil (insert_marks text)) ∙ apply-insert_marks text
 
 -- all pending edits in one lead from a text to that with each of them applied
-pub pending_in_one : (text : List ℕ) (pending : List Pending) → AreStated text pending → InOne (retains (length text)) text pending × (apply (in_one (retains (length text)) pending) text ≡ fold after_pending text pending)
+pub pending_in_one : (text : List ℕ) (pending : List Pending) → AreStated text pending → InOne (keep_marks (length text)) text pending × (apply (in_one (keep_marks (length text)) pending) text ≡ fold after_pending text pending)
 pending_in_one text pending stated =
     let P : List ℕ → Type 0 = λ t. AreStated t pending in
-    let all = all_in_one (retains (length text)) text pending (base_len-retains (length text)) (subst P (sym (apply-retains text)) stated) in
-    (all, all.text_is ∙ ap (λ (t : List ℕ). fold after_pending t pending) (apply-retains text))
+    let all = all_in_one (keep_marks (length text)) text pending (base_len-keep_marks (length text)) (subst P (sym (apply-keep_marks text)) stated) in
+    (all, all.text_is ∙ ap (λ (t : List ℕ). fold after_pending t pending) (apply-keep_marks text))

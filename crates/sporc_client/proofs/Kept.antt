@@ -5,7 +5,7 @@ use Rattle.lms_tree.specs.LmsType.{height_of}
 use Rattle.lms_sign.specs.Signer.{SignerModel}
 use Rattle.sporc_head.specs.History.{change_in}
 use Rattle.sporc_line.specs.LineModel.{LineModel}
-use Rattle.sporc_client.specs.Allowed.{allows, is_allowed}
+use Rattle.sporc_client.specs.Allowed.{can_log, is_allowed}
 use Rattle.sporc_client.specs.ClientInvariant.{ClientInvariant, Stores, plain_of}
 use Rattle.sporc_client.specs.ClientModel.{AreInOrder, leaves_of}
 use Rattle.sporc_client.specs.Log.{Logged, Edit, Change, Submit, Dropped, Accept, Discard, accepted_in, entries_by, journal_of, log_of, stored_event}
@@ -39,7 +39,7 @@ pub record Records {D : Type 0} (line line' : LineModel) (signer signer' : Signe
   pub entries : line'.entries ≡ line.entries ++ entries_by event
   pub journal : own'.journal ≡ own.journal ++ stored_event (length line.entries) event ∷ []
   pub state : plain_of signer'.key line' own' ≡ step (plain_of signer.key line own) event
-  pub allowed : allows (plain_of signer.key line own) event ≡ true
+  pub allowed : can_log (plain_of signer.key line own) event ≡ true
   pub sound : IsSound (step (plain_of signer.key line own) event)
   pub small : IsSmall (step (plain_of signer.key line own) event)
   pub unspent : IfSome ticket' (λ leaf. leaf < 2 ^ height_of signer'.key.lms)
@@ -68,7 +68,7 @@ recorded line line' signer signer' ticket ticket' own own' event known did =
     let S : List Logged → Type 0 = λ l. Stores l line' own' in
     let L : List Logged → Type 0 = λ l. AreInOrder signer'.leaves.next_at_open signer'.leaves.next ticket' (leaves_of l) in
     let stores : Stores (log ++ event ∷ []) line' own' = record { entries = entries'; journal = journal' } in
-    let allows_it : allows (replay opening log) event ≡ true = ap (λ (c : PlainClient). allows c event) (sym known.state) ∙ did.allowed in
+    let allows_it : can_log (replay opening log) event ≡ true = ap (λ (c : PlainClient). can_log c event) (sym known.state) ∙ did.allowed in
     record {
       invariant = record {
         stores = subst S (sym log') stores;

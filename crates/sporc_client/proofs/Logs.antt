@@ -8,7 +8,7 @@ use Rattle.sporc_client.specs.declared.event.Event.{Event}
 use Rattle.sporc_client.specs.Log.{Logged, Edit, Change, Submit, Dropped, Accept, Discard, accepted_in, entries_by, filled_event, journal_from, journal_of, log_of, stored_event}
 use Rattle.sporc_client.specs.PlainClient.{Opening, PlainClient, opened}
 use Rattle.sporc_client.specs.Step.{replay, replay_from, step}
-use Rattle.sporc_client.specs.Allowed.{allows, allows_all, is_allowed}
+use Rattle.sporc_client.specs.Allowed.{can_log, can_log_all, is_allowed}
 use Rattle.sporc_client.proofs.Shown.{fold_more}
 
 -- ---- the journal and the entries
@@ -78,12 +78,12 @@ pub replay_more : (opening : Opening) (log : List Logged) (event : Logged) → r
 unfolding replay
 replay_more opening log event = fold_more step (opened opening) log event
 
-pub allowed_more : (c : PlainClient) (log : List Logged) (event : Logged) → allows_all c log ≡ true → allows (replay_from c log) event ≡ true → allows_all c (log ++ event ∷ []) ≡ true
+pub allowed_more : (c : PlainClient) (log : List Logged) (event : Logged) → can_log_all c log ≡ true → can_log (replay_from c log) event ≡ true → can_log_all c (log ++ event ∷ []) ≡ true
 allowed_more c [] event so_far here = rw here refl
 allowed_more c (e ∷ log) event so_far here =
-    let both = and_parts (allows c e) (allows_all (step c e) log) so_far in
+    let both = and_parts (can_log c e) (can_log_all (step c e) log) so_far in
     rw both.0 (allowed_more (step c e) log event both.1 here)
 
-pub is_allowed_more : (opening : Opening) (log : List Logged) (event : Logged) → is_allowed opening log ≡ true → allows (replay opening log) event ≡ true → is_allowed opening (log ++ event ∷ []) ≡ true
+pub is_allowed_more : (opening : Opening) (log : List Logged) (event : Logged) → is_allowed opening log ≡ true → can_log (replay opening log) event ≡ true → is_allowed opening (log ++ event ∷ []) ≡ true
 unfolding replay is_allowed
 is_allowed_more opening log event so_far here = allowed_more (opened opening) log event so_far here

@@ -27,7 +27,7 @@ use Rattle.sporc_client.specs.declared.pending.Pending.{Pending}
 use Rattle.sporc_client.specs.declared.pending.Pending.TheVariants as items
 use Rattle.sporc_client.specs.declared.submitted.Submitted.{Submitted}
 use Rattle.sporc_client.specs.declared.submitted.Submitted.TheVariants as submitted
-use Rattle.sporc_client.specs.Allowed.{allows, is_entry, is_made, new_key_in, randomizer_in}
+use Rattle.sporc_client.specs.Allowed.{can_log, is_entry, is_made, new_key_in, randomizer_in}
 use Rattle.sporc_client.specs.Contents.{IsSpelled}
 use Rattle.sporc_client.specs.Entries.{bytes_made, sealing_of}
 use Rattle.sporc_client.specs.Log.{Submit}
@@ -60,8 +60,8 @@ answer_is entry (Ok submitted.Nothing) h = absurd cc
 answer_is entry (Ok (submitted.Dropped fault)) h = absurd cc
 answer_is entry (Err fault) h = absurd cc
 
-pub can_make : (s : Setup) (moves : List Move) (n by : ℕ) (who : Device) (c : PlainClient) (entry : List ℕ) → IsTypedRun s moves → IsAt s moves n who c → IsBytes entry → allows c (Submit by entry) ≡ true → CanMake c entry
-unfolding allows
+pub can_make : (s : Setup) (moves : List Move) (n by : ℕ) (who : Device) (c : PlainClient) (entry : List ℕ) → IsTypedRun s moves → IsAt s moves n who c → IsBytes entry → can_log c (Submit by entry) ≡ true → CanMake c entry
+unfolding can_log
 can_make s moves n by who c entry run at typed may =
     let reached = reached_at s moves n who c run.run at in
     let makes = made_by_submission c by entry may in
@@ -129,8 +129,8 @@ due_spelled s who c random leaf (items.Change change) well reached known size du
     (current_size c known (key_there c reached.good due.not_removed)) new (all_of (numbers_of members) small)
     (omega (arith, length-map members (λ (m : Member). m.member), (few_after roster change few due.fits.0).few))
 
-pub made_allowed : (s : Setup) (moves : List Move) (n by : ℕ) (who : Device) (c : PlainClient) (entry : List ℕ) → IsTypedRun s moves → IsAt s moves n who c → CanMake c entry → allows c (Submit by entry) ≡ true
-unfolding allows
+pub made_allowed : (s : Setup) (moves : List Move) (n by : ℕ) (who : Device) (c : PlainClient) (entry : List ℕ) → IsTypedRun s moves → IsAt s moves n who c → CanMake c entry → can_log c (Submit by entry) ≡ true
+unfolding can_log
 made_allowed s moves n by who c entry run at can =
     let reached = reached_at s moves n who c run.run at in
     let known = sound_and_typed_at s moves n who c run at in

@@ -13,7 +13,7 @@ use Rattle.sporc_line.proofs.Goods.{good_none, good_push, good_take}
 use Rattle.sporc_client.specs.Log.{Logged, Edit, Change, Submit, Dropped, Accept, Discard}
 use Rattle.sporc_client.specs.PlainClient.{Opening, PlainClient, opened}
 use Rattle.sporc_client.specs.Answers.{journal_has_room, refusal_of}
-use Rattle.sporc_client.specs.Allowed.{allows, is_allowed}
+use Rattle.sporc_client.specs.Allowed.{can_log, is_allowed}
 use Rattle.sporc_client.specs.Step.{accepted, log_of_entries, replay, step}
 use Rattle.sporc_client.specs.Run.{Setup, World, Signing, Move, Open, Happen, Give, Restart, start, after, after_all, May, IsRun, IsAt, given, opening_of, signings}
 use Rattle.sporc_client.specs.Reached.{IsReached}
@@ -49,7 +49,7 @@ accepted_leaves c bytes good none =
       good = subst P (sym became.opening) (subst (Good c.opening.genesis c.opening.kit) (sym became.entries) (good_push c.opening.genesis c.opening.kit c.entries bytes good none));
     }
 
-step_leaves : (c : PlainClient) (event : Logged) → Good c.opening.genesis c.opening.kit c.entries → allows c event ≡ true → Leaves c (step c event)
+step_leaves : (c : PlainClient) (event : Logged) → Good c.opening.genesis c.opening.kit c.entries → can_log c event ≡ true → Leaves c (step c event)
 step_leaves c (Edit by seen marks) good may = record { opening = refl; good = good }
 step_leaves c (Change by change) good may = record { opening = refl; good = good }
 step_leaves c (Submit by bytes) good may = record { opening = refl; good = good }
@@ -58,10 +58,10 @@ step_leaves c (Accept by bytes) good may = accepted_leaves c bytes good (accept_
 step_leaves c (Discard by) good may = record { opening = refl; good = good }
 
 -- an event that a client allows
-pub reached_step : (s : Setup) (who : Device) (c : PlainClient) (event : Logged) → IsReached s who c → allows c event ≡ true → IsReached s who (step c event)
+pub reached_step : (s : Setup) (who : Device) (c : PlainClient) (event : Logged) → IsReached s who c → can_log c event ≡ true → IsReached s who (step c event)
 reached_step s who c event reached may =
     let next = step_leaves c event reached.good may in
-    let here : allows (replay c.opening reached.log) event ≡ true = ap (λ (d : PlainClient). allows d event) (sym reached.state) ∙ may in
+    let here : can_log (replay c.opening reached.log) event ≡ true = ap (λ (d : PlainClient). can_log d event) (sym reached.state) ∙ may in
     let log = reached.log ++ event ∷ [] in
     record {
       is_device = reached.is_device;
@@ -128,7 +128,7 @@ pub reached_after : (s : Setup) (w : World) (move : Move) → AllReached s w →
 reached_after s w (Open who ring) all may = reached_with s w who (opened (opening_of s who ring)) w.signed all (reached_opened s who ring may.0 may.1)
 reached_after s w (Happen who event) all may = go (w.clients who) refl may
   where
-    go : (o : Option PlainClient) → w.clients who ≡ o → IsSomeAnd o (λ c. allows c event ≡ true) → AllReached s (happens_to w who event o)
+    go : (o : Option PlainClient) → w.clients who ≡ o → IsSomeAnd o (λ c. can_log c event ≡ true) → AllReached s (happens_to w who event o)
     go None is may = absurd may
     go (Some c) is may = reached_with s w who (step c event) (w.signed ++ signings who c event) all (reached_step s who c event (all who c is) may)
 reached_after s w (Give who position bytes) all may = go (w.clients who) refl

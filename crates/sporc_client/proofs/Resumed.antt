@@ -28,7 +28,7 @@ use Rattle.sporc_client.specs.declared.event.Event.{Event}
 use Rattle.sporc_client.specs.declared.event.Event.TheVariants as events
 use Rattle.sporc_client.specs.declared.limits.TheConstants.{MAX_EVENTS}
 use Rattle.sporc_client.specs.declared.pending.Pending.{Pending}
-use Rattle.sporc_client.specs.Allowed.{allows, is_allowed}
+use Rattle.sporc_client.specs.Allowed.{can_log, is_allowed}
 use Rattle.sporc_client.specs.ClientInvariant.{ClientInvariant, Stores, client_model, plain_of}
 use Rattle.sporc_client.specs.ClientModel.{AreInOrder, ClientModel, leaves_of}
 use Rattle.sporc_client.specs.Coming.{coming_of, flight_after, pending_after, shown_form}
@@ -109,8 +109,8 @@ resumes_more o A b before good =
     let more : log_of_entries (A ++ b ∷ []) ≡ log ++ Accept 0 b ∷ [] = map-append (Accept 0) A (b ∷ []) in
     let p = last_passes g kit A b good in
     let room : length (forms_of g kit A) < MAX_EVENTS = omega (arith, length-forms g kit A, p.2.room) in
-    let may : allows (of_history o A) (Accept 0 b) ≡ true = allowed_accept (of_history o A) 0 b (no_fault g kit A (length A + 1) b p.0 p.1 p.2) room in
-    let here : allows (replay o log) (Accept 0 b) ≡ true = ap (λ (c : PlainClient). allows c (Accept 0 b)) ih.state ∙ may in
+    let may : can_log (of_history o A) (Accept 0 b) ≡ true = allowed_accept (of_history o A) 0 b (no_fault g kit A (length A + 1) b p.0 p.1 p.2) room in
+    let here : can_log (replay o log) (Accept 0 b) ≡ true = ap (λ (c : PlainClient). can_log c (Accept 0 b)) ih.state ∙ may in
     record {
       state = ap (replay o) more ∙ replay_more o log (Accept 0 b) ∙ ap (λ (c : PlainClient). step c (Accept 0 b)) ih.state ∙ one_more o A b good;
       allowed = ap (is_allowed o) more ∙ is_allowed_more o log (Accept 0 b) ih.allowed here;

@@ -3,8 +3,8 @@ use Rattle.std.proofs.Common.{◌≡◌, ℕ, zero, suc, ◌+◌, List, [], ◌�
 use Rattle.std.specs.List.{slice_get}
 use Rattle.sporc_line.proofs.Lists.{take_slice_get_more}
 use Rattle.std.proofs.lemmas.List.{take-append-drop}
-use Rattle.sporc_delta.specs.Marks.{Mark, apply, base_len, inserts, out_len, replacement, retains}
-use Rattle.sporc_delta.proofs.Lengths.{base_len-inserts, base_len-retains}
+use Rattle.sporc_delta.specs.Marks.{Mark, apply, base_len, insert_marks, out_len, replacement, keep_marks}
+use Rattle.sporc_delta.proofs.Lengths.{base_len-insert_marks, base_len-keep_marks}
 use Rattle.sporc_suffix.specs.Forms.{Follow, later_over, reached}
 use Rattle.sporc_suffix.proofs.Passing.{Follow-append, Follow-drop}
 use Rattle.sporc_suffix.proofs.Following.{Follow-take, reached-append}
@@ -15,20 +15,20 @@ pub fold_more : {A B : Type 0} (f : B → A → B) (b : B) (xs : List A) (x : A)
 fold_more f b [] x = refl
 fold_more f b (y ∷ ys) x = fold_more f (f b y) ys x
 
-pub apply-retains : (s : List ℕ) → apply (retains (length s)) s ≡ s
-apply-retains [] = refl
-apply-retains (c ∷ s) = ap (λ t. c ∷ t) (apply-retains s)
+pub apply-keep_marks : (s : List ℕ) → apply (keep_marks (length s)) s ≡ s
+apply-keep_marks [] = refl
+apply-keep_marks (c ∷ s) = ap (λ t. c ∷ t) (apply-keep_marks s)
 
-pub apply-inserts : (t : List ℕ) → apply (inserts t) [] ≡ t
-apply-inserts [] = refl
-apply-inserts (c ∷ t) = ap (λ u. c ∷ u) (apply-inserts t)
+pub apply-insert_marks : (t : List ℕ) → apply (insert_marks t) [] ≡ t
+apply-insert_marks [] = refl
+apply-insert_marks (c ∷ t) = ap (λ u. c ∷ u) (apply-insert_marks t)
 
 pub apply-replacement : (s t : List ℕ) → apply (replacement (length s) t) s ≡ t
-apply-replacement [] t = apply-inserts t
+apply-replacement [] t = apply-insert_marks t
 apply-replacement (c ∷ s) t = apply-replacement s t
 
 pub base_len-replacement : (n : ℕ) (t : List ℕ) → base_len (replacement n t) ≡ n
-base_len-replacement zero t = base_len-inserts t
+base_len-replacement zero t = base_len-insert_marks t
 base_len-replacement (suc n) t = ap suc (base_len-replacement n t)
 
 -- the forms so far lead to a text
@@ -48,8 +48,8 @@ leads_on forms form text next leads base is = record {
 }
 
 -- one that keeps the text
-pub leads_on_same : (forms : List (List Mark)) (text : List ℕ) → LeadTo forms text → LeadTo (forms ++ retains (length text) ∷ []) text
-leads_on_same forms text leads = leads_on forms (retains (length text)) text text leads (base_len-retains (length text)) (apply-retains text)
+pub leads_on_same : (forms : List (List Mark)) (text : List ℕ) → LeadTo forms text → LeadTo (forms ++ keep_marks (length text) ∷ []) text
+leads_on_same forms text leads = leads_on forms (keep_marks (length text)) text text leads (base_len-keep_marks (length text)) (apply-keep_marks text)
 
 -- marks stated after the first forms, restated behind the others
 pub base_restated : (forms : List (List Mark)) (text : List ℕ) (seen : ℕ) (marks : List Mark) → LeadTo forms text

@@ -29,7 +29,7 @@ use Rattle.sporc_client.specs.Entries.{Chosen, entry_made, kind_of, next_header}
 use Rattle.sporc_client.specs.Log.{Logged}
 use Rattle.sporc_client.specs.Log as events
 use Rattle.sporc_client.specs.PlainClient.{PlainClient, me_of}
-use Rattle.sporc_client.specs.Allowed.{allows}
+use Rattle.sporc_client.specs.Allowed.{can_log}
 use Rattle.sporc_client.specs.Run.{Setup, World, Signing, Move, Open, Happen, Give, Restart, start, after, after_all, May, IsRun, signings}
 use Rattle.sporc_client.specs.Reached.{IsReached}
 use Rattle.sporc_client.specs.WellFormed.{IsWellFormed}
@@ -161,7 +161,7 @@ AllSignings s w = (x : Signing) → Contains w.signed x → IsSigning s x
 pub none_signed : (s : Setup) (x : Signing) → Contains [] x → IsSigning s x
 none_signed s x (place, within, at) = absurd (omega (arith, within))
 
-event_signings : (s : Setup) (who : Device) (c : PlainClient) (event : Logged) → IsWellFormed s → IsReached s who c → allows c event ≡ true → (x : Signing) → Contains (signings who c event) x → IsSigning s x
+event_signings : (s : Setup) (who : Device) (c : PlainClient) (event : Logged) → IsWellFormed s → IsReached s who c → can_log c event ≡ true → (x : Signing) → Contains (signings who c event) x → IsSigning s x
 event_signings s who c (events.Edit by seen marks) well reached may x at = none_signed s x at
 event_signings s who c (events.Change by change) well reached may x at = none_signed s x at
 event_signings s who c (events.Submit by bytes) well reached may x at = one x at
@@ -180,7 +180,7 @@ pub signings_after : (s : Setup) (w : World) (move : Move) → IsWellFormed s �
 signings_after s w (Open who ring) well reached all may = all
 signings_after s w (Happen who event) well reached all may = go (w.clients who) refl may
   where
-    go : (o : Option PlainClient) → w.clients who ≡ o → IsSomeAnd o (λ c. allows c event ≡ true) → AllSignings s (happens_to w who event o)
+    go : (o : Option PlainClient) → w.clients who ≡ o → IsSomeAnd o (λ c. can_log c event ≡ true) → AllSignings s (happens_to w who event o)
     go None is may x at = absurd may
     go (Some c) is may x at = elim (Contains-append_cases w.signed (signings who c event) x at) [
       | inl p ↦ all x p

@@ -8,7 +8,7 @@ use Rattle.std.specs.Str.{encode_utf8_all}
 use Rattle.sporc_delta.specs.declared.part.Part.{Part}
 use Rattle.sporc_delta.specs.declared.part.Part.TheVariants.{Keep, Insert as InsertText, Remove}
 use Rattle.sporc_delta.specs.Format.{delta_bytes, part_bytes, parts_bytes}
-use Rattle.sporc_delta.specs.Marks.{Mark, apply, deletes, inserted_len, inserts, replacement, retains}
+use Rattle.sporc_delta.specs.Marks.{Mark, apply, remove_marks, inserted_len, insert_marks, replacement, keep_marks}
 use Rattle.sporc_delta.specs.Parts.{marks_of, part_marks, runs}
 use Rattle.sporc_delta.specs.Transforms.{earlier}
 use Rattle.sporc_delta.proofs.Runs.{marks_of-runs}
@@ -16,7 +16,7 @@ use Rattle.sporc_xform.proofs.LengthLemmas.{inserted_len-earlier, inserted_len-l
 use Rattle.sporc_suffix.specs.Forms.{all_inserted}
 use Rattle.sporc_suffix.proofs.Following.{all_inserted-append}
 use Rattle.sporc_head.specs.declared.limits.TheConstants.{MAX_ENTRIES}
-use Rattle.sporc_delta.proofs.Lengths.{inserted_len-retains, inserted_len-append, inserted_len-deletes, inserted_len-inserts}
+use Rattle.sporc_delta.proofs.Lengths.{inserted_len-keep_marks, inserted_len-append, inserted_len-remove_marks, inserted_len-insert_marks}
 use Rattle.sporc_line.proofs.FormLengths.{inserted_len-over, length-apply}
 use Rattle.sporc_member.specs.declared.change.Change.{Change as MemberChange}
 use Rattle.sporc_client.specs.declared.limits.TheConstants.{MAX_EDIT_BYTES, MAX_EVENTS, MAX_HEAD_BYTES, MAX_PENDING, MAX_SHOWN_LEN}
@@ -35,9 +35,9 @@ length-encode_all [] = omega arith
 length-encode_all (c ∷ text) = omega (arith, length-encode_all text, length-append (encode_utf8 c) (encode_utf8_all text), length-encode c, len_utf8_bounds c)
 
 inserted_len-part : (p : Part) → inserted_len (part_marks p) ≤ length (part_bytes p)
-inserted_len-part (Keep n) = omega (arith, inserted_len-retains n)
-inserted_len-part (InsertText text) = omega (arith, inserted_len-inserts text, length-encode_all text, length-append (to_be_bytes w64 (length (encode_utf8_all text))) (encode_utf8_all text))
-inserted_len-part (Remove n) = omega (arith, inserted_len-deletes n)
+inserted_len-part (Keep n) = omega (arith, inserted_len-keep_marks n)
+inserted_len-part (InsertText text) = omega (arith, inserted_len-insert_marks text, length-encode_all text, length-append (to_be_bytes w64 (length (encode_utf8_all text))) (encode_utf8_all text))
+inserted_len-part (Remove n) = omega (arith, inserted_len-remove_marks n)
 
 inserted_len-parts : (ps : List Part) → inserted_len (marks_of ps) ≤ length (parts_bytes ps)
 inserted_len-parts [] = omega arith
@@ -48,7 +48,7 @@ pub inserted_len-bytes : (ms : List Mark) → inserted_len ms ≤ length (delta_
 inserted_len-bytes ms = omega (arith, inserted_len-parts (runs ms), ap inserted_len (marks_of-runs ms))
 
 inserted_len-replacement : (n : ℕ) (text : List ℕ) → inserted_len (replacement n text) ≡ length text
-inserted_len-replacement n text = omega (arith, inserted_len-append (deletes n) (inserts text), inserted_len-deletes n, inserted_len-inserts text)
+inserted_len-replacement n text = omega (arith, inserted_len-append (remove_marks n) (insert_marks text), inserted_len-remove_marks n, inserted_len-insert_marks text)
 
 -- ---- pending items
 
@@ -139,7 +139,7 @@ edit_small c by seen marks small pending events bytes =
 
 pub change_small : (c : PlainClient) (by : ℕ) (change : MemberChange) → IsSmall c → length c.pending < MAX_PENDING → length c.shown < MAX_EVENTS → IsSmall (step c (Change by change))
 change_small c by change small pending events =
-    let more = few_more c.shown (retains (length (shown_of c))) events small.shown (omega (arith, inserted_len-retains (length (shown_of c)))) in
+    let more = few_more c.shown (keep_marks (length (shown_of c))) events small.shown (omega (arith, inserted_len-keep_marks (length (shown_of c)))) in
     record {
       entries = small.entries;
       committed = small.committed;

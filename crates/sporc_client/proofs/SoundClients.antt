@@ -28,7 +28,7 @@ use Rattle.sporc_epoch.specs.Keys.{Keys}
 use Rattle.sporc_epoch.specs.Sealing.{Sealing, body_sealed}
 use Rattle.sporc_epoch.specs.Streams.{entry_stream}
 use Rattle.sporc_head.specs.History.{change_in, epoch_of, is_removed}
-use Rattle.sporc_line.specs.Keys.{key_of}
+use Rattle.sporc_line.specs.Keys.{epoch_key}
 use Rattle.sporc_line.specs.Good.{Good, Meets}
 use Rattle.sporc_line.specs.Operations.{edit_marks}
 use Rattle.sporc_line.specs.Document.{forms_from, forms_of, text_after}
@@ -43,7 +43,7 @@ use Rattle.sporc_client.specs.declared.pending.Pending.{Pending}
 use Rattle.sporc_client.specs.declared.pending.Pending.TheVariants as items
 use Rattle.sporc_client.specs.Answers.{edit_checks, edit_fault, has_right, is_out, refusal_of}
 use Rattle.sporc_client.specs.Submissions.{Sign, due, due_behind, first_due, or_due, submit_checks}
-use Rattle.sporc_client.specs.Allowed.{allows, allows_all, is_allowed, is_drop}
+use Rattle.sporc_client.specs.Allowed.{can_log, can_log_all, is_allowed, is_drop}
 use Rattle.sporc_client.specs.Entries.{Chosen, current_key, entry_made, next_header, sealing_of}
 use Rattle.sporc_client.specs.Log.{Logged}
 use Rattle.sporc_client.specs.Log as events
@@ -83,15 +83,15 @@ entry_read s who c bytes well reached typed makes =
 
 pub record HasKey (c : PlainClient) : Type 0 where
   pub key : List ℕ
-  pub is : key_of c.opening.genesis c.opening.kit c.entries (epoch_of c.entries) ≡ Some key
+  pub is : epoch_key c.opening.genesis c.opening.kit c.entries (epoch_of c.entries) ≡ Some key
 
 -- a client that isn't removed has it
 pub key_there : (c : PlainClient) → Good c.opening.genesis c.opening.kit c.entries → is_removed (me_of c) c.entries ≡ false → HasKey c
 key_there c good kept =
     let l : epoch_of c.entries ≤ epoch_of c.entries = omega arith in
-    go _ (key_of c.opening.genesis c.opening.kit c.entries (epoch_of c.entries)) refl (keys_meet c.opening.genesis c.opening.kit c.entries good kept (epoch_of c.entries) l)
+    go _ (epoch_key c.opening.genesis c.opening.kit c.entries (epoch_of c.entries)) refl (keys_meet c.opening.genesis c.opening.kit c.entries good kept (epoch_of c.entries) l)
   where
-    go : (commitment : List ℕ) (key : Option (List ℕ)) → key_of c.opening.genesis c.opening.kit c.entries (epoch_of c.entries) ≡ key → Meets c.opening.genesis (epoch_of c.entries) key commitment → HasKey c
+    go : (commitment : List ℕ) (key : Option (List ℕ)) → epoch_key c.opening.genesis c.opening.kit c.entries (epoch_of c.entries) ≡ key → Meets c.opening.genesis (epoch_of c.entries) key commitment → HasKey c
     go commitment None is meets = absurd meets
     go commitment (Some key) is meets = record { key = key; is = is }
 
@@ -110,7 +110,7 @@ edit_spelled c marks sound typed due = spelled_due c marks sound (subst AreTyped
 
 -- and is read again under the key of the epoch
 pub reads_edit : (c : PlainClient) (chosen : Chosen) (marks : List Mark) → HasKey c → Spells marks (delta_bytes marks)
-    → edit_marks (key_of c.opening.genesis c.opening.kit c.entries (epoch_of c.entries)) (entry_made c chosen (items.Edit marks)) ≡ Some marks
+    → edit_marks (epoch_key c.opening.genesis c.opening.kit c.entries (epoch_of c.entries)) (entry_made c chosen (items.Edit marks)) ≡ Some marks
 unfolding entry_made
 reads_edit c chosen marks has spells =
     let stream = entry_stream (me_of c) chosen.leaf in
@@ -135,7 +135,7 @@ edit_made c chosen marks has spells =
     record {
       no_change = no_change c chosen marks;
       held = marks;
-      reads = ap (λ (e : ℕ). edit_marks (key_of c.opening.genesis c.opening.kit c.entries e) m) epoch ∙ reads_edit c chosen marks has spells;
+      reads = ap (λ (e : ℕ). edit_marks (epoch_key c.opening.genesis c.opening.kit c.entries e) m) epoch ∙ reads_edit c chosen marks has spells;
       restated = ap (later_over marks) (drop_all m.header.base forms past);
     }
 
@@ -206,8 +206,8 @@ none_of None h = refl
 none_of (Some x) h = absurd cc
 
 -- an edit that is allowed is stated on the text that it names
-edit_base : (c : PlainClient) (by seen : ℕ) (marks : List Mark) → allows c (events.Edit by seen marks) ≡ true → base_len marks ≡ length (text_after (take seen c.shown))
-unfolding allows edit_fault
+edit_base : (c : PlainClient) (by seen : ℕ) (marks : List Mark) → can_log c (events.Edit by seen marks) ≡ true → base_len marks ≡ length (text_after (take seen c.shown))
+unfolding can_log edit_fault
 edit_base c by seen marks may =
     let checks = none_of (first_of (edit_checks c seen marks)) may in
     let a = passes (not (is_out c)) edits.Removed _ checks in
@@ -228,8 +228,8 @@ no_drop fault (Some refusal) second item h = cc
 no_drop fault None (Some refusal) item h = cc
 no_drop fault None None item h = cc
 
-pub dropped : (c : PlainClient) (by : ℕ) (fault : ChangeFault) → allows c (events.Dropped by fault) ≡ true → IsDropped c
-unfolding allows due
+pub dropped : (c : PlainClient) (by : ℕ) (fault : ChangeFault) → can_log c (events.Dropped by fault) ≡ true → IsDropped c
+unfolding can_log due
 dropped c by fault may = behind c.flight refl may
   where
     at_first : (pending : List Pending) → c.pending ≡ pending → c.flight ≡ None → is_drop fault (first_due c pending) ≡ true → IsDropped c
@@ -259,7 +259,7 @@ accept_keeps c bytes are_bytes known none =
       bytes = subst (AllByRecursion IsBytes) (sym longer.entries) (bytes_more c.entries bytes known.bytes are_bytes);
     }
 
-pub event_keeps : (s : Setup) (who : Device) (c : PlainClient) (event : Logged) → IsWellFormed s → IsReached s who c → IsTypedEvent event → allows c event ≡ true → IsSoundAndTyped c → IsSoundAndTyped (step c event)
+pub event_keeps : (s : Setup) (who : Device) (c : PlainClient) (event : Logged) → IsWellFormed s → IsReached s who c → IsTypedEvent event → can_log c event ≡ true → IsSoundAndTyped c → IsSoundAndTyped (step c event)
 event_keeps s who c (events.Edit by seen marks) well reached typed may known = record {
   sound = edit_sound c by seen marks known.sound (edit_base c by seen marks may);
   typed = typed_edit c.pending (restated c seen marks) known.typed (over_scalars marks (drop seen c.shown) (scalars_of marks typed));
@@ -295,10 +295,10 @@ pub opened_keeps : (o : Opening) → AreEpochKeys o.kit.ring → Good o.genesis 
 unfolding forms_from
 opened_keeps o ring good = record { sound = record { good = good; stated = tt; follow = tt; shown = refl; flight = tt }; typed = tt; ring = ring; bytes = tt }
 
-accepts_keep : (c : PlainClient) (entries : List (List ℕ)) → AllByRecursion IsBytes entries → IsSoundAndTyped c → allows_all c (log_of_entries entries) ≡ true → IsSoundAndTyped (replay_from c (log_of_entries entries))
+accepts_keep : (c : PlainClient) (entries : List (List ℕ)) → AllByRecursion IsBytes entries → IsSoundAndTyped c → can_log_all c (log_of_entries entries) ≡ true → IsSoundAndTyped (replay_from c (log_of_entries entries))
 accepts_keep c [] bytes known may = known
 accepts_keep c (b ∷ entries) bytes known may =
-    let p = and_parts (allows c (events.Accept 0 b)) (allows_all (accepted c b) (log_of_entries entries)) may in
+    let p = and_parts (can_log c (events.Accept 0 b)) (can_log_all (accepted c b) (log_of_entries entries)) may in
     accepts_keep (accepted c b) entries bytes.1 (accept_keeps c b bytes.0 known (accept_passes c 0 b p.0)) p.1
 
 pub restarted_keeps : (c : PlainClient) (k : ℕ) → IsSoundAndTyped c → IsSoundAndTyped (restarted c k)

@@ -7,7 +7,7 @@ use Rattle.sporc_base.specs.Bytes.{IsBytes}
 use Rattle.sporc_head.specs.declared.refusal.Refusal.{Refusal}
 use Rattle.sporc_line.proofs.NextEntry.{at_next}
 use Rattle.sporc_client.specs.Answers.{journal_has_room, refusal_of}
-use Rattle.sporc_client.specs.Allowed.{allows}
+use Rattle.sporc_client.specs.Allowed.{can_log}
 use Rattle.sporc_client.specs.PlainClient.{PlainClient, opened}
 use Rattle.sporc_client.specs.Run.{Setup, World, Signing, Move, Open, Happen, Give, Restart, start, after, after_all, IsAt, IsRun, May, given, opening_of, signings}
 use Rattle.sporc_client.specs.Soundness.{IsSound}
@@ -45,7 +45,7 @@ sound_after s w (Open who ring) well reached all typed may =
     sound_with w who c w.signed all (opened_keeps (opening_of s who ring) typed (one who c (put_same w.clients who c)).good)
 sound_after s w (Happen who event) well reached all typed may = go (w.clients who) refl may
   where
-    go : (o : Option PlainClient) → w.clients who ≡ o → IsSomeAnd o (λ c. allows c event ≡ true) → AllSound (happens_to w who event o)
+    go : (o : Option PlainClient) → w.clients who ≡ o → IsSomeAnd o (λ c. can_log c event ≡ true) → AllSound (happens_to w who event o)
     go None is may = absurd may
     go (Some c) is may = sound_with w who (step c event) (w.signed ++ signings who c event) all (event_keeps s who c event well (reached who c is) typed may (all who c is))
 sound_after s w (Give who position bytes) well reached all typed may = go (w.clients who) refl

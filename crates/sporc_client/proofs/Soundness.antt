@@ -26,7 +26,7 @@ use Rattle.sporc_client.specs.Rebasing.{AreStated, beyond, rebased}
 use Rattle.sporc_client.specs.Step.{change_comes, edit_comes, form_coming, own_comes, restated, step}
 use Rattle.sporc_client.specs.Soundness.{IsEntryOf, IsInFlight, IsOfFirst, IsSound}
 use Rattle.sporc_client.proofs.Rebased.{passes}
-use Rattle.sporc_client.proofs.Shown.{LeadTo, apply-replacement, apply-retains, base_len-replacement, base_restated, fold_more, leads_on, leads_on_same}
+use Rattle.sporc_client.proofs.Shown.{LeadTo, apply-replacement, apply-keep_marks, base_len-replacement, base_restated, fold_more, leads_on, leads_on_same}
 
 -- ---- pending items
 
@@ -167,7 +167,7 @@ own_text : (c : PlainClient) (bytes : List ℕ) (e : Entry) (item : Pending) →
 own_text c bytes e (items.Edit marks) reads of =
     ap (λ (m : List Mark). apply m (committed_of c)) (edit_form c.opening.genesis c.opening.kit c.entries bytes e of.held reads of.no_change of.reads ∙ of.restated)
 own_text c bytes e (items.Change change) reads of =
-    ap (λ (m : List Mark). apply m (committed_of c)) (change_form c.opening.genesis c.opening.kit c.entries bytes e of.body reads of.reads) ∙ apply-retains (committed_of c)
+    ap (λ (m : List Mark). apply m (committed_of c)) (change_form c.opening.genesis c.opening.kit c.entries bytes e of.body reads of.reads) ∙ apply-keep_marks (committed_of c)
 
 stated_rest : (text : List ℕ) (item : Pending) (rest : List Pending) → AreStated text (item ∷ rest) → AreStated (after_pending text item) rest
 stated_rest text (items.Edit marks) rest stated = stated.1
@@ -209,7 +209,7 @@ pub other_change_sound : (c : PlainClient) (bytes : List ℕ) (e : Entry) (body 
 other_change_sound c bytes e body sound reads is fault =
     let come = comes c bytes sound.good fault in
     let text : text_of c.opening.genesis c.opening.kit (c.entries ++ bytes ∷ []) ≡ committed_of c =
-    come.text ∙ ap (λ (m : List Mark). apply m (committed_of c)) (change_form c.opening.genesis c.opening.kit c.entries bytes e body reads is) ∙ apply-retains (committed_of c) in
+    come.text ∙ ap (λ (m : List Mark). apply m (committed_of c)) (change_form c.opening.genesis c.opening.kit c.entries bytes e body reads is) ∙ apply-keep_marks (committed_of c) in
     let Q : List ℕ → Type 0 = λ t. AreStated t c.pending in
     let next = leads_on_same c.shown (shown_of c) (leads c sound) in
     record {

@@ -7,15 +7,15 @@ use Rattle.std.specs.Str.{all_scalars, encode_utf8_all}
 use Rattle.std.proofs.lemmas.Bool.{and_from, and_parts}
 use Rattle.sporc_delta.specs.declared.limits.TheConstants.{MAX_COUNT}
 use Rattle.sporc_delta.specs.declared.part.Part.{Part}
-use Rattle.sporc_delta.specs.declared.part.Part.TheVariants.{Keep, Insert as InsertText, Remove}
+use Rattle.sporc_delta.specs.declared.part.Part.TheVariants.{Keep as KeepRun, Insert as InsertText, Remove as RemoveRun}
 use Rattle.sporc_delta.specs.Format.{HasSpelling, HaveSpellings, Spells, delta_bytes, part_bytes, parts_bytes}
-use Rattle.sporc_delta.specs.Marks.{Mark, Retain, Delete, Insert, base_len}
+use Rattle.sporc_delta.specs.Marks.{Mark, Keep, Remove, Insert, base_len}
 use Rattle.sporc_delta.specs.Parts.{marks_of, part_marks, runs}
 use Rattle.sporc_delta.specs.Transforms.{earlier, last_steps, later, later_step}
 use Rattle.sporc_delta.specs.Typed.{IsTypedDelta, IsTypedPart}
-use Rattle.sporc_delta.proofs.Lengths.{base_len-append, base_len-deletes, base_len-retains}
+use Rattle.sporc_delta.proofs.Lengths.{base_len-append, base_len-remove_marks, base_len-keep_marks}
 use Rattle.sporc_delta.proofs.Runs.{marks_of-runs}
-use Rattle.sporc_delta.proofs.Typing.{inserted, inserted-append, inserted-deletes, inserted-inserts, inserted-retains, scalars_append}
+use Rattle.sporc_delta.proofs.Typing.{inserted, inserted-append, inserted-remove_marks, inserted-insert_marks, inserted-keep_marks, scalars_append}
 use Rattle.sporc_suffix.specs.Forms.{later_over}
 use Rattle.sporc_member.specs.declared.change.Change.{Change as MemberChange}
 use Rattle.sporc_client.specs.declared.pending.Pending.{Pending}
@@ -35,9 +35,9 @@ scalars_of_parts (p ∷ ps) typed =
     ∙ and_from (all_scalars (inserted (part_marks p))) (all_scalars (inserted (marks_of ps))) (of_part p typed.0) (scalars_of_parts ps typed.1)
   where
     of_part : (p : Part) → IsTypedPart p → all_scalars (inserted (part_marks p)) ≡ true
-    of_part (Keep n) typed = ap all_scalars (inserted-retains n)
-    of_part (InsertText text) typed = ap all_scalars (inserted-inserts text) ∙ typed.1
-    of_part (Remove n) typed = ap all_scalars (inserted-deletes n)
+    of_part (KeepRun n) typed = ap all_scalars (inserted-keep_marks n)
+    of_part (InsertText text) typed = ap all_scalars (inserted-insert_marks text) ∙ typed.1
+    of_part (RemoveRun n) typed = ap all_scalars (inserted-remove_marks n)
 
 pub scalars_of : (marks : List Mark) → IsTypedDelta marks → HasScalars marks
 scalars_of marks typed = subst HasScalars (marks_of-runs marks) (scalars_of_parts (runs marks) typed)
@@ -53,29 +53,29 @@ scalar_front c text rest all more =
 last_scalars : (q : List Mark) → HasScalars q → HasScalars (flat_map later_step (last_steps q))
 last_scalars [] h = refl
 last_scalars (Insert c ∷ q) h = scalar_front c (inserted q) (inserted (flat_map later_step (last_steps q))) h (last_scalars q)
-last_scalars (Retain ∷ q) h = refl
-last_scalars (Delete ∷ q) h = refl
+last_scalars (Keep ∷ q) h = refl
+last_scalars (Remove ∷ q) h = refl
 
 abbrev KeepsScalars : List Mark → Type 0
 KeepsScalars p = (q : List Mark) → HasScalars q → HasScalars (later q p)
 
-retain_scalars : (p : List Mark) → KeepsScalars p → KeepsScalars (Retain ∷ p)
-retain_scalars p before [] h = refl
-retain_scalars p before (Insert c ∷ q) h = scalar_front c (inserted q) (inserted (later q (Retain ∷ p))) h (retain_scalars p before q)
-retain_scalars p before (Retain ∷ q) h = before q h
-retain_scalars p before (Delete ∷ q) h = before q h
+keep_scalars : (p : List Mark) → KeepsScalars p → KeepsScalars (Keep ∷ p)
+keep_scalars p before [] h = refl
+keep_scalars p before (Insert c ∷ q) h = scalar_front c (inserted q) (inserted (later q (Keep ∷ p))) h (keep_scalars p before q)
+keep_scalars p before (Keep ∷ q) h = before q h
+keep_scalars p before (Remove ∷ q) h = before q h
 
-delete_scalars : (p : List Mark) → KeepsScalars p → KeepsScalars (Delete ∷ p)
-delete_scalars p before [] h = refl
-delete_scalars p before (Insert c ∷ q) h = scalar_front c (inserted q) (inserted (later q (Delete ∷ p))) h (delete_scalars p before q)
-delete_scalars p before (Retain ∷ q) h = before q h
-delete_scalars p before (Delete ∷ q) h = before q h
+remove_scalars : (p : List Mark) → KeepsScalars p → KeepsScalars (Remove ∷ p)
+remove_scalars p before [] h = refl
+remove_scalars p before (Insert c ∷ q) h = scalar_front c (inserted q) (inserted (later q (Remove ∷ p))) h (remove_scalars p before q)
+remove_scalars p before (Keep ∷ q) h = before q h
+remove_scalars p before (Remove ∷ q) h = before q h
 
 pub later_scalars : (p : List Mark) → KeepsScalars p
 later_scalars [] q h = last_scalars q h
 later_scalars (Insert c ∷ p) q h = later_scalars p q h
-later_scalars (Retain ∷ p) q h = retain_scalars p (later_scalars p) q h
-later_scalars (Delete ∷ p) q h = delete_scalars p (later_scalars p) q h
+later_scalars (Keep ∷ p) q h = keep_scalars p (later_scalars p) q h
+later_scalars (Remove ∷ p) q h = remove_scalars p (later_scalars p) q h
 
 pub over_scalars : (q : List Mark) (forms : List (List Mark)) → HasScalars q → HasScalars (later_over q forms)
 over_scalars q [] h = h
@@ -118,10 +118,10 @@ pub record IsShort (marks : List Mark) (bytes : List ℕ) : Type 0 where
   pub scalars : HasScalars marks
 
 part_spelled : (p : Part) → IsShort (part_marks p) (part_bytes p) → HasSpelling p
-part_spelled (Keep n) short = omega (arith, short.base, base_len-retains n)
-part_spelled (Remove n) short = omega (arith, short.base, base_len-deletes n)
+part_spelled (KeepRun n) short = omega (arith, short.base, base_len-keep_marks n)
+part_spelled (RemoveRun n) short = omega (arith, short.base, base_len-remove_marks n)
 part_spelled (InsertText text) short = (
-  ap all_scalars (sym (inserted-inserts text)) ∙ short.scalars,
+  ap all_scalars (sym (inserted-insert_marks text)) ∙ short.scalars,
   omega (arith, short.size, length-append (to_be_bytes w64 (length (encode_utf8_all text))) (encode_utf8_all text)),
 )
 

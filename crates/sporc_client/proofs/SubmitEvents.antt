@@ -9,19 +9,19 @@ use Rattle.lms_tree.specs.LmsType.{height_of}
 use Rattle.lms_leaf.specs.Leaves.{LeavesModel}
 use Rattle.lms_sign.specs.Signer.{SignerModel}
 use Rattle.sporc_base.specs.FirstFault.{first_of}
-use Rattle.sporc_delta.specs.Marks.{retains}
+use Rattle.sporc_delta.specs.Marks.{keep_marks}
 use Rattle.sporc_member.specs.declared.change.ChangeFault.{ChangeFault}
 use Rattle.sporc_member.specs.ChangeFault.{change_fault_code_of}
 use Rattle.sporc_member.proofs.Checks.{passes}
 use Rattle.sporc_head.specs.declared.limits.TheConstants.{MAX_ENTRIES}
 use Rattle.sporc_line.specs.LineModel.{LineModel}
-use Rattle.sporc_delta.proofs.Lengths.{inserted_len-retains}
+use Rattle.sporc_delta.proofs.Lengths.{inserted_len-keep_marks}
 use Rattle.sporc_client.specs.declared.event.Event.TheVariants as stored
 use Rattle.sporc_client.specs.declared.fault.SubmitFault.{SubmitFault}
 use Rattle.sporc_client.specs.declared.fault.SubmitFault.TheVariants.{HistoryFull, JournalFull, NoRight, Removed}
 use Rattle.sporc_client.specs.declared.limits.TheConstants.{MAX_EVENTS}
 use Rattle.sporc_client.specs.declared.pending.Pending.{Pending}
-use Rattle.sporc_client.specs.Allowed.{allows, is_drop}
+use Rattle.sporc_client.specs.Allowed.{can_log, is_drop}
 use Rattle.sporc_client.specs.Answers.{has_right, is_out, journal_has_room}
 use Rattle.sporc_client.specs.ClientInvariant.{ClientInvariant, plain_of}
 use Rattle.sporc_client.specs.ClientModel.{AreInOrder, leaf_in, leaves_of}
@@ -81,7 +81,7 @@ due_room c h = behind c.flight h
 
 drop_small : (c : PlainClient) (by : ℕ) (fault : ChangeFault) → IsSmall c → length c.shown < MAX_EVENTS → IsSmall (step c (Dropped by fault))
 drop_small c by fault small room =
-    let more = few_more c.shown (retains (length (shown_of c))) room small.shown (omega (arith, inserted_len-retains (length (shown_of c)))) in
+    let more = few_more c.shown (keep_marks (length (shown_of c))) room small.shown (omega (arith, inserted_len-keep_marks (length (shown_of c)))) in
     record {
       entries = small.entries;
       committed = small.committed;
@@ -93,17 +93,17 @@ drop_small c by fault small room =
 
 submit_small : (c : PlainClient) (by : ℕ) (bytes : List ℕ) → IsSmall c → length c.shown < MAX_EVENTS → IsSmall (step c (Submit by bytes))
 submit_small c by bytes small room =
-    let more = few_more c.shown (retains (length (shown_of c))) room small.shown (omega (arith, inserted_len-retains (length (shown_of c)))) in
+    let more = few_more c.shown (keep_marks (length (shown_of c))) room small.shown (omega (arith, inserted_len-keep_marks (length (shown_of c)))) in
     record { entries = small.entries; committed = small.committed; pending = small.pending; short = small.short; events = more.events; shown = more.inserted }
 
 -- ---- the log allows them
 
-drop_allowed : (c : PlainClient) (by : ℕ) (fault : ChangeFault) → due c ≡ Drop fault → allows c (Dropped by fault) ≡ true
-unfolding allows
+drop_allowed : (c : PlainClient) (by : ℕ) (fault : ChangeFault) → due c ≡ Drop fault → can_log c (Dropped by fault) ≡ true
+unfolding can_log
 drop_allowed c by fault is = ap (is_drop fault) is ∙ eq-eqb (change_fault_code_of fault) (change_fault_code_of fault) refl
 
-submit_allowed : (c : PlainClient) (by leaf : ℕ) (bytes : List ℕ) → IsSubmission c leaf bytes → allows c (Submit by bytes) ≡ true
-unfolding allows
+submit_allowed : (c : PlainClient) (by leaf : ℕ) (bytes : List ℕ) → IsSubmission c leaf bytes → can_log c (Submit by bytes) ≡ true
+unfolding can_log
 submit_allowed c by leaf bytes is = is.allowed
 
 -- the leaves of a log, behind an event that signs with one

@@ -40,7 +40,7 @@ use Rattle.sporc_head.proofs.Grows.{change_in_read, roster_change, roster_edit}
 use Rattle.sporc_line.specs.Good.{Good}
 use Rattle.sporc_line.specs.Kit.{Kit}
 use Rattle.sporc_line.proofs.Goods.{good_front, last_passes}
-use Rattle.sporc_line.specs.Keys.{key_of}
+use Rattle.sporc_line.specs.Keys.{epoch_key}
 use Rattle.sporc_line.specs.LineModel.{LineModel}
 use Rattle.sporc_client.specs.declared.pending.Pending.TheVariants as items
 use Rattle.sporc_client.specs.Contents.{CanTake}
@@ -240,7 +240,7 @@ can_seal line change members may genesis typed are =
 -- what is sealed, as its parts are found
 pub sealing_same : (c : PlainClient) (chosen : Chosen) (change : MemberChange) (members document : List ℕ) (author stream epoch : ℕ) (old : List ℕ)
     → members ≡ numbers_of (after_change (roster_of c.opening.genesis c.entries) change).members → document ≡ c.opening.genesis.document → author ≡ (me_of c).member → stream ≡ entry_stream (me_of c) chosen.leaf → epoch ≡ epoch_of c.entries
-    → key_of c.opening.genesis c.opening.kit c.entries (epoch_of c.entries) ≡ Some old
+    → epoch_key c.opening.genesis c.opening.kit c.entries (epoch_of c.entries) ≡ Some old
     → let s : Sealing = record { change = change; members = members; document = document; author = author; stream = stream; epoch = epoch; old = old; new = chosen.new_key } in s ≡ sealing_of c chosen change
 sealing_same c chosen change members document author stream epoch old m d a s e k =
     let key : old ≡ current_key c = sym (ap (λ (key : Option (List ℕ)). unwrap_or key []) k) in

@@ -26,7 +26,7 @@ use Rattle.sporc_client.specs.Answers.{has_right, is_out}
 use Rattle.sporc_client.specs.Entries.{Chosen, bytes_made, kind_of}
 use Rattle.sporc_client.specs.PlainClient.{PlainClient, me_of}
 use Rattle.sporc_client.specs.Submissions.{Due, Waiting, Nothing, Drop, Refuse, Sign, answered, change_due, due, due_behind, first_due, item_due, no_pair_key, or_due, submission, submit_checks}
-use Rattle.sporc_client.specs.Allowed.{allows, is_entry, is_made, new_key_in, randomizer_in}
+use Rattle.sporc_client.specs.Allowed.{can_log, is_entry, is_made, new_key_in, randomizer_in}
 use Rattle.sporc_client.specs.Log.{Submit}
 
 -- ---- an item that is due to be signed
@@ -145,8 +145,8 @@ is_signed c bytes random leaf h = go (due c) refl h
     go (Refuse fault) is h = absurd cc
     go (Sign item) is h = (item, is, (bytes_eq-Decides _ bytes).0 h)
 
-pub made_by_submission : (c : PlainClient) (by : ℕ) (bytes : List ℕ) → allows c (Submit by bytes) ≡ true → IsMadeBy c bytes
-unfolding allows
+pub made_by_submission : (c : PlainClient) (by : ℕ) (bytes : List ℕ) → can_log c (Submit by bytes) ≡ true → IsMadeBy c bytes
+unfolding can_log
 made_by_submission c by bytes may = go (entry_of bytes) refl may
   where
     go : (read : Result Entry ℕ) → entry_of bytes ≡ read → is_made c bytes read ≡ true → IsMadeBy c bytes

@@ -10,7 +10,7 @@ use Rattle.sporc_entry.specs.declared.genesis.Genesis.{Genesis}
 use Rattle.sporc_entry.specs.declared.limits.TheConstants.{MAX_EDIT_BODY}
 use Rattle.sporc_entry.specs.Entry.{change_of, entry_of}
 use Rattle.sporc_line.specs.Kit.{Kit}
-use Rattle.sporc_line.specs.Keys.{key_of}
+use Rattle.sporc_line.specs.Keys.{epoch_key}
 use Rattle.sporc_line.specs.Operations.{edit_marks}
 use Rattle.sporc_epoch.specs.Streams.{stream_of}
 use Rattle.sporc_line.specs.Document.{forms_from, forms_of, next_form, text_of}
@@ -18,7 +18,7 @@ use Rattle.sporc_line.specs.Good.{Good}
 use Rattle.sporc_line.proofs.Passes.{Passes}
 use Rattle.sporc_line.proofs.Goods.{good_front, last_passes}
 use Rattle.sporc_line.proofs.MoreForms.{forms_push}
-use Rattle.sporc_delta.proofs.Lengths.{inserted_len-retains}
+use Rattle.sporc_delta.proofs.Lengths.{inserted_len-keep_marks}
 use Rattle.sporc_line.proofs.FormLengths.{change_form, edit_form, edit_over, forms_follow, inserted_len-over, length-text, reached-le}
 use Rattle.sporc_line.proofs.ReadLengths.{body_within, marks_within}
 
@@ -35,9 +35,9 @@ next_within g kit A b e is p = go (change_of e) refl
     go None none =
         let marks = edit_over g kit A (length A + 1) e p none in
         let form : next_form g kit A b ≡ later_over marks.0 (drop e.header.base (forms_of g kit A)) = edit_form g kit A b e marks.0 is none marks.1 in
-        let within = edit_within (key_of g kit A e.header.epoch) b e marks.0 is marks.1 in
+        let within = edit_within (epoch_key g kit A e.header.epoch) b e marks.0 is marks.1 in
         omega (arith, ap inserted_len form, inserted_len-over marks.0 (drop e.header.base (forms_of g kit A)), within)
-    go (Some body) some = omega (arith, ap inserted_len (change_form g kit A b e body is some), inserted_len-retains (length (text_of g kit A)))
+    go (Some body) some = omega (arith, ap inserted_len (change_form g kit A b e body is some), inserted_len-keep_marks (length (text_of g kit A)))
 
 abbrev FewInserted : Genesis → Kit → List (List ℕ) → Type 0
 FewInserted g kit A = Good g kit A → all_inserted (forms_of g kit A) ≤ MAX_EDIT_BODY * length A

@@ -12,8 +12,8 @@ use Rattle.sporc_entry.specs.Version.{version_of}
 use Rattle.sporc_head.specs.declared.refusal.Refusal.{Refusal}
 use Rattle.sporc_head.specs.HeadChecks.{allows as role_allows}
 use Rattle.sporc_head.specs.History.{changes, count_of, epoch_of, hash_of, roster_of}
-use Rattle.sporc_line.specs.Commitments.{commitment_at as commitment}
-use Rattle.sporc_line.specs.Keys.{key_of}
+use Rattle.sporc_line.specs.Commitments.{commitment_after as commitment}
+use Rattle.sporc_line.specs.Keys.{epoch_key}
 use Rattle.sporc_line.specs.Kit.{Kit}
 use Rattle.sporc_line.specs.LineChecks.{first_fault}
 use Rattle.sporc_line.specs.LineStrings.{line_strings}
@@ -67,7 +67,7 @@ module _ (s : Setup) (moves : List Move) where
     pub one_key : (c d : PlainClient) (e : ℕ) → IsClient c → IsClient d → NoCollision c d
         → is_out c ≡ false → is_out d ≡ false → e ≤ epoch_of c.entries → e ≤ epoch_of d.entries
         → commitment s.genesis (changes c.entries) e ≡ commitment s.genesis (changes d.entries) e
-        → reading c key_of e ≡ reading d key_of e
+        → reading c epoch_key e ≡ reading d epoch_key e
     -- clients that accepted one entry agree up to its base
     pub one_base : (c d : PlainClient) (x y : ℕ) (b : List ℕ) (e : Entry) → IsClient c → IsClient d
         → NoCollision c d → StandsBehind x c.entries b e → StandsBehind y d.entries b e

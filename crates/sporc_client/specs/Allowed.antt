@@ -65,18 +65,18 @@ is_drop fault (Refuse refusal) = false
 is_drop fault (Sign item) = false
 
 -- the client answers the event's call with this event
-unfoldable pub allows : PlainClient → Logged → Bool
-allows c (Edit by seen marks) = is_none (edit_fault c seen marks)
-allows c (Change by change) = is_none (change_fault c)
-allows c (Submit by bytes) = is_made c bytes (entry_of bytes)
-allows c (Dropped by fault) = is_drop fault (due c)
-allows c (Accept by bytes) = is_none (accept_fault c (length c.entries + 1) bytes)
-allows c (Discard by) = is_none (discard_fault c)
+unfoldable pub can_log : PlainClient → Logged → Bool
+can_log c (Edit by seen marks) = is_none (edit_fault c seen marks)
+can_log c (Change by change) = is_none (change_fault c)
+can_log c (Submit by bytes) = is_made c bytes (entry_of bytes)
+can_log c (Dropped by fault) = is_drop fault (due c)
+can_log c (Accept by bytes) = is_none (accept_fault c (length c.entries + 1) bytes)
+can_log c (Discard by) = is_none (discard_fault c)
 
 -- so for each event of a log, in turn
-abbrev pub allows_all : PlainClient → List Logged → Bool
-allows_all c [] = true
-allows_all c (event ∷ log) = allows c event && allows_all (step c event) log
+abbrev pub can_log_all : PlainClient → List Logged → Bool
+can_log_all c [] = true
+can_log_all c (event ∷ log) = can_log c event && can_log_all (step c event) log
 
 unfoldable pub is_allowed : Opening → List Logged → Bool
-is_allowed opening log = allows_all (opened opening) log
+is_allowed opening log = can_log_all (opened opening) log

@@ -8,9 +8,9 @@ use Rattle.lms_ots.specs.declared.ots_type.OtsType.TheVariants.{W1, W2, W4, W8}
 use Rattle.lms_tree.specs.declared.lms_type.LmsType.{LmsType}
 use Rattle.lms_tree.specs.declared.lms_type.LmsType.TheVariants.{H5, H10, H15, H20, H25}
 use Rattle.lms_tree.specs.LmsPrivate.{LmsPrivate}
-use Rattle.sporc_delta.specs.Marks.{Mark, Retain, Delete, Insert}
+use Rattle.sporc_delta.specs.Marks.{Mark, Keep, Remove, Insert}
 use Rattle.sporc_member.specs.declared.change.Change.{Change as MemberChange}
-use Rattle.sporc_member.specs.declared.change.Change.TheVariants.{Add, Remove, SetRole, AddDevice, DropDevice, Upgrade}
+use Rattle.sporc_member.specs.declared.change.Change.TheVariants.{Add, Remove as RemoveMember, SetRole, AddDevice, DropDevice, Upgrade}
 use Rattle.sporc_member.specs.declared.change.ChangeFault.{ChangeFault}
 use Rattle.sporc_member.specs.declared.change.ChangeFault.TheVariants as faults
 use Rattle.sporc_member.specs.ChangeFault.{change_fault_code_of}
@@ -70,16 +70,16 @@ private_code =
 -- ---- logs
 
 abbrev pub mark_parts : Mark → ℕ × ℕ
-mark_parts Retain = (0, 0)
-mark_parts Delete = (1, 0)
+mark_parts Keep = (0, 0)
+mark_parts Remove = (1, 0)
 mark_parts (Insert c) = (2, c)
 
 abbrev pub mark_of_parts : ℕ × ℕ → Mark
-mark_of_parts p = if p.0 == 0 then Retain else (if p.0 == 1 then Delete else Insert p.1)
+mark_of_parts p = if p.0 == 0 then Keep else (if p.0 == 1 then Remove else Insert p.1)
 
 pub mark_again : (m : Mark) → mark_of_parts (mark_parts m) ≡ m
-mark_again Retain = refl
-mark_again Delete = refl
+mark_again Keep = refl
+mark_again Remove = refl
 mark_again (Insert c) = refl
 
 abbrev pub mark_code : Coded Mark
@@ -90,7 +90,7 @@ ChangeParts = ℕ × (ℕ × (ℕ × List ℕ))
 
 abbrev pub change_parts : MemberChange → ChangeParts
 change_parts (Add member role key) = (0, (member, (role_code_of role, key)))
-change_parts (Remove member) = (1, (member, (0, [])))
+change_parts (RemoveMember member) = (1, (member, (0, [])))
 change_parts (SetRole member role) = (2, (member, (role_code_of role, [])))
 change_parts (AddDevice member device key) = (3, (member, (device, key)))
 change_parts (DropDevice member device) = (4, (member, (device, [])))
@@ -99,14 +99,14 @@ change_parts Upgrade = (5, (0, (0, [])))
 abbrev pub change_of_parts : ChangeParts → MemberChange
 change_of_parts p =
     if p.0 == 0 then Add p.1.0 (role_of_code p.1.1.0) p.1.1.1
-    else (if p.0 == 1 then Remove p.1.0
+    else (if p.0 == 1 then RemoveMember p.1.0
     else (if p.0 == 2 then SetRole p.1.0 (role_of_code p.1.1.0)
     else (if p.0 == 3 then AddDevice p.1.0 p.1.1.0 p.1.1.1
     else (if p.0 == 4 then DropDevice p.1.0 p.1.1.0 else Upgrade))))
 
 pub change_again : (c : MemberChange) → change_of_parts (change_parts c) ≡ c
 change_again (Add member role key) = ap (λ r. Add member r key) (role_again role)
-change_again (Remove member) = refl
+change_again (RemoveMember member) = refl
 change_again (SetRole member role) = ap (SetRole member) (role_again role)
 change_again (AddDevice member device key) = refl
 change_again (DropDevice member device) = refl
@@ -151,12 +151,12 @@ abbrev pub LoggedParts : Type 0
 LoggedParts = ℕ × (ℕ × (ℕ × (List Mark × (MemberChange × (ChangeFault × List ℕ)))))
 
 abbrev pub logged_parts : Logged → LoggedParts
-logged_parts (Edit by seen marks) = (0, (by, (seen, (marks, (Remove 0, (faults.NumberUsed, []))))))
+logged_parts (Edit by seen marks) = (0, (by, (seen, (marks, (RemoveMember 0, (faults.NumberUsed, []))))))
 logged_parts (Change by change) = (1, (by, (0, ([], (change, (faults.NumberUsed, []))))))
-logged_parts (Submit by bytes) = (2, (by, (0, ([], (Remove 0, (faults.NumberUsed, bytes))))))
-logged_parts (Dropped by fault) = (3, (by, (0, ([], (Remove 0, (fault, []))))))
-logged_parts (Accept by bytes) = (4, (by, (0, ([], (Remove 0, (faults.NumberUsed, bytes))))))
-logged_parts (Discard by) = (5, (by, (0, ([], (Remove 0, (faults.NumberUsed, []))))))
+logged_parts (Submit by bytes) = (2, (by, (0, ([], (RemoveMember 0, (faults.NumberUsed, bytes))))))
+logged_parts (Dropped by fault) = (3, (by, (0, ([], (RemoveMember 0, (fault, []))))))
+logged_parts (Accept by bytes) = (4, (by, (0, ([], (RemoveMember 0, (faults.NumberUsed, bytes))))))
+logged_parts (Discard by) = (5, (by, (0, ([], (RemoveMember 0, (faults.NumberUsed, []))))))
 
 abbrev pub logged_of_parts : LoggedParts → Logged
 logged_of_parts p =

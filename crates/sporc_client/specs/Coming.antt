@@ -1,6 +1,6 @@
 -- What an entry that comes does to a client's own part.
 use Rattle.std.specs.Prelude.{ℕ, Bool, List, drop, Option, None, if◌then◌else◌, ⊤}
-use Rattle.sporc_delta.specs.Marks.{Mark, retains}
+use Rattle.sporc_delta.specs.Marks.{Mark, keep_marks}
 use Rattle.sporc_client.specs.declared.coming.Coming.{Coming}
 use Rattle.sporc_client.specs.declared.coming.Coming.TheVariants as comings
 use Rattle.sporc_client.specs.declared.pending.Pending.{Pending}
@@ -23,8 +23,8 @@ coming_of on_its_way change own form pending =
 -- its shown delta, if the shown text has this length
 abbrev pub shown_form : (on_its_way change : Bool) → ℕ → List Mark → List Pending → List Mark
 shown_form on_its_way change len form pending =
-    if on_its_way then retains len
-    else if change then retains len
+    if on_its_way then keep_marks len
+    else if change then keep_marks len
     else beyond form pending
 
 -- the pending items afterwards

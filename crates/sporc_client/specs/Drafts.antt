@@ -24,7 +24,7 @@ pub record IsDraft (n : ℕ) (entry : Entry) (draft : Draft) : Type 0 where
   pub event : draft.event.items ≡ prefix_bytes n (signed_string entry)
   pub room : HasRoom n draft
 
--- the same bytes, three times
+-- these bytes, three times
 pub record AreCopies (bytes : List ℕ) (made : Made) : Type 0 where
   pub answer : made.answer ≡ bytes
   pub flight : made.flight ≡ bytes

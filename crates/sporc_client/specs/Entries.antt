@@ -13,7 +13,7 @@ use Rattle.sporc_entry.specs.Version.{version_of}
 use Rattle.sporc_epoch.specs.Sealing.{Sealing, body_sealed}
 use Rattle.sporc_epoch.specs.Streams.{entry_stream}
 use Rattle.sporc_head.specs.History.{count_of, epoch_of, hash_of, roster_of}
-use Rattle.sporc_line.specs.Keys.{key_of}
+use Rattle.sporc_line.specs.Keys.{epoch_key}
 use Rattle.sporc_client.specs.declared.pending.Pending.{Pending}
 use Rattle.sporc_client.specs.declared.pending.Pending.TheVariants.{Edit, Change}
 use Rattle.sporc_client.specs.PlainClient.{PlainClient, me_of}
@@ -26,7 +26,7 @@ pub record Chosen : Type 0 where
 
 -- the key of the history's epoch
 abbrev pub current_key : PlainClient → List ℕ
-current_key c = unwrap_or (key_of c.opening.genesis c.opening.kit c.entries (epoch_of c.entries)) []
+current_key c = unwrap_or (epoch_key c.opening.genesis c.opening.kit c.entries (epoch_of c.entries)) []
 
 -- 1 for an edit, 2 for a change
 abbrev pub kind_of : Pending → ℕ

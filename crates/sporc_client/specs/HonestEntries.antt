@@ -11,7 +11,7 @@ use Rattle.sporc_epoch.specs.Streams.{stream_of}
 use Rattle.sporc_head.specs.declared.limits.TheConstants.{MAX_ENTRIES}
 use Rattle.sporc_head.specs.History.{CommittedChange, change_in, epoch_of, is_by, is_removed, roster_of}
 use Rattle.sporc_client.specs.Agree.{NoCollision}
-use Rattle.sporc_client.specs.Allowed.{allows, new_key_of}
+use Rattle.sporc_client.specs.Allowed.{can_log, new_key_of}
 use Rattle.sporc_client.specs.Log.{Submit}
 use Rattle.sporc_client.specs.PlainClient.{PlainClient, me_of}
 
@@ -21,7 +21,7 @@ HasOwnKey c = key_of (roster_of c.opening.genesis c.entries) (me_of c) ≡ Some 
 
 -- a client submits an entry under its own key
 pub record SubmitsUnderOwnKey (c : PlainClient) (by : ℕ) (bytes : List ℕ) : Type 0 where
-  pub allowed : allows c (Submit by bytes) ≡ true
+  pub allowed : can_log c (Submit by bytes) ≡ true
   pub typed : IsBytes bytes
   pub key : HasOwnKey c
 

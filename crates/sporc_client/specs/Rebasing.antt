@@ -23,7 +23,7 @@ AreStated text [] = ⊤
 AreStated text (Edit marks ∷ items) = (base_len marks ≡ length text) × AreStated (apply marks text) items
 AreStated text (Change change ∷ items) = AreStated text items
 
--- the same by lengths alone, over a text of this length
+-- each edit is stated on a text as long as the one after those before it, from a text of this length on
 abbrev pub AreOver : ℕ → List Pending → Type 0
 AreOver len [] = ⊤
 AreOver len (Edit marks ∷ items) = (base_len marks ≡ len) × AreOver (out_len marks) items

@@ -15,7 +15,7 @@ use Rattle.sporc_client.specs.Log.{Logged, Submit}
 use Rattle.sporc_client.specs.PlainClient.{Opening, PlainClient, opened}
 use Rattle.sporc_client.specs.Step.{accepted, log_of_entries, replay, step}
 use Rattle.sporc_client.specs.Answers.{journal_has_room, refusal_of}
-use Rattle.sporc_client.specs.Allowed.{allows}
+use Rattle.sporc_client.specs.Allowed.{can_log}
 
 -- a document, the devices of members that run this program, each's pairwise keys and private key
 pub record Setup : Type 0 where
@@ -92,7 +92,7 @@ after_all s w moves = fold (after s) w moves
 -- a move may happen
 abbrev pub May : Setup → World → Move → Type 0
 May s w (Open who r) = Contains s.devices who × Meets s.genesis 0 (get r 0) s.genesis.commitment
-May s w (Happen who event) = IsSomeAnd (w.clients who) (λ c. allows c event ≡ true)
+May s w (Happen who event) = IsSomeAnd (w.clients who) (λ c. can_log c event ≡ true)
 May s w (Give who position bytes) = IsSomeAnd (w.clients who) (λ c. ⊤)
 May s w (Restart who k) = IsSomeAnd (w.clients who) (λ c. k ≤ length c.entries)
 

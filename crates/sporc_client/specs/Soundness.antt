@@ -7,7 +7,7 @@ use Rattle.sporc_entry.specs.declared.change.ChangeBody.{ChangeBody}
 use Rattle.sporc_entry.specs.declared.entry.Entry.{Entry}
 use Rattle.sporc_entry.specs.Entry.{change_of, entry_of}
 use Rattle.sporc_head.specs.History.{epoch_of}
-use Rattle.sporc_line.specs.Keys.{key_of}
+use Rattle.sporc_line.specs.Keys.{epoch_key}
 use Rattle.sporc_line.specs.Operations.{edit_marks}
 use Rattle.sporc_line.specs.Document.{forms_of, text_after}
 use Rattle.sporc_line.specs.Good.{Good}
@@ -20,7 +20,7 @@ use Rattle.sporc_client.specs.Rebasing.{AreStated}
 pub record IsEditOf (c : PlainClient) (e : Entry) (marks : List Mark) : Type 0 where
   pub no_change : change_of e ≡ None
   pub held : List Mark
-  pub reads : edit_marks (key_of c.opening.genesis c.opening.kit c.entries e.header.epoch) e ≡ Some held
+  pub reads : edit_marks (epoch_key c.opening.genesis c.opening.kit c.entries e.header.epoch) e ≡ Some held
   pub restated : later_over held (drop e.header.base (forms_of c.opening.genesis c.opening.kit c.entries)) ≡ marks
 
 -- an entry makes this change

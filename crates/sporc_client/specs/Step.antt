@@ -2,7 +2,7 @@
 use Rattle.std.specs.Prelude.{ℕ, ◌++◌, List, [], ◌∷◌, length, drop, map, fold, Bool, false, Option, None, Some, if◌then◌else◌}
 use Rattle.std.specs.Str.{bytes_eq}
 use Rattle.std.specs.Option.{is_some}
-use Rattle.sporc_delta.specs.Marks.{Mark, replacement, retains}
+use Rattle.sporc_delta.specs.Marks.{Mark, replacement, keep_marks}
 use Rattle.sporc_suffix.specs.Forms.{later_over}
 use Rattle.sporc_head.specs.History.{change_in, is_by}
 use Rattle.sporc_line.specs.Document.{next_form}
@@ -17,7 +17,7 @@ form_coming c bytes = next_form c.opening.genesis c.opening.kit c.entries bytes
 
 -- the delta that keeps the shown text
 abbrev pub keeps : PlainClient → List Mark
-keeps c = retains (length (shown_of c))
+keeps c = keep_marks (length (shown_of c))
 
 abbrev pub is_same_as : Option (List ℕ) → List ℕ → Bool
 is_same_as None bytes = false

@@ -131,7 +131,7 @@ impl<D: LeafDisk> Client<D> {
         ensures since_open { self.now.leaves.next_at_open ≤ first_leaf_of self.now }
         ensures taken { AreTaken (disk_images (D.told self.now.leaves.disk)) self.now.leaves.next_at_open self.now.leaves.next }
         ensures passed { ArePassed (disk_images (D.told self.now.leaves.disk)) self.now.leaves.next }
-        ensures few { length result.now ≤ MAX_EVENTS }
+        ensures within { length result.now ≤ MAX_EVENTS }
     {
         let _taken = self.signer.next_leaf();
         self.own.journal()
@@ -205,7 +205,7 @@ impl<D: LeafDisk> Client<D> {
     /// How many items are pending.
     pub fn pending(&self) -> u32
         ensures value { result ≡ length (state_of self.now).pending }
-        ensures few { result ≤ MAX_PENDING }
+        ensures within { result ≤ MAX_PENDING }
     {
         self.own.pending().len() as u32
     }
@@ -335,11 +335,11 @@ fn check_edit(line: &Line, own: &Workspace, seen: u64, delta: &Delta) -> Result<
 
 // Records an edit of the text that was shown after `seen` events, restated on the text shown now.
 fn record_edit(own: &mut Workspace, by: u32, seen: u32, delta: &Delta) -> Result<(), Memory>
-    requires within { seen ≤ length own.old.shown }
+    requires in_bounds { seen ≤ length own.old.shown }
     requires base { base_len delta.now ≡ reached 0 (take seen own.old.shown) }
     requires limit { base_len delta.now + inserted_len delta.now + all_inserted (drop seen own.old.shown) ≤ MAX_TEXT_LEN }
     requires restated { base_len (later_over delta.now (drop seen own.old.shown)) ≡ reached 0 own.old.shown }
-    requires room { length own.old.shown < MAX_EVENTS }
+    requires events_limit { length own.old.shown < MAX_EVENTS }
     ensures pending { OnOk result (own.new.pending ≡ own.old.pending ++ Pending.Edit (later_over delta.now (drop seen own.old.shown)) ∷ []) }
     ensures flight { own.new.flight ≡ own.old.flight }
     ensures shown { OnOk result (own.new.shown ≡ own.old.shown ++ later_over delta.now (drop seen own.old.shown) ∷ []) }

@@ -41,7 +41,7 @@ pub(crate) fn settle(
     bytes: &[u8],
 ) -> Result<(Coming, Delta), Memory>
     requires follow { Follow 0 own.now.shown }
-    requires short { length (text_after own.now.shown) ≤ MAX_COUNT }
+    requires text_limit { length (text_after own.now.shown) ≤ MAX_COUNT }
     requires over { AreOver (base_len prepared.now.form) own.now.pending }
     requires limit { base_len prepared.now.form + inserted_len prepared.now.form + inserted_by own.now.pending ≤ MAX_TEXT_LEN }
     ensures coming { IfOk result (λ both. effect both.0 own.now.pending ≡ coming_of (is_same_as own.now.flight bytes.now) (is_some (change_of prepared.now.checked.entry)) (same_device (author_device prepared.now.checked.entry.header) me) prepared.now.form own.now.pending) }

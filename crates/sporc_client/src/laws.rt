@@ -7,7 +7,7 @@ ghost use Rattle.sporc_member.specs.declared.device.Device.{Device};
 ghost use Rattle.sporc_epoch.specs.Keys.{Keys};
 ghost use Rattle.sporc_epoch.specs.Streams.{entry_stream};
 ghost use Rattle.sporc_line.specs.Good.{Meets};
-ghost use Rattle.sporc_client.specs.Allowed.{allows, is_allowed};
+ghost use Rattle.sporc_client.specs.Allowed.{can_log, is_allowed};
 ghost use Rattle.sporc_client.specs.Answers.{refusal_of};
 ghost use Rattle.sporc_client.specs.Calls.{LeadTo, events_of};
 ghost use Rattle.sporc_client.specs.ClientModel.{Rise, leaves_of};
@@ -77,7 +77,7 @@ pub fn calls_are_moves()
 /// would answer that entry: leaf and random bytes are read off the entry.
 pub fn allowed_submissions_can_be_made()
     ensures made { (s : Setup) (moves : List Move) (n by : ℕ) (who : Device) (c : PlainClient) (entry : List ℕ) → IsTypedRun s moves → IsAt s moves n who c
-        → IsBytes entry → (allows c (Submit by entry) ≡ true) ↔ CanMake c entry }
+        → IsBytes entry → (can_log c (Submit by entry) ≡ true) ↔ CanMake c entry }
 {}
 
 /// No two entries that a client's journal shows as submitted carry one leaf, and so no stream number masks the bodies of two.

@@ -1,7 +1,7 @@
 //! Another's form and the pending items, passing each other.
 
 ghost use Rattle.std.specs.Prelude.{◌≡◌, ◌+◌, ◌≤◌, ◌∷◌, [], IfOk, OnOk};
-ghost use Rattle.sporc_delta.specs.Marks.{base_len, inserted_len, out_len, retains};
+ghost use Rattle.sporc_delta.specs.Marks.{base_len, inserted_len, out_len, keep_marks};
 ghost use Rattle.sporc_delta.specs.declared.limits.TheConstants.{MAX_COUNT, MAX_TEXT_LEN};
 ghost use Rattle.sporc_client.specs.Passing.{CanAllBecome, ItemCanBecome, all_became, item_became};
 ghost use Rattle.sporc_client.specs.Rebasing.{AreOver, beyond, in_one, inserted_by, rebased};
@@ -84,9 +84,9 @@ fn put_one(passed: Option<Passed>, item: &mut Pending)
 
 /// The pending edits in one delta, over a text of `len` characters.
 pub(crate) fn in_one(alloc: Global, len: u64, items: &[Pending]) -> Result<Delta, Memory>
-    requires short { len ≤ MAX_COUNT }
+    requires limit { len ≤ MAX_COUNT }
     requires over { AreOver len items.now }
-    ensures value { IfOk result (λ d. d ≡ in_one (retains len) items.now) }
+    ensures value { IfOk result (λ d. d ≡ in_one (keep_marks len) items.now) }
 {
     let mut all = Delta::keep_all(alloc, len)?;
     for item in items {

@@ -1,7 +1,7 @@
 //! A client's own part.
 
 ghost use Rattle.std.specs.Prelude.{◌≡◌, ◌+◌, ◌≤◌, ◌<◌, ◌∷◌, ◌++◌, [], drop, take, length, None, Some, option_copied, IfOk, OnOk};
-ghost use Rattle.sporc_delta.specs.Marks.{base_len, inserted_len, retains};
+ghost use Rattle.sporc_delta.specs.Marks.{base_len, inserted_len, keep_marks};
 ghost use Rattle.sporc_delta.specs.declared.limits.TheConstants.{MAX_COUNT, MAX_TEXT_LEN};
 ghost use Rattle.sporc_suffix.specs.Forms.{Follow, all_inserted, later_over, reached};
 ghost use Rattle.sporc_suffix.specs.Runs.{IsReadyAt};
@@ -93,7 +93,7 @@ impl Workspace {
     pub(crate) fn journal(&self) -> &[Event]
         ensures value { result.now ≡ self.now.journal }
         ensures each { length self.now.shown ≡ length result.now }
-        ensures few { length result.now ≤ MAX_EVENTS }
+        ensures within { length result.now ≤ MAX_EVENTS }
     {
         self.journal.as_slice()
     }
@@ -109,7 +109,7 @@ impl Workspace {
     /// The length of the text shown after so many events.
     #[tactic(auto, using(crate::proofs::Shown::length_last))]
     pub(crate) fn shown_len_at(&self, events: u32) -> u64
-        requires within { events ≤ length self.now.shown }
+        requires in_bounds { events ≤ length self.now.shown }
         requires follow { Follow 0 self.now.shown }
         ensures value { result ≡ length (text_after (take events self.now.shown)) }
     {
@@ -121,7 +121,7 @@ impl Workspace {
 
     /// A delta that is stated on the text shown after `seen` events, restated on the text shown now.
     pub(crate) fn restated(&self, delta: &Delta, seen: u32) -> Result<Delta, Memory>
-        requires within { seen ≤ length self.now.shown }
+        requires in_bounds { seen ≤ length self.now.shown }
         requires base { base_len delta.now ≡ reached 0 (take seen self.now.shown) }
         requires limit { base_len delta.now + inserted_len delta.now + all_inserted (drop seen self.now.shown) ≤ MAX_TEXT_LEN }
         ensures value { IfOk result (λ d. d ≡ later_over delta.now (drop seen self.now.shown)) }
@@ -134,7 +134,7 @@ impl Workspace {
         requires base { base_len form ≡ reached 0 self.old.shown }
         ensures ok { IfOk result (λ ready. ready.form ≡ form) }
         ensures made { IfOk result (IsReadyAt 0 self.new.shown) }
-        ensures spare { OnOk result (0 < self.new.spare) }
+        ensures room { OnOk result (0 < self.new.spare) }
         ensures pending { self.new.pending ≡ self.old.pending }
         ensures flight { self.new.flight ≡ self.old.flight }
         ensures shown { self.new.shown ≡ self.old.shown }
@@ -151,8 +151,8 @@ impl Workspace {
     /// Appends an event with the shown delta that was made ready.
     pub(crate) fn record_event(&mut self, event: Event, ready: ReadyForm)
         requires made { IsReadyAt 0 self.old.shown ready }
-        requires room { length self.old.shown < MAX_EVENTS }
-        requires spare { 0 < self.old.spare }
+        requires limit { length self.old.shown < MAX_EVENTS }
+        requires room { 0 < self.old.spare }
         ensures pending { self.new.pending ≡ self.old.pending }
         ensures flight { self.new.flight ≡ self.old.flight }
         ensures shown { self.new.shown ≡ self.old.shown ++ ready.form ∷ [] }
@@ -165,8 +165,8 @@ impl Workspace {
     /// Appends an event with the shown delta that was made ready, and an item.
     pub(crate) fn record_item(&mut self, event: Event, ready: ReadyForm, item: Pending)
         requires made { IsReadyAt 0 self.old.shown ready }
-        requires room { length self.old.shown < MAX_EVENTS }
-        requires spare { 0 < self.old.spare }
+        requires limit { length self.old.shown < MAX_EVENTS }
+        requires room { 0 < self.old.spare }
         ensures pending { self.new.pending ≡ self.old.pending ++ item ∷ [] }
         ensures flight { self.new.flight ≡ self.old.flight }
         ensures shown { self.new.shown ≡ self.old.shown ++ ready.form ∷ [] }
@@ -180,8 +180,8 @@ impl Workspace {
     /// Does what an entry that comes does, and appends its event with the shown delta that was made ready.
     pub(crate) fn record_coming(&mut self, event: Event, ready: ReadyForm, coming: Coming)
         requires made { IsReadyAt 0 self.old.shown ready }
-        requires room { length self.old.shown < MAX_EVENTS }
-        requires spare { 0 < self.old.spare }
+        requires limit { length self.old.shown < MAX_EVENTS }
+        requires room { 0 < self.old.spare }
         requires fits { CanCome coming self.old.pending }
         ensures pending { self.new.pending ≡ pending_after (effect coming self.old.pending) self.old.pending }
         ensures flight { self.new.flight ≡ flight_after (effect coming self.old.pending) self.old.flight }
@@ -219,8 +219,8 @@ impl Workspace {
     /// Appends an event with the shown delta that was made ready, and puts an entry on its way.
     pub(crate) fn record_submission(&mut self, event: Event, ready: ReadyForm, entry: Bytes)
         requires made { IsReadyAt 0 self.old.shown ready }
-        requires room { length self.old.shown < MAX_EVENTS }
-        requires spare { 0 < self.old.spare }
+        requires limit { length self.old.shown < MAX_EVENTS }
+        requires room { 0 < self.old.spare }
         ensures pending { self.new.pending ≡ self.old.pending }
         ensures flight { self.new.flight ≡ Some entry }
         ensures shown { self.new.shown ≡ self.old.shown ++ ready.form ∷ [] }
@@ -233,8 +233,8 @@ impl Workspace {
     /// Appends an event with the shown delta that was made ready, and takes the first item off, if there is one.
     pub(crate) fn record_drop(&mut self, event: Event, ready: ReadyForm)
         requires made { IsReadyAt 0 self.old.shown ready }
-        requires room { length self.old.shown < MAX_EVENTS }
-        requires spare { 0 < self.old.spare }
+        requires limit { length self.old.shown < MAX_EVENTS }
+        requires room { 0 < self.old.spare }
         ensures pending { self.new.pending ≡ drop 1 self.old.pending }
         ensures flight { self.new.flight ≡ self.old.flight }
         ensures shown { self.new.shown ≡ self.old.shown ++ ready.form ∷ [] }
@@ -247,8 +247,8 @@ impl Workspace {
     /// Gives all of it up, and appends the event of that with the shown delta that was made ready.
     pub(crate) fn record_discard(&mut self, event: Event, ready: ReadyForm)
         requires made { IsReadyAt 0 self.old.shown ready }
-        requires room { length self.old.shown < MAX_EVENTS }
-        requires spare { 0 < self.old.spare }
+        requires limit { length self.old.shown < MAX_EVENTS }
+        requires room { 0 < self.old.spare }
         ensures pending { self.new.pending ≡ [] }
         ensures flight { self.new.flight ≡ None }
         ensures shown { self.new.shown ≡ self.old.shown ++ ready.form ∷ [] }
@@ -263,10 +263,10 @@ impl Workspace {
 /// Takes the memory of one more event that keeps the shown text, and of one more pending item.
 pub(crate) fn ready_keep(alloc: Global, own: &mut Workspace) -> Result<ReadyForm, Memory>
     requires follow { Follow 0 own.old.shown }
-    requires short { length (text_after own.old.shown) ≤ MAX_COUNT }
-    ensures ok { IfOk result (λ ready. ready.form ≡ retains (length (text_after own.old.shown))) }
+    requires limit { length (text_after own.old.shown) ≤ MAX_COUNT }
+    ensures ok { IfOk result (λ ready. ready.form ≡ keep_marks (length (text_after own.old.shown))) }
     ensures made { IfOk result (IsReadyAt 0 own.new.shown) }
-    ensures spare { OnOk result (0 < own.new.spare) }
+    ensures room { OnOk result (0 < own.new.spare) }
     ensures unchanged { SameOwn own.old own.new }
 {
     let keep = Delta::keep_all(alloc, own.shown_len())?;
@@ -283,8 +283,8 @@ fn behind<L: Ledger>(
 ) -> Result<Delta, Memory>
     requires name { blank.name ≡ L.name }
     requires parts { blank.parts ≡ L.parts }
-    requires some { 0 < blank.parts }
-    requires within { seen ≤ length forms.now.forms }
+    requires positive { 0 < blank.parts }
+    requires in_bounds { seen ≤ length forms.now.forms }
     requires base { base_len delta.now ≡ reached forms.now.base (take seen forms.now.forms) }
     requires limit { base_len delta.now + inserted_len delta.now + all_inserted (drop seen forms.now.forms) ≤ MAX_TEXT_LEN }
     ensures value { IfOk result (λ d. d ≡ later_over delta.now (drop seen forms.now.forms)) }

@@ -9,7 +9,7 @@ use Rattle.sporc_wire.specs.declared.to_client.ToClient.{ToClient}
 use Rattle.sporc_shared.specs.declared.fault.SessionFault.{SessionFault}
 use Rattle.sporc_shared.specs.declared.fault.SessionFault.TheVariants as faults
 use Rattle.sporc_shared.specs.Acts.{Act}
-use Rattle.sporc_shared.specs.Courses.{Course, Stand}
+use Rattle.sporc_shared.specs.Traces.{Trace, Stand}
 use Rattle.sporc_shared.specs.Endings.{Cause}
 use Rattle.sporc_shared.specs.Items.{Item}
 use Rattle.sporc_shared.specs.Lines.{LineCause}
@@ -34,20 +34,20 @@ pub record AreKept (a b : Stand) : Type 0 where
   pub link : a.link.faults ≤ b.link.faults
   pub chance : a.chance_faults ≤ b.chance_faults
 
-kept : (a b : Stand) (acts : List Act) (written : List ℕ) (answers : List ToClient) (words : List (List ℕ)) → Course a b acts written answers words → AreKept a b
+kept : (a b : Stand) (acts : List Act) (written : List ℕ) (answers : List ToClient) (words : List (List ℕ)) → Trace a b acts written answers words → AreKept a b
 kept a b acts written answers words c = record { link = c.link.count; chance = c.chance }
 
 kept_then : (a b c : Stand) → AreKept a b → AreKept b c → AreKept a c
 kept_then a b c first then = record { link = omega (arith, first.link, then.link); chance = omega (arith, first.chance, then.chance) }
 
 first_kept : (a m : Stand) (rounds : ℕ) (receiver : Option SessionFault) → FirstPhase a m rounds receiver → AreKept a m
-first_kept a m rounds None d = kept a m d.acts [] [] [] d.course
-first_kept a m rounds (Some f) s = kept a m s.acts s.written s.answers s.words s.course
+first_kept a m rounds None d = kept a m d.acts [] [] [] d.trace
+first_kept a m rounds (Some f) s = kept a m s.acts s.written s.answers s.words s.trace
 
 second_kept : (m b : Stand) (rounds until : ℕ) (result : Result ⊤ SessionFault) → SecondPhase m b rounds until result → AreKept m b
-second_kept m b rounds until result (settles few r is) = kept_then m r.between b (kept m r.between r.did.acts [] [] [] r.did.course) (kept r.between b _ [] [] [] r.last)
-second_kept m b rounds until result (doesnt_settle r is) = kept_then m r.between b (kept m r.between r.did.acts [] [] [] r.did.course) (kept r.between b _ [] [] [] r.last)
-second_kept m b rounds until result (stops s) = kept m b s.acts s.written s.answers s.words s.course
+second_kept m b rounds until result (settles few r is) = kept_then m r.between b (kept m r.between r.did.acts [] [] [] r.did.trace) (kept r.between b _ [] [] [] r.last)
+second_kept m b rounds until result (doesnt_settle r is) = kept_then m r.between b (kept m r.between r.did.acts [] [] [] r.did.trace) (kept r.between b _ [] [] [] r.last)
+second_kept m b rounds until result (stops s) = kept m b s.acts s.written s.answers s.words s.trace
 
 ends_kept : (m b : Stand) (rounds until : ℕ) (result : Result ⊤ SessionFault) (fault : Option SessionFault) → SessionEnds m b rounds until fault result → AreKept m b
 ends_kept m b rounds until result (Some f) e = subst (λ (s : Stand). AreKept m s) (sym e.1) (record { link = omega arith; chance = omega arith })
@@ -110,7 +110,7 @@ module _ (a b : Stand) (rounds until : ℕ) (scripts : List (List EditorLine)) (
   pub session_rose : RoseIfFailed (counts a b) result
   session_rose = by_receiver s.receiver refl s.first s.ends
 
--- the same of a net that took the link back: the link's count was 0 as it came
+-- the count of a net rose that took such a link back: the link's count was 0 as it came
 pub rose_at_net : (first last old new : ℕ) (chance chance' : ℕ) (result : Result ⊤ SessionFault) → first ≡ 0 → count_of_both old last ≤ new
     → RoseIfFailed (record { links_before = first; links_after = last; chance_before = chance; chance_after = chance' }) result
     → RoseIfFailed (record { links_before = old; links_after = new; chance_before = chance; chance_after = chance' }) result

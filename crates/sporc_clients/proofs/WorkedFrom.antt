@@ -10,13 +10,13 @@ use Rattle.sporc_client.specs.Step.{log_of_entries}
 use Rattle.sporc_shared.specs.declared.fault.SessionFault.{SessionFault}
 use Rattle.sporc_shared.specs.Items.{Past, past_of}
 use Rattle.sporc_clients.specs.Nets.{IsWork}
-use Rattle.sporc_clients.specs.Sessions.{Plan}
+use Rattle.sporc_clients.specs.Sessions.{Wanted}
 
-pub work_from : (plan : Plan) (address : List ℕ) (before from after : Past) (old new : NetTold) (chance chance' : ChanceTold)
-    (result : Result ⊤ SessionFault) → before ≡ from → IsWork plan address before after old new chance chance' result
-    → IsWork plan address from after old new chance chance' result
-work_from plan address before from after old new chance chance' result same work =
-    subst (λ (p : Past). IsWork plan address p after old new chance chance' result) same work
+pub work_from : (wanted : Wanted) (address : List ℕ) (before from after : Past) (old new : NetTold) (chance chance' : ChanceTold)
+    (result : Result ⊤ SessionFault) → before ≡ from → IsWork wanted address before after old new chance chance' result
+    → IsWork wanted address from after old new chance chance' result
+work_from wanted address before from after old new chance chance' result same work =
+    subst (λ (p : Past). IsWork wanted address p after old new chance chance' result) same work
 
 -- a log that was resumed has no submissions, so the next leaf is its first
 no_leaves : (entries : List (List ℕ)) → leaves_of (log_of_entries entries) ≡ []

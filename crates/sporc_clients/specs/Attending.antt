@@ -13,7 +13,7 @@ use Rattle.sporc_files.specs.Faults.{AnswersUnlessOutside}
 use Rattle.sporc_clients.specs.Nets.{IsWork, NotBegun}
 use Rattle.sporc_clients.specs.Opening.{Begin, NotOpened, Opens}
 use Rattle.sporc_clients.specs.Resuming.{entries_by, whole_before}
-use Rattle.sporc_clients.specs.Sessions.{Plan}
+use Rattle.sporc_clients.specs.Sessions.{Wanted}
 
 -- how a member signs: by its private key, from this leaf on
 pub record Signs : Type 0 where
@@ -57,11 +57,11 @@ module _ (begin : Begin) (saved : Option (List ℕ)) (old : NetTold) where
 
   module _ (new : NetTold) where
     -- a session led the member's client from its line to another past
-    pub record IsAttended (plan : Plan) (signs : Signs) (after : Past) (chance chance' : ChanceTold) (result : Result ⊤ SessionFault) : Type 0 where
+    pub record IsAttended (wanted : Wanted) (signs : Signs) (after : Past) (chance chance' : ChanceTold) (result : Result ⊤ SessionFault) : Type 0 where
       pub between : NetTold
       pub line : LineModel
       pub resumed : IsResumed between line
-      pub work : IsWork plan begin.address (past_with line signs) after between new chance chance' result
+      pub work : IsWork wanted begin.address (past_with line signs) after between new chance chance' result
 
     -- why none began
     pub data NotAttended (before after : ℕ) (fault : Fault) : Type 0 where

@@ -9,7 +9,7 @@ use Rattle.sporc_outside.specs.Nets.{NetTold}
 use Rattle.sporc_outside.specs.Streams.{StreamTold}
 use Rattle.sporc_shared.specs.declared.fault.SessionFault.{SessionFault}
 use Rattle.sporc_shared.specs.Items.{Past}
-use Rattle.sporc_clients.specs.Sessions.{IsSessionOf, Plan, link_told}
+use Rattle.sporc_clients.specs.Sessions.{IsSessionOf, Wanted, link_told}
 
 -- told addresses asked for grew by this one alone, and by it so often at most
 abbrev pub AsksAtMost : ℕ → Option (List (List ℕ)) → Option (List (List ℕ)) → List ℕ → Type 0
@@ -51,10 +51,10 @@ pub data NotBegun (address : List ℕ) (old new : NetTold) (before after : ℕ) 
   out_of_memory : ShutsUnused old new address → fault ≡ faults.Memory → NotBegun address old new before after fault
 
 -- a session over a link to an address
-pub record IsWork (plan : Plan) (address : List ℕ) (before after : Past) (old new : NetTold) (chance chance' : ChanceTold)
+pub record IsWork (wanted : Wanted) (address : List ℕ) (before after : Past) (old new : NetTold) (chance chance' : ChanceTold)
     (result : Result ⊤ SessionFault) : Type 0 where
   pub first : StreamTold
   pub last : StreamTold
   pub uses : UsesLink old new address first last
-  pub session : IsSessionOf plan before after (record { link = link_told first; chance = chance })
+  pub session : IsSessionOf wanted before after (record { link = link_told first; chance = chance })
       (record { link = link_told last; chance = chance' }) result

@@ -23,7 +23,7 @@ use Rattle.sporc_clients.specs.Attending.{IsAttended, NotAttended, Signs}
 use Rattle.sporc_clients.specs.Counts.{CountsAround, RoseIfFailed, counts_around}
 use Rattle.sporc_clients.specs.Concluding.{FilesUse, LeavesAreTaken, PrintOutcome, SaveOutcome}
 use Rattle.sporc_clients.specs.Opening.{Begin}
-use Rattle.sporc_clients.specs.Sessions.{Plan}
+use Rattle.sporc_clients.specs.Sessions.{Wanted}
 use Rattle.sporc_clients.specs.declared.member_files.MemberFiles.{MemberFiles}
 use Rattle.sporc_clients.specs.Causes.{ended}
 use Rattle.sporc_clients.specs.LeafFile.{IsLeafFileFault, IsLendFault, IsOpened, KeepsPassed}
@@ -79,8 +79,8 @@ abbrev pub begin_of : Words → MemberFiles → Begin
 begin_of words m = record { genesis = m.genesis; device = words.device; ring = m.ring; address = words.address }
 
 -- the session
-abbrev pub plan_of : Words → MemberFiles → Plan
-plan_of words m = record { rounds = words.rounds; until = words.until; editors = m.editors }
+abbrev pub wanted_of : Words → MemberFiles → Wanted
+wanted_of words m = record { rounds = words.rounds; until = words.until; editors = m.editors }
 
 -- how the member signs, over its leaves
 abbrev pub signs_with : {D : Type 0} → MemberFiles → LeavesModel D → Signs
@@ -102,7 +102,7 @@ module _ {D : Type 0} (disks : D → DiskTold) (words : Words) (m : MemberFiles)
     pub ready : IsReady first leaves history
     pub past : Past
     pub session : Result ⊤ SessionFault
-    pub attended : IsAttended (begin_of words m) history did.net.before did.net.after (plan_of words m) (signs_with m leaves) past
+    pub attended : IsAttended (begin_of words m) history did.net.before did.net.after (wanted_of words m) (signs_with m leaves) past
         (chance_before did) (chance_after did) session
     pub causes : RoseIfFailed (counts_of did) session
     pub saved : Result ⊤ Fault

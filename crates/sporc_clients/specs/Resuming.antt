@@ -24,7 +24,7 @@ abbrev pub read_whole : Device → List ℕ → Option (List ℕ) → Result ⊤
 read_whole device document None = Ok tt
 read_whole device document (Some bytes) = unless_stopped (History device) (saved_in document bytes).stop tt
 
--- the same, as far as that is seen before a member's line is opened: a joiner's is read before its hints are fetched, while a founder, who has the
+-- whether it is whole as far as that is seen before a member's line is opened: a joiner's is read before its hints are fetched, while a founder, who has the
 -- key of epoch 0, needs none
 abbrev pub whole_before : Device → Option (List ℕ) → List ℕ → Option (List ℕ) → Result ⊤ Fault
 whole_before device None document saved = read_whole device document saved

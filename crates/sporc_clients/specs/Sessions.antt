@@ -9,7 +9,7 @@ use Rattle.sporc_turn.specs.Knowing.{first_known}
 use Rattle.sporc_turn.specs.Passes.{known_of}
 use Rattle.sporc_client.specs.Log.{Logged}
 use Rattle.sporc_shared.specs.declared.fault.SessionFault.{SessionFault}
-use Rattle.sporc_shared.specs.Courses.{Stand, stand}
+use Rattle.sporc_shared.specs.Traces.{Stand, stand}
 use Rattle.sporc_shared.specs.Items.{IsAllowed, Item, Past, items_of, with_events}
 use Rattle.sporc_shared.specs.Passes.{IsWornFor}
 use Rattle.sporc_shared.specs.Sessions.{IsSession}
@@ -30,7 +30,7 @@ abbrev pub stand_at : Known Item → InboxModel → LinkTold → ChanceTold → 
 stand_at known inbox link chance = stand known (link_stand link.written link.left link.faults inbox) chance.given chance.faults
 
 -- what a session is given: the rounds of its first phase, the length that the history is to have, and the editors' lines
-pub record Plan : Type 0 where
+pub record Wanted : Type 0 where
   pub rounds : ℕ
   pub until : ℕ
   pub editors : List (List EditorLine)
@@ -42,11 +42,11 @@ pub record Around : Type 0 where
 
 -- A session led a client from one past to another, with this pass at its end: it added events to its log. If it ended since the lock's tickets
 -- ran out, the pass has read that
-pub record IsSessionOf (plan : Plan) (before after : Past) (found left : Around) (result : Result ⊤ SessionFault) : Type 0 where
+pub record IsSessionOf (wanted : Wanted) (before after : Past) (found left : Around) (result : Result ⊤ SessionFault) : Type 0 where
   pub pass : Pass Item
   pub inbox : InboxModel
   pub session : IsSession (stand_at (first_known (items_of before)) empty_inbox found.link found.chance) (stand_at (known_of pass) inbox left.link left.chance)
-      plan.rounds plan.until plan.editors result
+      wanted.rounds wanted.until wanted.editors result
   pub worn : IfErr result (IsWornFor pass)
   pub seen : (known_of pass).seen ≡ items_of after
   pub events : List Logged

@@ -60,7 +60,7 @@ pub(crate) fn attend<
 where
     N::Link: Send,
     requires genesis { IsGenesis member.genesis }
-    requires few { length editors.now ≤ MAX_EDITORS }
+    requires limit { length editors.now ≤ MAX_EDITORS }
     ensures attended { IfOk result (λ ended. IsAttended
         (record { genesis = member.genesis; device = member.device; ring = member.ring; address = address.now })
         (option_map (λ bytes. bytes.items) saved)

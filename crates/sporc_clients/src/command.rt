@@ -51,7 +51,7 @@ pub fn client<
 where
     F::Disk: Send,
     N::Link: Send,
-    requires few { length words.now.scripts ≤ MAX_EDITORS }
+    requires limit { length words.now.scripts ≤ MAX_EDITORS }
     ensures outcome { ClientOutcome F.Disk.told words.now
         (record {
           out = use_of O.told out.old out.new;
@@ -107,7 +107,7 @@ fn with_disk<
 ) -> (Result<(), Fault>, D)
 where
     N::Link: Send,
-    requires few { length member.editors ≤ MAX_EDITORS }
+    requires limit { length member.editors ≤ MAX_EDITORS }
     requires genesis { IsGenesis member.genesis }
     requires height { IsLeafHeight (height_of member.tree.lms) }
     ensures outcome { DiskOutcome D.told words.now member

@@ -30,7 +30,7 @@ pub(crate) fn lend_disk<F: Folder>(
     ensures err { IfErr result (IsLendFault (F.told files.old).files (F.told files.old).faults (F.told files.new).faults names.now device) }
     ensures files { (F.told files.new).files ≡ (F.told files.old).files }
     ensures lent { OnOk result ((F.told files.new).lent ≡ option_map (λ lent. file_name names.now (File.Leaf device) ∷ lent) (F.told files.old).lent) }
-    ensures not_lent { OnErr result ((F.told files.new).lent ≡ (F.told files.old).lent) }
+    ensures lent_unchanged { OnErr result ((F.told files.new).lent ≡ (F.told files.old).lent) }
     ensures may_ask { AsksOnly (file_name names.now (File.Leaf device) ∷ []) (F.told files.old).asked (F.told files.new).asked }
     ensures kept { (F.told files.old).faults ≤ (F.told files.new).faults }
 {
@@ -56,7 +56,7 @@ pub(crate) fn open_signer<D: LeafDisk>(
     requires height { IsLeafHeight (height_of tree.lms) }
     ensures ok { IfOk result (λ signer. IsOpened (D.told disk).stored (D.told signer.leaves.disk).stored signer.leaves) }
     ensures key { IfOk result (λ signer. signer.key ≡ tree) }
-    ensures kept { IfOk result (λ signer. KeepsPassed (disk_images (D.told disk)) (disk_images (D.told signer.leaves.disk))) }
+    ensures passed { IfOk result (λ signer. KeepsPassed (disk_images (D.told disk)) (disk_images (D.told signer.leaves.disk))) }
     ensures err { IfErr result (λ e. IsLeafFileFault (D.told disk).stored (D.told disk).faults (D.told e.1).faults device (height_of tree.lms) e.0) }
     ensures unwritten { IfErr result (λ e. (D.told e.1).stored ≡ (D.told disk).stored) }
     ensures kept_back { IfErr result (λ e. KeepsPassed (disk_images (D.told disk)) (disk_images (D.told e.1))) }

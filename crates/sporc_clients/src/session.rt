@@ -42,7 +42,7 @@ pub(crate) fn run_session<
     until: u32,
     gate: &G,
 ) -> Result<Ended<D>, (Client<D>, Memory)>
-    requires few { length editors.now ≤ MAX_EDITORS }
+    requires limit { length editors.now ≤ MAX_EDITORS }
     ensures session { IfOk result (λ ended. IsSessionOf (record { rounds = rounds; until = until; editors = editors.now })
         (past_of client) (past_of ended.client)
         (record {

@@ -40,7 +40,7 @@ pub(crate) fn work<
 ) -> Result<Ended<D>, (Fault, Client<D>)>
 where
     N::Link: Send,
-    requires few { length editors.now ≤ MAX_EDITORS }
+    requires limit { length editors.now ≤ MAX_EDITORS }
     ensures work { IfOk result (λ ended. IsWork
         (record { rounds = rounds; until = until; editors = editors.now }) address.now
         (past_of client) (past_of ended.client)

@@ -29,7 +29,7 @@ pub record CheckedFiles : Type 0 where
   pub ring : Option (List ℕ)
   pub history : Option (List ℕ)
 
--- the same, as a folder holds them
+-- those of an examination as a folder holds them
 pub record AreCheckedFiles (told : Option (List NamedFile)) (names : FileNames) (device : Device) (content : CheckedFiles) : Type 0 where
   pub genesis : IsFileAt told (file_name names files.Genesis) content.genesis
   pub key : IsFileAt told (file_name names (files.Key device)) content.key
@@ -66,7 +66,7 @@ examined genesis device ring history = do
   kit ← kit_in genesis device ring history
   line_of_whole device genesis kit (loaded (a_member genesis kit) genesis.document history)
 
--- the same, of the history in a device's files: its own key and history, and its member's ring
+-- the line of the history in a device's files: its own key and history, and its member's ring
 abbrev pub line_in : Device → CheckedFiles → Result CheckedLine Fault
 line_in device content = do
   genesis ← genesis_in content.genesis

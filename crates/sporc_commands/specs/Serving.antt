@@ -93,7 +93,7 @@ FindsOrder view len told names before after result =
     (content : ServedFiles) × AreServedFiles told names content × AnswersUnlessOutside view (Rose before after) result (order_in content)
     × IfOk result (λ it. HasLogged content (len it))
 
--- the same behind a genesis that was read before
+-- it was found behind a genesis that was read before
 abbrev pub FindsOrderBehind : {X : Type 0} → (X → OrderModel) → (X → ℕ) → Option (List NamedFile) → FileNames → Genesis → ℕ → ℕ → Result X Fault → Type 0
 FindsOrderBehind view len told names genesis before after result =
     (log : Option (List ℕ)) × (tail : Option (List ℕ)) × IsFileAt told (file_name names files.Log) log × IsFileAt told (file_name names files.Tail) tail

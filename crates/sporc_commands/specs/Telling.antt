@@ -19,7 +19,7 @@ IsJust bytes written = written ≡ bytes
 abbrev pub text_after_first : ℕ → CheckedLine → List ℕ
 text_after_first n line = encode_utf8_all (text_of line.genesis line.kit (take n line.entries))
 
--- the same, if there are so many, or after all
+-- the committed text after so many entries, if there are so many, or after all
 abbrev pub text_at : Option ℕ → CheckedLine → Result (List ℕ) Fault
 text_at None line = Ok (encode_utf8_all (text_of line.genesis line.kit line.entries))
 text_at (Some n) line = if nat_le n (length line.entries) then Ok (text_after_first n line) else Err (faults.Ahead (length line.entries))

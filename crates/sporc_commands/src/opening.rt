@@ -36,7 +36,7 @@ pub struct OpenedOrder<A: AppendFile> {
     pub logged: u32,
 }
 
-// The same but for the name.
+// An order with its tail, and how many entries the log has.
 #[derive(Drop)]
 struct LoggedOrder<A: AppendFile> {
     kept: KeptOrder<A>,
@@ -66,7 +66,7 @@ pub fn open_order<R: Threads + Wait + Sync, F: Folder, G: Gate + Sync>(
     open_order_behind(rt, alloc, files, names, genesis, gate)
 }
 
-/// The same behind a genesis that was read.
+/// The order in the log and the tail of a document whose genesis was read.
 pub fn open_order_behind<R: Threads + Wait + Sync, F: Folder, G: Gate + Sync>(
     rt: &R,
     alloc: Global,
@@ -114,7 +114,7 @@ fn open_behind<R: Threads + Wait + Sync, F: Folder, G: Gate + Sync>(
     gate: &G,
 ) -> Result<LoggedOrder<F::Appended>, (Fault, F::Appended)>
     requires genesis { IsGenesis genesis }
-    requires within { IfSome (F.told files.old).files (λ _. IfSome (F.Appended.told file).stored (λ bytes. length bytes ≤ MAX_FILE)) }
+    requires limit { IfSome (F.told files.old).files (λ _. IfSome (F.Appended.told file).stored (λ bytes. length bytes ≤ MAX_FILE)) }
     ensures found { FindsBehind (λ it. it.kept.order) (λ it. it.logged) (F.told files.old).files (file_name names.now File.Log) (F.Appended.told file).stored
         (F.told files.old).faults (F.told files.new).faults F.Appended.told genesis result }
     ensures tail { IfOk result (λ it. KeepsBehind F.Appended.told it.kept.tail it.kept.order.entries) }
@@ -129,7 +129,7 @@ fn open_behind<R: Threads + Wait + Sync, F: Folder, G: Gate + Sync>(
     }
 }
 
-// The same order with the entries that its log lacks of the tail of this file, and how many the log has.
+// An order with the entries that its log lacks of the tail of this file, and how many the log has.
 fn open_tail<A: AppendFile>(
     alloc: Global,
     order: Order,

@@ -53,9 +53,9 @@ pub(crate) fn serve_rounds<
 where
     F::Appended: Send,
     N::Link: Send,
-    requires some { 1 ≤ sessions }
+    requires positive { 1 ≤ sessions }
     requires limit { sessions ≤ MAX_SESSIONS }
-    requires times { 1 ≤ times }
+    requires times_positive { 1 ≤ times }
     requires tail { ∥ KeepsBehind F.Appended.told kept.tail kept.order.entries ∥₁ }
     ensures rounds { GoRounds (IsRound names.now sessions) times
         (record {
@@ -115,7 +115,7 @@ fn serve_round<R: Threads + Wait + Sync, F: Folder, N: Listen + Send, O: Sink, G
 where
     F::Appended: Send,
     N::Link: Send,
-    requires some { 1 ≤ sessions }
+    requires positive { 1 ≤ sessions }
     requires limit { sessions ≤ MAX_SESSIONS }
     requires tail { ∥ KeepsBehind F.Appended.told kept.tail kept.order.entries ∥₁ }
     ensures round { IsRound names.now sessions

@@ -41,9 +41,9 @@ pub fn serve<R: Threads + Wait + Sync, F: Folder, N: Listen + Send, O: Sink, G: 
 where
     F::Appended: Send,
     N::Link: Send,
-    requires some { 1 ≤ sessions }
+    requires positive { 1 ≤ sessions }
     requires limit { sessions ≤ MAX_SESSIONS }
-    requires times { 1 ≤ times }
+    requires times_positive { 1 ≤ times }
     ensures outcome { ServeOutcome names.now sessions times (use_of F.told files.old files.new) (use_of O.told out.old out.new)
         (N.told net.old) (N.told net.new)
         result }

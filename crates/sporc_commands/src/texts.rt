@@ -62,7 +62,7 @@ fn text_at(alloc: Global, line: &Line, at: Option<u32>) -> Result<String, Fault>
 
 // The text after the first so many entries: their forms, applied one after another from the empty text on.
 fn text_after_first(alloc: Global, line: &Line, at: u32) -> Result<String, Memory>
-    requires within { at ≤ length line.now.entries }
+    requires in_bounds { at ≤ length line.now.entries }
     requires good { Good line.now.genesis line.now.kit line.now.entries }
     ensures { IfOk result (λ text. string_bytes text ≡ encode_utf8_all (text_of line.now.genesis line.now.kit (take at line.now.entries))) }
 {

@@ -57,7 +57,7 @@ fn answer_over<R: Threads + Wait + Sync + Abort>(
     (status, streams.written(rt, alloc))
 }
 
-/// The same over this script, if the source and the sink move at most `piece` bytes a call, and their calls of these numbers
+/// The answer over this script, if the source and the sink move at most `piece` bytes a call, and their calls of these numbers
 /// fail.
 pub fn answer<R: Threads + Wait + Sync + Abort>(
     rt: &R,

@@ -9,7 +9,7 @@ pub fn check(rt: &impl Abort, what: &str, holds: bool) {
     assert!(rt; holds, "{what}");
 }
 
-/// The same of one with a number: a call, or a status.
+/// Stops the test unless this holds of the one with this number: a call, or a status.
 pub fn check_at(rt: &impl Abort, what: &str, number: u64, holds: bool) {
     assert!(rt; holds, "{what} {number}");
 }

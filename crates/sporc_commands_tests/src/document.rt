@@ -144,7 +144,7 @@ pub fn of_member(
     files
 }
 
-// The same, with a history of so many entries.
+// The files of member 2, with a history of so many entries.
 fn of_author(
     rt: &impl Abort,
     alloc: Global,
@@ -158,7 +158,7 @@ fn of_author(
     of_member(rt, alloc, cast, leaf, history.as_slice())
 }
 
-/// The same, with a cast of its own.
+/// The files of member 2 in a document of its own, with a history of so many entries.
 pub fn with_entries(rt: &impl Abort, alloc: Global, leaf: &[u8], count: u32) -> Vec<NamedFile> {
     let cast = Cast::new(alloc).expect(rt, "a cast");
     let files = of_author(rt, alloc, &cast, leaf, count);

@@ -24,7 +24,7 @@ enum Wrong {
     NoLeaf,
 }
 
-// The same, and how a session ends.
+// What is wrong, the status, and how a session ends.
 type Row = (Wrong, u8, &'static [u8]);
 
 const ROWS: [Row; 4] = [
@@ -60,7 +60,7 @@ fn spoilt(rt: &impl Abort, alloc: Global, files: &[NamedFile], wrong: Wrong) -> 
     named(rt, alloc, "D.2.history", history.as_slice())
 }
 
-// The same files, with what is wrong.
+// A copy of these files, with what is wrong.
 fn changed(rt: &impl Abort, alloc: Global, files: &[NamedFile], wrong: Wrong) -> Vec<NamedFile> {
     if let Wrong::NoLeaf = wrong {
         return copied_without(rt, alloc, files, "D.2.leaf");

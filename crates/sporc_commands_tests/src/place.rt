@@ -88,7 +88,7 @@ pub fn calls(alloc: Global, call: u64) -> Result<Calls, AllocError>
     Ok(Calls::failing([call].to_vec(alloc)?))
 }
 
-/// The same.
+/// The calls of an object, of which the one with this number fails, or none if it is 0.
 pub fn calls_of(rt: &impl Abort, alloc: Global, call: u64) -> Calls
     ensures { result.faults ≡ 0 }
 {
@@ -124,7 +124,7 @@ fn copy_of(rt: &impl Abort, alloc: Global, name: &[u8], bytes: &[u8]) -> NamedFi
     NamedFile { name, bytes }
 }
 
-/// The same files.
+/// A copy of these files.
 pub fn copied(rt: &impl Abort, alloc: Global, files: &[NamedFile]) -> Vec<NamedFile> {
     let mut copies = Vec::new(alloc);
     for file in files {
@@ -134,7 +134,7 @@ pub fn copied(rt: &impl Abort, alloc: Global, files: &[NamedFile]) -> Vec<NamedF
     copies
 }
 
-/// The same files but the one with this name.
+/// A copy of these files without the one with this name.
 pub fn copied_without(
     rt: &impl Abort,
     alloc: Global,
@@ -257,7 +257,7 @@ impl Place {
         Place::failing(rt, alloc, files, NONE)
     }
 
-    /// The same, where these calls fail.
+    /// A folder with these files, where these calls fail.
     pub fn failing(
         rt: &impl Abort,
         alloc: Global,
@@ -313,7 +313,7 @@ impl Place {
         self.run_held(rt, alloc, net, words, &OpenGate)
     }
 
-    /// The same with this gate.
+    /// What a run over these answers with this gate.
     pub fn run_held<R: Threads + Wait + Sync + Abort, N: Dial + Listen + Send, G: Gate + Sync>(
         &mut self,
         rt: &R,
@@ -335,7 +335,7 @@ impl Place {
         (status, written)
     }
 
-    /// The same over a net between threads.
+    /// What a run over a net between threads answers.
     pub fn run_piped<R: Threads + Wait + Sync + Abort>(
         &mut self,
         rt: &R,
@@ -346,7 +346,7 @@ impl Place {
         self.run(rt, alloc, net, words)
     }
 
-    /// The same over a net of its own.
+    /// What a run over a net of its own answers.
     pub fn run_alone<R: Threads + Wait + Sync + Abort>(
         &mut self,
         rt: &R,

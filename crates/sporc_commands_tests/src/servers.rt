@@ -183,7 +183,7 @@ fn ends_well<R: Threads + Wait + Sync + Abort>(
     is_well
 }
 
-/// The same, over the scene's files.
+/// Whether it ends well over the scene's files, since the object has no call left that fails. Else the fault is told.
 pub fn ends_without<R: Threads + Wait + Sync + Abort>(
     rt: &R,
     alloc: Global,

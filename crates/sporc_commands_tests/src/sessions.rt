@@ -128,7 +128,7 @@ fn leaves_rise(rt: &impl Abort, entries: &[Vec<u8>]) -> bool {
     entries.len() > 1
 }
 
-// The same of the entries of a log.
+// Whether each entry of a log was signed by a later leaf than the one before, if all are member 2's.
 fn leaves_rise_in(rt: &impl Abort, alloc: Global, log: &[u8]) -> bool {
     let (entries, _) = read_saved(alloc, &DOCUMENT, log).expect(rt, "memory");
     let rise = leaves_rise(rt, entries.as_slice());
@@ -196,7 +196,7 @@ fn ends_well<R: Threads + Wait + Sync + Abort>(
     is_well
 }
 
-/// The same, over the scene's files.
+/// Whether it ends well over the scene's files, since the object has no call left that fails. Else the fault is told.
 pub fn ends_without<R: Threads + Wait + Sync + Abort>(
     rt: &R,
     alloc: Global,

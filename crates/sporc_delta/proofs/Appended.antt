@@ -4,10 +4,10 @@ use Rattle.std.proofs.lemmas.List.{map-append, length-append, replicate-append-r
 use Rattle.std.proofs.Math.Seq.{set-append_seam}
 use Rattle.std.specs.Prelude.{slice_get, OnOk}
 use Rattle.sporc_delta.specs.declared.part.Part.{Part}
-use Rattle.sporc_delta.specs.declared.part.Part.TheVariants.{Keep, Insert as InsertText, Remove}
-use Rattle.sporc_delta.specs.Marks.{Retain, Delete, Insert, base_len, out_len, retains, deletes, inserts}
+use Rattle.sporc_delta.specs.declared.part.Part.TheVariants.{Keep as KeepRun, Insert as InsertText, Remove as RemoveRun}
+use Rattle.sporc_delta.specs.Marks.{Keep, Remove, Insert, base_len, out_len, keep_marks, remove_marks, insert_marks}
 use Rattle.sporc_delta.specs.Parts.{part_marks, marks_of, same_kind, part_len, AreRuns, Appends, kept_by, removed_by, inserted_by, kept_at_end, removed_at_end, text_at_end}
-use Rattle.sporc_delta.proofs.Lengths.{out_len-append, base_len-append, out_len-retains, base_len-deletes, out_len-inserts}
+use Rattle.sporc_delta.proofs.Lengths.{out_len-append, base_len-append, out_len-keep_marks, base_len-remove_marks, out_len-insert_marks}
 use Rattle.sporc_delta.proofs.Runs.{marks_of-append}
 
 -- a list is empty or has a last element
@@ -33,29 +33,29 @@ pub record EndsIn (ps : List Part) (last : Part) : Type 0 where
   pub front : List Part
   pub is : ps ≡ front ++ last ∷ []
 
-kept_here : (front : List Part) (last : Part) (n : ℕ) → n ≡ kept_by (Some last) → 0 < n → EndsIn (front ++ last ∷ []) (Keep n)
-kept_here front (Keep m) n is some = record { front = front; is = ap (λ k. front ++ Keep k ∷ []) (sym is) }
+kept_here : (front : List Part) (last : Part) (n : ℕ) → n ≡ kept_by (Some last) → 0 < n → EndsIn (front ++ last ∷ []) (KeepRun n)
+kept_here front (KeepRun m) n is some = record { front = front; is = ap (λ k. front ++ KeepRun k ∷ []) (sym is) }
 kept_here front (InsertText text) n is some = absurd (omega arith)
-kept_here front (Remove m) n is some = absurd (omega arith)
+kept_here front (RemoveRun m) n is some = absurd (omega arith)
 
-removed_here : (front : List Part) (last : Part) (n : ℕ) → n ≡ removed_by (Some last) → 0 < n → EndsIn (front ++ last ∷ []) (Remove n)
-removed_here front (Remove m) n is some = record { front = front; is = ap (λ k. front ++ Remove k ∷ []) (sym is) }
+removed_here : (front : List Part) (last : Part) (n : ℕ) → n ≡ removed_by (Some last) → 0 < n → EndsIn (front ++ last ∷ []) (RemoveRun n)
+removed_here front (RemoveRun m) n is some = record { front = front; is = ap (λ k. front ++ RemoveRun k ∷ []) (sym is) }
 removed_here front (InsertText text) n is some = absurd (omega arith)
-removed_here front (Keep m) n is some = absurd (omega arith)
+removed_here front (KeepRun m) n is some = absurd (omega arith)
 
-pub kept_end : (ps : List Part) (n : ℕ) → n ≡ kept_at_end ps → 0 < n → EndsIn ps (Keep n)
+pub kept_end : (ps : List Part) (n : ℕ) → n ≡ kept_at_end ps → 0 < n → EndsIn ps (KeepRun n)
 kept_end ps n is some = elim (by_end ps) [
   | inl e ↦ let z : n ≡ 0 = is ∙ ap kept_at_end e in absurd (omega arith)
   | inr found ↦
-      let P : List Part → Type 0 = λ qs. EndsIn qs (Keep n) in
+      let P : List Part → Type 0 = λ qs. EndsIn qs (KeepRun n) in
       subst P (sym found.2) (kept_here found.0 found.1 n (is ∙ ap kept_at_end found.2 ∙ ap kept_by (get_last found.0 found.1)) some)
 ]
 
-pub removed_end : (ps : List Part) (n : ℕ) → n ≡ removed_at_end ps → 0 < n → EndsIn ps (Remove n)
+pub removed_end : (ps : List Part) (n : ℕ) → n ≡ removed_at_end ps → 0 < n → EndsIn ps (RemoveRun n)
 removed_end ps n is some = elim (by_end ps) [
   | inl e ↦ let z : n ≡ 0 = is ∙ ap removed_at_end e in absurd (omega arith)
   | inr found ↦
-      let P : List Part → Type 0 = λ qs. EndsIn qs (Remove n) in
+      let P : List Part → Type 0 = λ qs. EndsIn qs (RemoveRun n) in
       subst P (sym found.2) (removed_here found.0 found.1 n (is ∙ ap removed_at_end found.2 ∙ ap removed_by (get_last found.0 found.1)) some)
 ]
 
@@ -93,76 +93,76 @@ last_some (p ∷ front) last h = last_some front last h.2
 
 -- ---- parts that keep
 
-keeps_joined : (m n : ℕ) → retains (m + n) ≡ retains m ++ retains n
-keeps_joined m n = sym (replicate-append-replicate m n Retain)
+keeps_joined : (m n : ℕ) → keep_marks (m + n) ≡ keep_marks m ++ keep_marks n
+keeps_joined m n = sym (replicate-append-replicate m n Keep)
 
-pub same_keep : (m n : ℕ) (p : Part) → same_kind p (Keep m) ≡ same_kind p (Keep n)
-same_keep m n (Keep k) = refl
+pub same_keep : (m n : ℕ) (p : Part) → same_kind p (KeepRun m) ≡ same_kind p (KeepRun n)
+same_keep m n (KeepRun k) = refl
 same_keep m n (InsertText text) = refl
-same_keep m n (Remove k) = refl
+same_keep m n (RemoveRun k) = refl
 
-pub kept_grown : (ps : List Part) (len m n : ℕ) → len ≡ length ps → m ≡ kept_at_end ps → 0 < m → Appends ps (set ps (len - 1) (Keep (m + n))) (retains n)
+pub kept_grown : (ps : List Part) (len m n : ℕ) → len ≡ length ps → m ≡ kept_at_end ps → 0 < m → Appends ps (set ps (len - 1) (KeepRun (m + n))) (keep_marks n)
 kept_grown ps len m n all is some =
     let end = kept_end ps m is some in
     let P : List Part → Type 0 = AreRuns in
-    rw (all, set_last end.front (Keep m) (Keep (m + n)) ps end.is) record {
-      marks = marks_grown end.front (Keep m) (Keep n) (Keep (m + n)) ps end.is (keeps_joined m n);
-      are_runs = λ h. AreRuns-grown end.front (Keep m) (Keep (m + n)) (same_keep m (m + n)) (omega arith) (subst P end.is h);
+    rw (all, set_last end.front (KeepRun m) (KeepRun (m + n)) ps end.is) record {
+      marks = marks_grown end.front (KeepRun m) (KeepRun n) (KeepRun (m + n)) ps end.is (keeps_joined m n);
+      are_runs = λ h. AreRuns-grown end.front (KeepRun m) (KeepRun (m + n)) (same_keep m (m + n)) (omega arith) (subst P end.is h);
     }
 
-not_keep : (front : List Part) (last : Part) (n : ℕ) → 0 ≡ kept_by (Some last) → AreRuns (front ++ last ∷ []) → same_kind last (Keep n) ≡ false
-not_keep front (Keep m) n is h = let some = last_some front (Keep m) h in absurd (omega arith)
+not_keep : (front : List Part) (last : Part) (n : ℕ) → 0 ≡ kept_by (Some last) → AreRuns (front ++ last ∷ []) → same_kind last (KeepRun n) ≡ false
+not_keep front (KeepRun m) n is h = let some = last_some front (KeepRun m) h in absurd (omega arith)
 not_keep front (InsertText text) n is h = refl
-not_keep front (Remove m) n is h = refl
+not_keep front (RemoveRun m) n is h = refl
 
-pub keep_pushed : (ps new : List Part) (m n : ℕ) → m ≡ kept_at_end ps → m ≡ 0 → 0 < n → new ≡ ps ++ Keep n ∷ [] → Appends ps new (retains n)
+pub keep_pushed : (ps new : List Part) (m n : ℕ) → m ≡ kept_at_end ps → m ≡ 0 → 0 < n → new ≡ ps ++ KeepRun n ∷ [] → Appends ps new (keep_marks n)
 keep_pushed ps new m n is none some pushed = rw pushed record {
-  marks = marks_of-last ps (Keep n);
+  marks = marks_of-last ps (KeepRun n);
   are_runs = λ h.
       let P : List Part → Type 0 = AreRuns in
-      AreRuns-push ps (Keep n) (λ front last e. not_keep front last n (sym none ∙ is ∙ ap kept_at_end e ∙ ap kept_by (get_last front last)) (subst P e h)) some h;
+      AreRuns-push ps (KeepRun n) (λ front last e. not_keep front last n (sym none ∙ is ∙ ap kept_at_end e ∙ ap kept_by (get_last front last)) (subst P e h)) some h;
 }
 
 -- ---- parts that remove
 
-removes_joined : (m n : ℕ) → deletes (m + n) ≡ deletes m ++ deletes n
-removes_joined m n = sym (replicate-append-replicate m n Delete)
+removes_joined : (m n : ℕ) → remove_marks (m + n) ≡ remove_marks m ++ remove_marks n
+removes_joined m n = sym (replicate-append-replicate m n Remove)
 
-same_remove : (m n : ℕ) (p : Part) → same_kind p (Remove m) ≡ same_kind p (Remove n)
-same_remove m n (Keep k) = refl
+same_remove : (m n : ℕ) (p : Part) → same_kind p (RemoveRun m) ≡ same_kind p (RemoveRun n)
+same_remove m n (KeepRun k) = refl
 same_remove m n (InsertText text) = refl
-same_remove m n (Remove k) = refl
+same_remove m n (RemoveRun k) = refl
 
-pub removed_grown : (ps : List Part) (len m n : ℕ) → len ≡ length ps → m ≡ removed_at_end ps → 0 < m → Appends ps (set ps (len - 1) (Remove (m + n))) (deletes n)
+pub removed_grown : (ps : List Part) (len m n : ℕ) → len ≡ length ps → m ≡ removed_at_end ps → 0 < m → Appends ps (set ps (len - 1) (RemoveRun (m + n))) (remove_marks n)
 removed_grown ps len m n all is some =
     let end = removed_end ps m is some in
     let P : List Part → Type 0 = AreRuns in
-    rw (all, set_last end.front (Remove m) (Remove (m + n)) ps end.is) record {
-      marks = marks_grown end.front (Remove m) (Remove n) (Remove (m + n)) ps end.is (removes_joined m n);
-      are_runs = λ h. AreRuns-grown end.front (Remove m) (Remove (m + n)) (same_remove m (m + n)) (omega arith) (subst P end.is h);
+    rw (all, set_last end.front (RemoveRun m) (RemoveRun (m + n)) ps end.is) record {
+      marks = marks_grown end.front (RemoveRun m) (RemoveRun n) (RemoveRun (m + n)) ps end.is (removes_joined m n);
+      are_runs = λ h. AreRuns-grown end.front (RemoveRun m) (RemoveRun (m + n)) (same_remove m (m + n)) (omega arith) (subst P end.is h);
     }
 
-not_remove : (front : List Part) (last : Part) (n : ℕ) → 0 ≡ removed_by (Some last) → AreRuns (front ++ last ∷ []) → same_kind last (Remove n) ≡ false
-not_remove front (Remove m) n is h = let some = last_some front (Remove m) h in absurd (omega arith)
+not_remove : (front : List Part) (last : Part) (n : ℕ) → 0 ≡ removed_by (Some last) → AreRuns (front ++ last ∷ []) → same_kind last (RemoveRun n) ≡ false
+not_remove front (RemoveRun m) n is h = let some = last_some front (RemoveRun m) h in absurd (omega arith)
 not_remove front (InsertText text) n is h = refl
-not_remove front (Keep m) n is h = refl
+not_remove front (KeepRun m) n is h = refl
 
-pub remove_pushed : (ps new : List Part) (m n : ℕ) → m ≡ removed_at_end ps → m ≡ 0 → 0 < n → new ≡ ps ++ Remove n ∷ [] → Appends ps new (deletes n)
+pub remove_pushed : (ps new : List Part) (m n : ℕ) → m ≡ removed_at_end ps → m ≡ 0 → 0 < n → new ≡ ps ++ RemoveRun n ∷ [] → Appends ps new (remove_marks n)
 remove_pushed ps new m n is none some pushed = rw pushed record {
-  marks = marks_of-last ps (Remove n);
+  marks = marks_of-last ps (RemoveRun n);
   are_runs = λ h.
       let P : List Part → Type 0 = AreRuns in
-      AreRuns-push ps (Remove n) (λ front last e. not_remove front last n (sym none ∙ is ∙ ap removed_at_end e ∙ ap removed_by (get_last front last)) (subst P e h)) some h;
+      AreRuns-push ps (RemoveRun n) (λ front last e. not_remove front last n (sym none ∙ is ∙ ap removed_at_end e ∙ ap removed_by (get_last front last)) (subst P e h)) some h;
 }
 
 -- ---- parts that insert
 
 same_insert : (s t : List ℕ) (p : Part) → same_kind p (InsertText s) ≡ same_kind p (InsertText t)
-same_insert s t (Keep k) = refl
+same_insert s t (KeepRun k) = refl
 same_insert s t (InsertText text) = refl
-same_insert s t (Remove k) = refl
+same_insert s t (RemoveRun k) = refl
 
-pub text_grown : (ps front new : List Part) (s t : List ℕ) → ps ≡ front ++ InsertText s ∷ [] → 0 < length t → new ≡ front ++ InsertText (s ++ t) ∷ [] → Appends ps new (inserts t)
+pub text_grown : (ps front new : List Part) (s t : List ℕ) → ps ≡ front ++ InsertText s ∷ [] → 0 < length t → new ≡ front ++ InsertText (s ++ t) ∷ [] → Appends ps new (insert_marks t)
 text_grown ps front new s t is some grown = rw grown record {
   marks = marks_grown front (InsertText s) (InsertText t) (InsertText (s ++ t)) ps is (map-append Insert s t);
   are_runs = λ h.
@@ -172,11 +172,11 @@ text_grown ps front new s t is some grown = rw grown record {
 }
 
 not_insert : (last : Part) (t : List ℕ) → inserted_by (Some last) ≡ false → same_kind last (InsertText t) ≡ false
-not_insert (Keep m) t is = refl
+not_insert (KeepRun m) t is = refl
 not_insert (InsertText text) t is = cc
-not_insert (Remove m) t is = refl
+not_insert (RemoveRun m) t is = refl
 
-pub text_pushed : (ps new : List Part) (t : List ℕ) → text_at_end ps ≡ false → 0 < length t → new ≡ ps ++ InsertText t ∷ [] → Appends ps new (inserts t)
+pub text_pushed : (ps new : List Part) (t : List ℕ) → text_at_end ps ≡ false → 0 < length t → new ≡ ps ++ InsertText t ∷ [] → Appends ps new (insert_marks t)
 text_pushed ps new t none some pushed = rw pushed record {
   marks = marks_of-last ps (InsertText t);
   are_runs = λ h. AreRuns-push ps (InsertText t) (λ front last e. not_insert last t (sym (ap inserted_by (get_last front last)) ∙ sym (ap text_at_end e) ∙ none)) some h;
@@ -187,27 +187,27 @@ text_pushed ps new t none some pushed = rw pushed record {
 pub kept_fits : (ps : List Part) (n : ℕ) → n ≡ kept_at_end ps → 0 < n → n ≤ out_len (marks_of ps)
 kept_fits ps n is some =
     let end = kept_end ps n is some in
-    rw (end.is, marks_of-last end.front (Keep n), out_len-append, out_len-retains) (omega arith)
+    rw (end.is, marks_of-last end.front (KeepRun n), out_len-append, out_len-keep_marks) (omega arith)
 
 pub removed_fits : (ps : List Part) (n : ℕ) → n ≡ removed_at_end ps → 0 < n → n ≤ base_len (marks_of ps)
 removed_fits ps n is some =
     let end = removed_end ps n is some in
-    rw (end.is, marks_of-last end.front (Remove n), base_len-append, base_len-deletes) (omega arith)
+    rw (end.is, marks_of-last end.front (RemoveRun n), base_len-append, base_len-remove_marks) (omega arith)
 
 pub text_fits : (ps front : List Part) (text : List ℕ) → ps ≡ front ++ InsertText text ∷ [] → length text ≤ out_len (marks_of ps)
-text_fits ps front text is = rw (is, marks_of-last front (InsertText text), out_len-append, out_len-inserts) (omega arith)
+text_fits ps front text is = rw (is, marks_of-last front (InsertText text), out_len-append, out_len-insert_marks) (omega arith)
 
 -- parts that end with one that inserts end with no other
-pub not_kept_end : (ps front : List Part) (n : ℕ) → text_at_end ps ≡ true → ps ≡ front ++ Keep n ∷ [] → ⊥
-not_kept_end ps front n inserts is =
-    let h : false ≡ true = sym (ap inserted_by (get_last front (Keep n))) ∙ sym (ap text_at_end is) ∙ inserts in cc
+pub not_kept_end : (ps front : List Part) (n : ℕ) → text_at_end ps ≡ true → ps ≡ front ++ KeepRun n ∷ [] → ⊥
+not_kept_end ps front n insert_marks is =
+    let h : false ≡ true = sym (ap inserted_by (get_last front (KeepRun n))) ∙ sym (ap text_at_end is) ∙ insert_marks in cc
 
-pub not_removed_end : (ps front : List Part) (n : ℕ) → text_at_end ps ≡ true → ps ≡ front ++ Remove n ∷ [] → ⊥
-not_removed_end ps front n inserts is =
-    let h : false ≡ true = sym (ap inserted_by (get_last front (Remove n))) ∙ sym (ap text_at_end is) ∙ inserts in cc
+pub not_removed_end : (ps front : List Part) (n : ℕ) → text_at_end ps ≡ true → ps ≡ front ++ RemoveRun n ∷ [] → ⊥
+not_removed_end ps front n insert_marks is =
+    let h : false ≡ true = sym (ap inserted_by (get_last front (RemoveRun n))) ∙ sym (ap text_at_end is) ∙ insert_marks in cc
 
 -- a text that may have grown by another stands at the end again
 pub text_put_back : {A E : Type 0} (r : Result A E) (ps front new : List Part) (s joined t : List ℕ) → ps ≡ front ++ InsertText s ∷ [] → 0 < length t → OnOk r (joined ≡ s ++ t)
-    → new ≡ front ++ InsertText joined ∷ [] → OnOk r (Appends ps new (inserts t))
+    → new ≡ front ++ InsertText joined ∷ [] → OnOk r (Appends ps new (insert_marks t))
 text_put_back (Ok x) ps front new s joined t is some grown put = text_grown ps front new s t is some (put ∙ ap (λ u. front ++ InsertText u ∷ []) grown)
 text_put_back (Err e) ps front new s joined t is some grown put = tt

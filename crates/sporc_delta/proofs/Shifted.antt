@@ -3,14 +3,14 @@ use Rattle.std.proofs.Common.{◌≡◌, ℕ, zero, suc, ◌+◌, ◌-◌, ◌<�
 use Rattle.std.proofs.lemmas.List.{append-nil, drop_at, length-append, length-replicate, take_at}
 use Rattle.sporc_delta.specs.declared.limits.TheConstants.{MAX_TEXT_LEN}
 use Rattle.sporc_delta.specs.declared.part.Part.{Part}
-use Rattle.sporc_delta.specs.declared.part.Part.TheVariants.{Keep, Insert as InsertText, Remove}
+use Rattle.sporc_delta.specs.declared.part.Part.TheVariants.{Keep as KeepRun, Insert as InsertText, Remove as RemoveRun}
 use Rattle.sporc_delta.specs.declared.shift.Shift.{Shift}
 use Rattle.sporc_delta.specs.declared.shift.Shift.TheVariants.{First, Last}
-use Rattle.sporc_delta.specs.Marks.{Mark, Retain, base_len, out_len, retains}
+use Rattle.sporc_delta.specs.Marks.{Mark, Keep, base_len, out_len, keep_marks}
 use Rattle.sporc_delta.specs.Parts.{AreRuns, DeltaInvariant, kept_at_end, marks_of, runs}
 use Rattle.sporc_delta.specs.Shifts.{CanShift, Shifts, count_of, kept_at_start, kept_first, kept_last, kept_there, shifted}
 use Rattle.sporc_delta.proofs.Appended.{AreRuns-grown, kept_end, marks_of-last, same_keep, set_last}
-use Rattle.sporc_delta.proofs.Lengths.{base_len-append, base_len-retains, out_len-append, out_len-retains}
+use Rattle.sporc_delta.proofs.Lengths.{base_len-append, base_len-keep_marks, out_len-append, out_len-keep_marks}
 use Rattle.sporc_delta.proofs.Runs.{marks_of-runs, runs-marks_of}
 
 -- ---- over marks
@@ -18,13 +18,13 @@ use Rattle.sporc_delta.proofs.Runs.{marks_of-runs, runs-marks_of}
 -- what stands behind the characters that are kept first
 pub record BeginsWith (ms : List Mark) (k : ℕ) : Type 0 where
   pub rest : List Mark
-  pub is : ms ≡ retains k ++ rest
+  pub is : ms ≡ keep_marks k ++ rest
 
 first_of_parts : (ms : List Mark) (ps : List Part) → marks_of ps ≡ ms → BeginsWith ms (kept_at_start ps)
 first_of_parts ms [] e = record { rest = ms; is = refl }
-first_of_parts ms (Keep n ∷ ps) e = record { rest = marks_of ps; is = sym e }
+first_of_parts ms (KeepRun n ∷ ps) e = record { rest = marks_of ps; is = sym e }
 first_of_parts ms (InsertText text ∷ ps) e = record { rest = ms; is = refl }
-first_of_parts ms (Remove n ∷ ps) e = record { rest = ms; is = refl }
+first_of_parts ms (RemoveRun n ∷ ps) e = record { rest = ms; is = refl }
 
 pub begins_with : (ms : List Mark) → BeginsWith ms (kept_first ms)
 begins_with ms = first_of_parts ms (runs ms) (marks_of-runs ms)
@@ -32,30 +32,30 @@ begins_with ms = first_of_parts ms (runs ms) (marks_of-runs ms)
 -- what stands in front of the characters that are kept last
 pub record EndsWith (ms : List Mark) (k : ℕ) : Type 0 where
   pub front : List Mark
-  pub is : ms ≡ front ++ retains k
+  pub is : ms ≡ front ++ keep_marks k
 
 last_of_parts : (ms : List Mark) (ps : List Part) (k : ℕ) → marks_of ps ≡ ms → k ≡ kept_at_end ps → EndsWith ms k
 last_of_parts ms ps zero e is = record { front = ms; is = sym (append-nil ms) }
 last_of_parts ms ps (suc k) e is =
     let end = kept_end ps (suc k) is (omega arith) in
-    record { front = marks_of end.front; is = sym e ∙ ap marks_of end.is ∙ marks_of-last end.front (Keep (suc k)) }
+    record { front = marks_of end.front; is = sym e ∙ ap marks_of end.is ∙ marks_of-last end.front (KeepRun (suc k)) }
 
 pub ends_with : (ms : List Mark) → EndsWith ms (kept_last ms)
 ends_with ms = last_of_parts ms (runs ms) (kept_last ms) (marks_of-runs ms) refl
 
 -- another count there
-replace_first : (ms rest : List Mark) (k n : ℕ) → ms ≡ retains k ++ rest → retains n ++ drop k ms ≡ retains n ++ rest
-replace_first ms rest k n is = ap (λ (l : List Mark). retains n ++ drop k l) is ∙ ap (λ (l : List Mark). retains n ++ l) (drop_at (retains k) rest k (length-replicate k Retain))
+replace_first : (ms rest : List Mark) (k n : ℕ) → ms ≡ keep_marks k ++ rest → keep_marks n ++ drop k ms ≡ keep_marks n ++ rest
+replace_first ms rest k n is = ap (λ (l : List Mark). keep_marks n ++ drop k l) is ∙ ap (λ (l : List Mark). keep_marks n ++ l) (drop_at (keep_marks k) rest k (length-replicate k Keep))
 
-replace_last : (ms front : List Mark) (k n : ℕ) → ms ≡ front ++ retains k → take (length ms - k) ms ++ retains n ≡ front ++ retains n
+replace_last : (ms front : List Mark) (k n : ℕ) → ms ≡ front ++ keep_marks k → take (length ms - k) ms ++ keep_marks n ≡ front ++ keep_marks n
 replace_last ms front k n is =
-    let len : length front ≡ length ms - k = omega (arith, ap length is, length-append front (retains k), length-replicate k Retain) in
-    ap (λ (l : List Mark). take (length ms - k) l ++ retains n) is ∙ ap (λ (l : List Mark). l ++ retains n) (take_at front (retains k) (length ms - k) len)
+    let len : length front ≡ length ms - k = omega (arith, ap length is, length-append front (keep_marks k), length-replicate k Keep) in
+    ap (λ (l : List Mark). take (length ms - k) l ++ keep_marks n) is ∙ ap (λ (l : List Mark). l ++ keep_marks n) (take_at front (keep_marks k) (length ms - k) len)
 
-pub shifted_first : (ms rest : List Mark) (n : ℕ) → ms ≡ retains (kept_first ms) ++ rest → shifted (First n) ms ≡ retains n ++ rest
+pub shifted_first : (ms rest : List Mark) (n : ℕ) → ms ≡ keep_marks (kept_first ms) ++ rest → shifted (First n) ms ≡ keep_marks n ++ rest
 shifted_first ms rest n is = replace_first ms rest (kept_first ms) n is
 
-pub shifted_last : (ms front : List Mark) (n : ℕ) → ms ≡ front ++ retains (kept_last ms) → shifted (Last n) ms ≡ front ++ retains n
+pub shifted_last : (ms front : List Mark) (n : ℕ) → ms ≡ front ++ keep_marks (kept_last ms) → shifted (Last n) ms ≡ front ++ keep_marks n
 shifted_last ms front n is = replace_last ms front (kept_last ms) n is
 
 -- ---- lengths
@@ -71,25 +71,25 @@ shifted_lengths (First n) ms =
     let k = kept_first ms in
     let begin = begins_with ms in
     let new = shifted_first ms begin.rest n begin.is in
-    let base = ap base_len begin.is ∙ base_len-append (retains k) begin.rest in
-    let out = ap out_len begin.is ∙ out_len-append (retains k) begin.rest in
+    let base = ap base_len begin.is ∙ base_len-append (keep_marks k) begin.rest in
+    let out = ap out_len begin.is ∙ out_len-append (keep_marks k) begin.rest in
     record {
-      base = omega (arith, base, base_len-retains k, ap base_len new, base_len-append (retains n) begin.rest, base_len-retains n);
-      out = omega (arith, out, out_len-retains k, ap out_len new, out_len-append (retains n) begin.rest, out_len-retains n);
-      in_base = omega (arith, base, base_len-retains k);
-      in_out = omega (arith, out, out_len-retains k);
+      base = omega (arith, base, base_len-keep_marks k, ap base_len new, base_len-append (keep_marks n) begin.rest, base_len-keep_marks n);
+      out = omega (arith, out, out_len-keep_marks k, ap out_len new, out_len-append (keep_marks n) begin.rest, out_len-keep_marks n);
+      in_base = omega (arith, base, base_len-keep_marks k);
+      in_out = omega (arith, out, out_len-keep_marks k);
     }
 shifted_lengths (Last n) ms =
     let k = kept_last ms in
     let end = ends_with ms in
     let new = shifted_last ms end.front n end.is in
-    let base = ap base_len end.is ∙ base_len-append end.front (retains k) in
-    let out = ap out_len end.is ∙ out_len-append end.front (retains k) in
+    let base = ap base_len end.is ∙ base_len-append end.front (keep_marks k) in
+    let out = ap out_len end.is ∙ out_len-append end.front (keep_marks k) in
     record {
-      base = omega (arith, base, base_len-retains k, ap base_len new, base_len-append end.front (retains n), base_len-retains n);
-      out = omega (arith, out, out_len-retains k, ap out_len new, out_len-append end.front (retains n), out_len-retains n);
-      in_base = omega (arith, base, base_len-retains k);
-      in_out = omega (arith, out, out_len-retains k);
+      base = omega (arith, base, base_len-keep_marks k, ap base_len new, base_len-append end.front (keep_marks n), base_len-keep_marks n);
+      out = omega (arith, out, out_len-keep_marks k, ap out_len new, out_len-append end.front (keep_marks n), out_len-keep_marks n);
+      in_base = omega (arith, base, base_len-keep_marks k);
+      in_out = omega (arith, out, out_len-keep_marks k);
     }
 
 -- ---- over parts
@@ -99,46 +99,46 @@ abbrev IsPlaceOf : Shift → List Part → ℕ → Type 0
 IsPlaceOf (First n) ps place = place ≡ 0
 IsPlaceOf (Last n) ps place = place ≡ length ps - 1
 
-unlike_keep : (m n : ℕ) (ps : List Part) → AreRuns (Keep m ∷ ps) → 0 < n → AreRuns (Keep n ∷ ps)
+unlike_keep : (m n : ℕ) (ps : List Part) → AreRuns (KeepRun m ∷ ps) → 0 < n → AreRuns (KeepRun n ∷ ps)
 unlike_keep m n [] h some = (some, tt, tt)
-unlike_keep m n (Keep k ∷ ps) h some = absurd cc
+unlike_keep m n (KeepRun k ∷ ps) h some = absurd cc
 unlike_keep m n (InsertText text ∷ ps) h some = (some, refl, h.2)
-unlike_keep m n (Remove k ∷ ps) h some = (some, refl, h.2)
+unlike_keep m n (RemoveRun k ∷ ps) h some = (some, refl, h.2)
 
-first_put : (ps : List Part) (n : ℕ) → 0 < n → 0 < kept_at_start ps → Shifts (First n) ps (set ps 0 (Keep n))
+first_put : (ps : List Part) (n : ℕ) → 0 < n → 0 < kept_at_start ps → Shifts (First n) ps (set ps 0 (KeepRun n))
 first_put [] n some kept = absurd (omega arith)
 first_put (InsertText text ∷ ps) n some kept = absurd (omega arith)
-first_put (Remove k ∷ ps) n some kept = absurd (omega arith)
-first_put (Keep k ∷ ps) n some kept = record {
+first_put (RemoveRun k ∷ ps) n some kept = absurd (omega arith)
+first_put (KeepRun k ∷ ps) n some kept = record {
   are_runs = λ h. unlike_keep k n ps h some;
   marks = λ h.
-      let same : kept_first (marks_of (Keep k ∷ ps)) ≡ k = ap kept_at_start (runs-marks_of (Keep k ∷ ps) h) in
-      sym (shifted_first (marks_of (Keep k ∷ ps)) (marks_of ps) n (ap (λ (m : ℕ). retains m ++ marks_of ps) (sym same)));
+      let same : kept_first (marks_of (KeepRun k ∷ ps)) ≡ k = ap kept_at_start (runs-marks_of (KeepRun k ∷ ps) h) in
+      sym (shifted_first (marks_of (KeepRun k ∷ ps)) (marks_of ps) n (ap (λ (m : ℕ). keep_marks m ++ marks_of ps) (sym same)));
 }
 
-last_put : (ps : List Part) (len n : ℕ) → len ≡ length ps → 0 < n → 0 < kept_at_end ps → Shifts (Last n) ps (set ps (len - 1) (Keep n))
+last_put : (ps : List Part) (len n : ℕ) → len ≡ length ps → 0 < n → 0 < kept_at_end ps → Shifts (Last n) ps (set ps (len - 1) (KeepRun n))
 last_put ps len n all some kept =
     let k = kept_at_end ps in
     let end = kept_end ps (kept_at_end ps) refl kept in
-    let new : set ps (length ps - 1) (Keep n) ≡ end.front ++ Keep n ∷ [] = set_last end.front (Keep (kept_at_end ps)) (Keep n) ps end.is in
+    let new : set ps (length ps - 1) (KeepRun n) ≡ end.front ++ KeepRun n ∷ [] = set_last end.front (KeepRun (kept_at_end ps)) (KeepRun n) ps end.is in
     let P : List Part → Type 0 = AreRuns in
     rw (all, new) record {
-      are_runs = λ h. AreRuns-grown end.front (Keep (kept_at_end ps)) (Keep n) (same_keep (kept_at_end ps) n) some (subst P end.is h);
+      are_runs = λ h. AreRuns-grown end.front (KeepRun (kept_at_end ps)) (KeepRun n) (same_keep (kept_at_end ps) n) some (subst P end.is h);
       marks = λ h.
           let same : kept_last (marks_of ps) ≡ kept_at_end ps = ap kept_at_end (runs-marks_of ps h) in
-          let is : marks_of ps ≡ marks_of end.front ++ retains (kept_last (marks_of ps)) =
-          ap marks_of end.is ∙ marks_of-last end.front (Keep (kept_at_end ps)) ∙ ap (λ (m : ℕ). marks_of end.front ++ retains m) (sym same) in
-          marks_of-last end.front (Keep n) ∙ sym (shifted_last (marks_of ps) (marks_of end.front) n is);
+          let is : marks_of ps ≡ marks_of end.front ++ keep_marks (kept_last (marks_of ps)) =
+          ap marks_of end.is ∙ marks_of-last end.front (KeepRun (kept_at_end ps)) ∙ ap (λ (m : ℕ). marks_of end.front ++ keep_marks m) (sym same) in
+          marks_of-last end.front (KeepRun n) ∙ sym (shifted_last (marks_of ps) (marks_of end.front) n is);
     }
 
-pub put_there : (shift kind : Shift) (ps : List Part) (place : ℕ) → shift ≡ kind → IsPlaceOf kind ps place → 0 < count_of shift → 0 < kept_there shift ps → Shifts shift ps (set ps place (Keep (count_of kind)))
+pub put_there : (shift kind : Shift) (ps : List Part) (place : ℕ) → shift ≡ kind → IsPlaceOf kind ps place → 0 < count_of shift → 0 < kept_there shift ps → Shifts shift ps (set ps place (KeepRun (count_of kind)))
 put_there shift kind ps place is here some kept =
     let P : Shift → Type 0 = λ s. (0 < count_of s) × (0 < kept_there s ps) in
-    let Q : Shift → Type 0 = λ s. Shifts s ps (set ps place (Keep (count_of kind))) in
+    let Q : Shift → Type 0 = λ s. Shifts s ps (set ps place (KeepRun (count_of kind))) in
     let known = subst P is (some, kept) in
     subst Q (sym is) (by_kind kind known.0 known.1 here)
   where
-    by_kind : (kind : Shift) → 0 < count_of kind → 0 < kept_there kind ps → IsPlaceOf kind ps place → Shifts kind ps (set ps place (Keep (count_of kind)))
+    by_kind : (kind : Shift) → 0 < count_of kind → 0 < kept_there kind ps → IsPlaceOf kind ps place → Shifts kind ps (set ps place (KeepRun (count_of kind)))
     by_kind (First n) some kept here = rw here (first_put ps n some kept)
     by_kind (Last n) some kept here = rw here (last_put ps (length ps) n refl some kept)
 

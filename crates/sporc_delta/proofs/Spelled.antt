@@ -14,7 +14,7 @@ use Rattle.sporc_delta.specs.Marks.{out_len}
 use Rattle.sporc_delta.specs.Parts.{part_marks, marks_of}
 use Rattle.sporc_delta.specs.Format.{part_bytes, parts_bytes}
 use Rattle.sporc_delta.specs.Typed.{IsTypedPart}
-use Rattle.sporc_delta.proofs.Lengths.{out_len-append, out_len-inserts}
+use Rattle.sporc_delta.proofs.Lengths.{out_len-append, out_len-insert_marks}
 
 -- a character has at most four bytes
 pub length-encode_all : (text : List ℕ) → length (encode_utf8_all text) ≤ 4 * length text
@@ -29,7 +29,7 @@ length-le-encode_all (c ∷ text) = omega (arith, length-le-encode_all text, len
 -- a part has nine bytes, and the bytes of its text
 length-part_bytes : (p : Part) → length (part_bytes p) ≤ 9 + 4 * out_len (part_marks p)
 length-part_bytes (Keep n) = omega arith
-length-part_bytes (InsertText text) = omega (arith, length-encode_all text, out_len-inserts text, length-append (to_be_bytes w64 (length (encode_utf8_all text))) (encode_utf8_all text))
+length-part_bytes (InsertText text) = omega (arith, length-encode_all text, out_len-insert_marks text, length-append (to_be_bytes w64 (length (encode_utf8_all text))) (encode_utf8_all text))
 length-part_bytes (Remove n) = omega arith
 
 pub length-parts_bytes : (ps : List Part) → length (parts_bytes ps) ≤ 9 * length ps + 4 * out_len (marks_of ps)
@@ -54,7 +54,7 @@ pub written_all : (ps : List Part) (i : ℕ) (bytes : List ℕ) → length ps �
 written_all ps i bytes end before =
     sym (append-nil bytes) ∙ ap (λ (rest : List Part). bytes ++ parts_bytes rest) (sym (drop_all i ps end)) ∙ before
 
--- the same of what the parts are
+-- one part more is of its type, and then all of them are
 pub typed_more : (ps : List Part) (i : ℕ) (p : Part) → i < length ps → p ≡ get_or ps i p → IsTypedPart p → AllByRecursion IsTypedPart (take i ps)
     → AllByRecursion IsTypedPart (take (i + 1) ps)
 typed_more ps i p within is typed before =

@@ -5,12 +5,12 @@ use Rattle.std.specs.List.{AllByRecursion}
 use Rattle.std.specs.Str.{all_scalars, encode_utf8_all}
 use Rattle.std.proofs.lemmas.Bool.{and_parts}
 use Rattle.sporc_delta.specs.declared.part.Part.{Part}
-use Rattle.sporc_delta.specs.declared.part.Part.TheVariants.{Keep, Insert as InsertText, Remove}
+use Rattle.sporc_delta.specs.declared.part.Part.TheVariants.{Keep as KeepRun, Insert as InsertText, Remove as RemoveRun}
 use Rattle.sporc_delta.specs.Format.{delta_bytes, part_bytes, parts_bytes}
-use Rattle.sporc_delta.specs.Marks.{Mark, Retain, Delete, Insert, base_len, deletes, insertion, inserts, removal, retains}
+use Rattle.sporc_delta.specs.Marks.{Mark, Keep, Remove, Insert, base_len, remove_marks, insertion, insert_marks, removal, keep_marks}
 use Rattle.sporc_delta.specs.Parts.{marks_of, part_marks, runs}
 use Rattle.sporc_delta.specs.Typed.{IsTypedDelta, IsTypedPart}
-use Rattle.sporc_delta.proofs.Lengths.{base_len-append, base_len-retains, base_len-deletes}
+use Rattle.sporc_delta.proofs.Lengths.{base_len-append, base_len-keep_marks, base_len-remove_marks}
 use Rattle.sporc_delta.proofs.Runs.{marks_of-runs}
 
 pub scalars_append : (xs ys : List ℕ) → all_scalars (xs ++ ys) ≡ (all_scalars xs && all_scalars ys)
@@ -20,39 +20,39 @@ scalars_append (x ∷ xs) ys = grind (arith, scalars_append xs ys)
 -- the characters that marks insert
 abbrev pub inserted : List Mark → List ℕ
 inserted [] = []
-inserted (Retain ∷ ms) = inserted ms
-inserted (Delete ∷ ms) = inserted ms
+inserted (Keep ∷ ms) = inserted ms
+inserted (Remove ∷ ms) = inserted ms
 inserted (Insert c ∷ ms) = c ∷ inserted ms
 
 pub inserted-append : (ms ns : List Mark) → inserted (ms ++ ns) ≡ inserted ms ++ inserted ns
 inserted-append [] ns = refl
-inserted-append (Retain ∷ ms) ns = inserted-append ms ns
-inserted-append (Delete ∷ ms) ns = inserted-append ms ns
+inserted-append (Keep ∷ ms) ns = inserted-append ms ns
+inserted-append (Remove ∷ ms) ns = inserted-append ms ns
 inserted-append (Insert c ∷ ms) ns = ap (λ (t : List ℕ). c ∷ t) (inserted-append ms ns)
 
-pub inserted-retains : (n : ℕ) → inserted (retains n) ≡ []
-inserted-retains zero = refl
-inserted-retains (suc n) = inserted-retains n
+pub inserted-keep_marks : (n : ℕ) → inserted (keep_marks n) ≡ []
+inserted-keep_marks zero = refl
+inserted-keep_marks (suc n) = inserted-keep_marks n
 
-pub inserted-deletes : (n : ℕ) → inserted (deletes n) ≡ []
-inserted-deletes zero = refl
-inserted-deletes (suc n) = inserted-deletes n
+pub inserted-remove_marks : (n : ℕ) → inserted (remove_marks n) ≡ []
+inserted-remove_marks zero = refl
+inserted-remove_marks (suc n) = inserted-remove_marks n
 
-pub inserted-inserts : (text : List ℕ) → inserted (inserts text) ≡ text
-inserted-inserts [] = refl
-inserted-inserts (c ∷ text) = ap (λ (t : List ℕ). c ∷ t) (inserted-inserts text)
+pub inserted-insert_marks : (text : List ℕ) → inserted (insert_marks text) ≡ text
+inserted-insert_marks [] = refl
+inserted-insert_marks (c ∷ text) = ap (λ (t : List ℕ). c ∷ t) (inserted-insert_marks text)
 
 -- what the makers' deltas insert
 pub inserted-insertion : (len at : ℕ) (text : List ℕ) → inserted (insertion len at text) ≡ text
 inserted-insertion len at text =
-    inserted-append (retains at ++ inserts text) (retains (len - at))
-    ∙ ap₂ (λ (a b : List ℕ). a ++ b) (inserted-append (retains at) (inserts text) ∙ ap₂ (λ (a b : List ℕ). a ++ b) (inserted-retains at) (inserted-inserts text)) (inserted-retains (len - at))
+    inserted-append (keep_marks at ++ insert_marks text) (keep_marks (len - at))
+    ∙ ap₂ (λ (a b : List ℕ). a ++ b) (inserted-append (keep_marks at) (insert_marks text) ∙ ap₂ (λ (a b : List ℕ). a ++ b) (inserted-keep_marks at) (inserted-insert_marks text)) (inserted-keep_marks (len - at))
     ∙ append-nil text
 
 pub inserted-removal : (len at count : ℕ) → inserted (removal len at count) ≡ []
 inserted-removal len at count =
-    inserted-append (retains at ++ deletes count) (retains (len - (at + count)))
-    ∙ ap₂ (λ (a b : List ℕ). a ++ b) (inserted-append (retains at) (deletes count) ∙ ap₂ (λ (a b : List ℕ). a ++ b) (inserted-retains at) (inserted-deletes count)) (inserted-retains (len - (at + count)))
+    inserted-append (keep_marks at ++ remove_marks count) (keep_marks (len - (at + count)))
+    ∙ ap₂ (λ (a b : List ℕ). a ++ b) (inserted-append (keep_marks at) (remove_marks count) ∙ ap₂ (λ (a b : List ℕ). a ++ b) (inserted-keep_marks at) (inserted-remove_marks count)) (inserted-keep_marks (len - (at + count)))
 
 -- a delta of a short text, with few bytes and characters that are Unicode scalar values
 pub record Fits (ms : List Mark) (bytes : List ℕ) : Type 0 where
@@ -61,11 +61,11 @@ pub record Fits (ms : List Mark) (bytes : List ℕ) : Type 0 where
   pub scalars : all_scalars (inserted ms) ≡ true
 
 typed_part : (p : Part) → Fits (part_marks p) (part_bytes p) → IsTypedPart p
-typed_part (Keep n) fits = omega (arith, fits.base, base_len-retains n)
-typed_part (Remove n) fits = omega (arith, fits.base, base_len-deletes n)
+typed_part (KeepRun n) fits = omega (arith, fits.base, base_len-keep_marks n)
+typed_part (RemoveRun n) fits = omega (arith, fits.base, base_len-remove_marks n)
 typed_part (InsertText text) fits = (
   omega (arith, fits.size, length-append (to_be_bytes w64 (length (encode_utf8_all text))) (encode_utf8_all text)),
-  ap all_scalars (sym (inserted-inserts text)) ∙ fits.scalars,
+  ap all_scalars (sym (inserted-insert_marks text)) ∙ fits.scalars,
 )
 
 typed_parts : (ps : List Part) → Fits (marks_of ps) (parts_bytes ps) → AllByRecursion IsTypedPart ps

@@ -4,16 +4,16 @@ use Rattle.sporc_delta.specs.declared.limits.TheConstants.{MAX_TEXT_LEN}
 use Rattle.sporc_delta.specs.declared.part.Kind.{Kind}
 use Rattle.sporc_delta.specs.declared.part.Kind.TheVariants as kinds
 use Rattle.sporc_delta.specs.declared.part.Part.{Part}
-use Rattle.sporc_delta.specs.declared.part.Part.TheVariants.{Keep, Insert as InsertText, Remove}
+use Rattle.sporc_delta.specs.declared.part.Part.TheVariants.{Keep as KeepRun, Insert as InsertText, Remove as RemoveRun}
 use Rattle.sporc_delta.specs.declared.part.Piece.{Piece}
 use Rattle.sporc_delta.specs.declared.part.Piece.TheVariants as pieces
-use Rattle.sporc_delta.specs.Marks.{Mark, Retain, Delete, Insert, base_len, out_len, retains, deletes, inserts}
+use Rattle.sporc_delta.specs.Marks.{Mark, Keep, Remove, Insert, base_len, out_len, keep_marks, remove_marks, insert_marks}
 
 -- the marks of one part, and of all parts in order
 abbrev pub part_marks : Part → List Mark
-part_marks (Keep n) = retains n
-part_marks (InsertText text) = inserts text
-part_marks (Remove n) = deletes n
+part_marks (KeepRun n) = keep_marks n
+part_marks (InsertText text) = insert_marks text
+part_marks (RemoveRun n) = remove_marks n
 
 abbrev pub marks_of : List Part → List Mark
 marks_of [] = []
@@ -21,10 +21,10 @@ marks_of (p ∷ ps) = part_marks p ++ marks_of ps
 
 -- the parts with one more mark in front, which joins a first part of its kind
 abbrev pub with_mark : Mark → List Part → List Part
-with_mark Retain (Keep n ∷ ps) = Keep (suc n) ∷ ps
-with_mark Retain ps = Keep 1 ∷ ps
-with_mark Delete (Remove n ∷ ps) = Remove (suc n) ∷ ps
-with_mark Delete ps = Remove 1 ∷ ps
+with_mark Keep (KeepRun n ∷ ps) = KeepRun (suc n) ∷ ps
+with_mark Keep ps = KeepRun 1 ∷ ps
+with_mark Remove (RemoveRun n ∷ ps) = RemoveRun (suc n) ∷ ps
+with_mark Remove ps = RemoveRun 1 ∷ ps
 with_mark (Insert c) (InsertText text ∷ ps) = InsertText (c ∷ text) ∷ ps
 with_mark (Insert c) ps = InsertText (c ∷ []) ∷ ps
 
@@ -34,28 +34,28 @@ runs [] = []
 runs (m ∷ ms) = with_mark m (runs ms)
 
 abbrev pub kind_of : Part → Kind
-kind_of (Keep n) = kinds.Keep
+kind_of (KeepRun n) = kinds.Keep
 kind_of (InsertText text) = kinds.Insert
-kind_of (Remove n) = kinds.Remove
+kind_of (RemoveRun n) = kinds.Remove
 
 -- two parts are of one kind
 abbrev pub same_kind : Part → Part → Bool
-same_kind (Keep m) (Keep n) = true
+same_kind (KeepRun m) (KeepRun n) = true
 same_kind (InsertText s) (InsertText t) = true
-same_kind (Remove m) (Remove n) = true
+same_kind (RemoveRun m) (RemoveRun n) = true
 same_kind p q = false
 
 -- a part whose text stands elsewhere, as one that owns it
 abbrev pub owned : Piece → Part
-owned (pieces.Keep n) = Keep n
+owned (pieces.Keep n) = KeepRun n
 owned (pieces.Insert text) = InsertText text
-owned (pieces.Remove n) = Remove n
+owned (pieces.Remove n) = RemoveRun n
 
 -- how many marks a part has
 abbrev pub part_len : Part → ℕ
-part_len (Keep n) = n
+part_len (KeepRun n) = n
 part_len (InsertText text) = length text
-part_len (Remove n) = n
+part_len (RemoveRun n) = n
 
 -- the parts don't begin with one of this part's kind
 abbrev pub BeginsUnlike : Part → List Part → Type 0
@@ -77,11 +77,11 @@ pub record DeltaInvariant (parts : List Part) (base out : ℕ) : Type 0 where
 
 -- how many characters a last part keeps, and removes, and whether one inserts
 abbrev pub kept_by : Option Part → ℕ
-kept_by (Some (Keep n)) = n
+kept_by (Some (KeepRun n)) = n
 kept_by p = 0
 
 abbrev pub removed_by : Option Part → ℕ
-removed_by (Some (Remove n)) = n
+removed_by (Some (RemoveRun n)) = n
 removed_by p = 0
 
 abbrev pub inserted_by : Option Part → Bool

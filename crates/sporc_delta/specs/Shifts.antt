@@ -4,7 +4,7 @@ use Rattle.sporc_delta.specs.declared.limits.TheConstants.{MAX_TEXT_LEN}
 use Rattle.sporc_delta.specs.declared.part.Part.{Part}
 use Rattle.sporc_delta.specs.declared.shift.Shift.{Shift}
 use Rattle.sporc_delta.specs.declared.shift.Shift.TheVariants.{First, Last}
-use Rattle.sporc_delta.specs.Marks.{Mark, base_len, out_len, retains}
+use Rattle.sporc_delta.specs.Marks.{Mark, base_len, out_len, keep_marks}
 use Rattle.sporc_delta.specs.Parts.{AreRuns, kept_at_end, kept_by, marks_of, runs}
 
 -- how many characters a first part keeps
@@ -29,8 +29,8 @@ kept_there (Last n) ps = kept_at_end ps
 
 -- a delta with another count there
 abbrev pub shifted : Shift → List Mark → List Mark
-shifted (First n) ms = retains n ++ drop (kept_first ms) ms
-shifted (Last n) ms = take (length ms - kept_last ms) ms ++ retains n
+shifted (First n) ms = keep_marks n ++ drop (kept_first ms) ms
+shifted (Last n) ms = take (length ms - kept_last ms) ms ++ keep_marks n
 
 -- it keeps some characters there, before and after, and its texts stay short enough
 pub record CanShift (shift : Shift) (ms : List Mark) : Type 0 where

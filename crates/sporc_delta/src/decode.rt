@@ -89,8 +89,8 @@ pub(crate) fn read_part<'a>(
 ) -> Result<Piece<'a>, DeltaFault>
     ensures ok { IfOk result (λ piece. part_at before cursor.old ≡ Ok (owned piece, cursor.new)) }
     ensures err { IfErr result (λ e. part_at before cursor.old ≡ Err e) }
-    ensures base { IfOk result (λ piece. base_len (part_marks (owned piece)) ≤ MAX_COUNT) }
-    ensures out { IfOk result (λ piece. out_len (part_marks (owned piece)) ≤ MAX_COUNT) }
+    ensures base_within { IfOk result (λ piece. base_len (part_marks (owned piece)) ≤ MAX_COUNT) }
+    ensures out_within { IfOk result (λ piece. out_len (part_marks (owned piece)) ≤ MAX_COUNT) }
     ensures rest { OnOk result (9 + length cursor.new.rest ≤ length cursor.old.rest) }
 {
     let (kind, count) = read_head(before, cursor)?;

@@ -5,7 +5,7 @@ ghost use Rattle.std.specs.Str.{chars};
 ghost use Rattle.sporc_delta.specs.declared.limits.TheConstants.{MAX_COUNT, MAX_DELTA_BYTES, MAX_TEXT_LEN};
 ghost use Rattle.sporc_delta.specs.declared.fault.DeltaFault.TheVariants as faults;
 ghost use Rattle.sporc_delta.specs.Format.{delta_bytes};
-ghost use Rattle.sporc_delta.specs.Marks.{base_len, out_len, retains, deletes, inserts, insertion, removal, replacement};
+ghost use Rattle.sporc_delta.specs.Marks.{base_len, out_len, keep_marks, remove_marks, insert_marks, insertion, removal, replacement};
 ghost use Rattle.sporc_delta.specs.Parts.{AreRuns, marks_of, owned, part_marks, runs};
 ghost use Rattle.sporc_delta.specs.Same.{same_delta};
 ghost use Rattle.sporc_delta.specs.Shifts.{CanShift, kept_first, kept_last, shifted};
@@ -57,7 +57,7 @@ impl Delta {
 
     /// The delta that bytes spell (see `encode`), or the first fault from the left.
     pub fn decode(alloc: Global, bytes: &[u8]) -> Result<Delta, DeltaFault>
-        requires size { length bytes.now ≤ MAX_DELTA_BYTES }
+        requires limit { length bytes.now ≤ MAX_DELTA_BYTES }
         ensures ok { IfOk result (λ delta. read_delta bytes.now ≡ Ok delta) }
         ensures err { IfErr result (λ e. e ≢ faults.Memory → read_delta bytes.now ≡ Err e) }
     {
@@ -75,7 +75,7 @@ impl Delta {
     /// Inserts a text before the character at a place of a text of `len` characters.
     #[tactic(auto, using(crate::proofs::Lengths::lengths))]
     pub fn insert_at(alloc: Global, len: u64, at: u64, text: &str) -> Result<Delta, Memory>
-        requires within { at ≤ len }
+        requires in_bounds { at ≤ len }
         requires limit { len ≤ MAX_COUNT }
         requires text_limit { length text.now ≤ MAX_COUNT }
         ensures ok { IfOk result (λ d. d ≡ insertion len at (chars text.now)) }
@@ -90,7 +90,7 @@ impl Delta {
     /// Removes `count` characters from a place of a text of `len` characters on.
     #[tactic(auto, using(crate::proofs::Lengths::lengths))]
     pub fn remove_at(alloc: Global, len: u64, at: u64, count: u64) -> Result<Delta, Memory>
-        requires within { at + count ≤ len }
+        requires in_bounds { at + count ≤ len }
         requires limit { len ≤ MAX_COUNT }
         ensures ok { IfOk result (λ d. d ≡ removal len at count) }
     {
@@ -104,7 +104,7 @@ impl Delta {
     /// Keeps all of a text of `len` characters.
     pub fn keep_all(alloc: Global, len: u64) -> Result<Delta, Memory>
         requires { len ≤ MAX_COUNT }
-        ensures ok { IfOk result (λ d. d ≡ retains len) }
+        ensures ok { IfOk result (λ d. d ≡ keep_marks len) }
     {
         let mut delta = Delta::new(alloc);
         delta.push_keep(len)?;
@@ -221,8 +221,8 @@ impl Delta {
     /// Appends a part.
     #[tactic(auto, using(crate::proofs::Lengths::lengths))]
     pub fn push(&mut self, piece: &Piece<'_>) -> Result<(), Memory>
-        requires base { base_len self.old + base_len (part_marks (owned piece.now)) ≤ MAX_TEXT_LEN }
-        requires out { out_len self.old + out_len (part_marks (owned piece.now)) ≤ MAX_TEXT_LEN }
+        requires base_limit { base_len self.old + base_len (part_marks (owned piece.now)) ≤ MAX_TEXT_LEN }
+        requires out_limit { out_len self.old + out_len (part_marks (owned piece.now)) ≤ MAX_TEXT_LEN }
         ensures ok { OnOk result (self.new ≡ self.old ++ part_marks (owned piece.now)) }
         ensures memory { OnErr result (self.new ≡ self.old) }
     {
@@ -235,9 +235,9 @@ impl Delta {
 
     /// Keeps so many more characters behind what is there.
     pub fn push_keep(&mut self, count: u64) -> Result<(), Memory>
-        requires base { base_len self.old + count ≤ MAX_TEXT_LEN }
-        requires out { out_len self.old + count ≤ MAX_TEXT_LEN }
-        ensures ok { OnOk result (self.new ≡ self.old ++ retains count) }
+        requires base_limit { base_len self.old + count ≤ MAX_TEXT_LEN }
+        requires out_limit { out_len self.old + count ≤ MAX_TEXT_LEN }
+        ensures ok { OnOk result (self.new ≡ self.old ++ keep_marks count) }
         ensures memory { OnErr result (self.new ≡ self.old) }
     {
         if count == 0 {
@@ -252,7 +252,7 @@ impl Delta {
     /// Removes so many more characters behind what is there.
     pub fn push_remove(&mut self, count: u64) -> Result<(), Memory>
         requires { base_len self.old + count ≤ MAX_TEXT_LEN }
-        ensures ok { OnOk result (self.new ≡ self.old ++ deletes count) }
+        ensures ok { OnOk result (self.new ≡ self.old ++ remove_marks count) }
         ensures memory { OnErr result (self.new ≡ self.old) }
     {
         if count == 0 {
@@ -266,7 +266,7 @@ impl Delta {
     /// Inserts a text behind what is there.
     pub fn push_insert(&mut self, text: &TextSlice<'_>) -> Result<(), Memory>
         requires { out_len self.old + length text.now ≤ MAX_TEXT_LEN }
-        ensures ok { OnOk result (self.new ≡ self.old ++ inserts text.now) }
+        ensures ok { OnOk result (self.new ≡ self.old ++ insert_marks text.now) }
         ensures memory { OnErr result (self.new ≡ self.old) }
     {
         if text.is_empty() {

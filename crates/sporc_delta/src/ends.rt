@@ -1,7 +1,7 @@
 //! Lists of parts that grow at the end, where a part joins the last one of its kind.
 
 ghost use Rattle.std.specs.Prelude.{◌≡◌, true, ◌+◌, ◌<◌, ◌^◌, length, OnOk, OnErr};
-ghost use Rattle.sporc_delta.specs.Marks.{base_len, out_len, retains, deletes, inserts};
+ghost use Rattle.sporc_delta.specs.Marks.{base_len, out_len, keep_marks, remove_marks, insert_marks};
 ghost use Rattle.sporc_delta.specs.Parts.{Appends, marks_of, kept_at_end, removed_at_end, text_at_end};
 
 use crate::{Part, Text, TextSlice};
@@ -36,9 +36,9 @@ fn inserts_last(parts: &[Part]) -> bool
 
 // Appends a part that keeps, joined with a last one that does too.
 pub(crate) fn append_keep(parts: &mut Vec<Part>, count: u64) -> Result<(), Memory>
-    requires some { 0 < count }
-    requires fits { out_len (marks_of parts.old.items) + count < 2 ^ 64 }
-    ensures ok { OnOk result (Appends parts.old.items parts.new.items (retains count)) }
+    requires positive { 0 < count }
+    requires limit { out_len (marks_of parts.old.items) + count < 2 ^ 64 }
+    ensures ok { OnOk result (Appends parts.old.items parts.new.items (keep_marks count)) }
     ensures memory { OnErr result (parts.new.items ≡ parts.old.items) }
 {
     let kept = kept_last(parts.as_slice());
@@ -53,9 +53,9 @@ pub(crate) fn append_keep(parts: &mut Vec<Part>, count: u64) -> Result<(), Memor
 
 // Appends a part that removes, joined with a last one that does too.
 pub(crate) fn append_remove(parts: &mut Vec<Part>, count: u64) -> Result<(), Memory>
-    requires some { 0 < count }
-    requires fits { base_len (marks_of parts.old.items) + count < 2 ^ 64 }
-    ensures ok { OnOk result (Appends parts.old.items parts.new.items (deletes count)) }
+    requires positive { 0 < count }
+    requires limit { base_len (marks_of parts.old.items) + count < 2 ^ 64 }
+    ensures ok { OnOk result (Appends parts.old.items parts.new.items (remove_marks count)) }
     ensures memory { OnErr result (parts.new.items ≡ parts.old.items) }
 {
     let removed = removed_last(parts.as_slice());
@@ -70,9 +70,9 @@ pub(crate) fn append_remove(parts: &mut Vec<Part>, count: u64) -> Result<(), Mem
 
 // Appends a part that inserts, joined with a last one that does too.
 pub(crate) fn append_text(parts: &mut Vec<Part>, text: &TextSlice<'_>) -> Result<(), Memory>
-    requires some { 0 < length text.now }
-    requires fits { out_len (marks_of parts.old.items) + length text.now < 2 ^ 64 }
-    ensures ok { OnOk result (Appends parts.old.items parts.new.items (inserts text.now)) }
+    requires positive { 0 < length text.now }
+    requires limit { out_len (marks_of parts.old.items) + length text.now < 2 ^ 64 }
+    ensures ok { OnOk result (Appends parts.old.items parts.new.items (insert_marks text.now)) }
     ensures memory { OnErr result (parts.new.items ≡ parts.old.items) }
 {
     if inserts_last(parts.as_slice()) {
@@ -86,9 +86,9 @@ pub(crate) fn append_text(parts: &mut Vec<Part>, text: &TextSlice<'_>) -> Result
 // Appends a text to that of the last part, which inserts.
 fn grow_text(parts: &mut Vec<Part>, text: &TextSlice<'_>) -> Result<(), Memory>
     requires inserts { text_at_end parts.old.items ≡ true }
-    requires some { 0 < length text.now }
-    requires fits { out_len (marks_of parts.old.items) + length text.now < 2 ^ 64 }
-    ensures ok { OnOk result (Appends parts.old.items parts.new.items (inserts text.now)) }
+    requires positive { 0 < length text.now }
+    requires limit { out_len (marks_of parts.old.items) + length text.now < 2 ^ 64 }
+    ensures ok { OnOk result (Appends parts.old.items parts.new.items (insert_marks text.now)) }
     ensures memory { OnErr result (parts.new.items ≡ parts.old.items) }
 {
     match parts.pop() {

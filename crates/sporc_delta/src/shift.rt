@@ -48,8 +48,8 @@ pub(crate) fn kept_there(parts: &[Part], shift: Shift) -> u64
 
 // Keeps another number of characters at one end of these parts.
 pub(crate) fn shift_parts(parts: &mut Vec<Part>, shift: Shift)
-    requires some { 0 < count_of shift }
-    requires kept { 0 < kept_there shift parts.old.items }
+    requires positive { 0 < count_of shift }
+    requires kept_positive { 0 < kept_there shift parts.old.items }
     ensures shifts { Shifts shift parts.old.items parts.new.items }
 {
     match shift {

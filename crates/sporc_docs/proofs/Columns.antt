@@ -15,7 +15,7 @@ use Rattle.sporc_serve.specs.Logs.{by_of, placed, IsLogOf}
 use Rattle.sporc_serve.specs.Served.{IsWornAt, log_at_first}
 use Rattle.sporc_serve.specs.Turns.{HasReadLast}
 use Rattle.sporc_serve.specs.Visits.{Visit}
-use Rattle.sporc_serve.proofs.Coursing.{starts_then, starts_same}
+use Rattle.sporc_serve.proofs.Tracing.{starts_then, starts_same}
 use Rattle.sporc_serve.proofs.Serving.{none_of}
 use Rattle.sporc_serve.proofs.Turning.{starts_log}
 use Rattle.sporc_docs.specs.Hands.{Splits, Joins}

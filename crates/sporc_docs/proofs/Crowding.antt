@@ -18,9 +18,9 @@ use Rattle.sporc_serve.specs.declared.end.SessionEnd.TheVariants.{Closed, LinkEn
 use Rattle.sporc_serve.specs.declared.fault.ServeFault.{ServeFault}
 use Rattle.sporc_serve.specs.declared.fault.ServeFault.TheVariants as faults
 use Rattle.sporc_serve.specs.declared.item.Item.{Item}
-use Rattle.sporc_serve.specs.Courses.{stand_at}
+use Rattle.sporc_serve.specs.Traces.{stand_at}
 use Rattle.sporc_serve.specs.Endings.{Inlet, inlet_at, IsFirst}
-use Rattle.sporc_serve.specs.Visits.{visit, came, went, AreFrom, AreBehind, TellsOf, with_end}
+use Rattle.sporc_serve.specs.Visits.{visit, came, handed_back, AreFrom, AreBehind, TellsOf, with_end}
 use Rattle.sporc_serve.proofs.Crowding.{IsLastTicket, last_ticket, tells_more, kept_more, from_more, from_none, behind_more, behind_none}
 use Rattle.sporc_docs.specs.declared.hands.Hand.{Hand}
 use Rattle.sporc_docs.specs.Crowds.{IsCrowd}
@@ -118,7 +118,7 @@ module _ {T : Type 0} {gs : Ghosts T} (turns : List (Turn (Desk T gs) Item)) (do
           sit = (have, have', sits, c.sit);
           came_open = (is_open, c.came_open);
           coming = from_more old.coming mid.coming new.coming b (came vs) took (subst (λ (x : Option (List StreamTold)). AreFrom mid.coming x (came vs)) (sym coming) c.coming);
-          returned = behind_more old.returned low.returned new.returned a (went vs) (subst (λ (x : Option (List StreamTold)). AreBehind x low.returned (went vs)) back c.returned) returned;
+          returned = behind_more old.returned low.returned new.returned a (handed_back vs) (subst (λ (x : Option (List StreamTold)). AreBehind x low.returned (handed_back vs)) back c.returned) returned;
           result_is = subst (λ (z : ℕ × Result (Unit {0}) ServeFault). TellsOf (suc (length hs)) old.faults z.0 (visit b a end ∷ vs) z.1) (λ i. (sym count i, sym ended i))
               (tells_more (length hs) old.faults mid.faults low.faults b a end vs result le c.result_is
               (sits_last h.passes.items h'.passes.items b a end have have' size logs sits));

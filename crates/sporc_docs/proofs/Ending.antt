@@ -14,7 +14,7 @@ use Rattle.sporc_serve.specs.declared.item.Item.{Item}
 use Rattle.sporc_serve.specs.Served.{log_at_first}
 use Rattle.sporc_serve.specs.declared.fault.ServeFault.{ServeFault}
 use Rattle.sporc_serve.specs.declared.fault.ServeFault.TheVariants as faults'
-use Rattle.sporc_serve.specs.Visits.{Visit, CameOpen, came, went, AreFrom, AreBehind, NoneUnkept, TellsOf}
+use Rattle.sporc_serve.specs.Visits.{Visit, CameOpen, came, handed_back, AreFrom, AreBehind, NoneUnkept, TellsOf}
 use Rattle.sporc_docs.specs.declared.hands.Hand.{Hand}
 use Rattle.sporc_docs.specs.Crowds.{AllSit, IsCrowd}
 use Rattle.sporc_docs.specs.Hands.{Both, AllHands, HasFirst, HasPass, MayHave, LogsBegin, Splits, SplitsAt, JoinsAt, column, pass_at}
@@ -216,7 +216,7 @@ ending turns documents orders apart documents_are size hs hs' fs0 fs1 fs2 known 
         ends = end.1;
         came_open = subst (λ (x : List Visit). CameOpen x) visits c.came_open;
         coming = subst (λ (x : List Visit). AreFrom old.coming new.coming (came x)) visits c.coming;
-        returned = subst (λ (x : List Visit). AreBehind old.returned new.returned (went x)) visits c.returned;
+        returned = subst (λ (x : List Visit). AreBehind old.returned new.returned (handed_back x)) visits c.returned;
         result_is = subst (λ (x : List Visit). TellsOf n old.faults new.faults x result) visits
             (subst (λ (m : ℕ). TellsOf m old.faults new.faults vs result) (sym count) c.result_is);
         kept = subst (λ (x : List Visit). result ≢ Err faults'.Unkept → NoneUnkept x) visits c.kept;

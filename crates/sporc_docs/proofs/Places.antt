@@ -69,7 +69,7 @@ pub not_at_place : {A : Type 0} (is_one : A → Bool) (xs : List A) (i : ℕ) (x
 not_at_place is_one xs i x within is is_not =
     ap (position_from is_one i) (item_at xs i x within is) ∙ ap (λ (b : Bool). cond b (Some i) (position_from is_one (i + 1) (drop (i + 1) xs))) is_not
 
--- the same, of the item as it is read there
+-- it is one that is looked for, or it isn't, of the item as it is read there
 pub read_at_place : {A : Type 0} (is_one : A → Bool) (xs : List A) (i : ℕ) (d : A) → i < length xs → is_one (slice_index_or xs i d) ≡ true
     → position_from is_one i (drop i xs) ≡ Some i
 read_at_place {A} is_one xs i d within is_here =

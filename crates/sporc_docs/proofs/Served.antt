@@ -13,8 +13,8 @@ use Rattle.sporc_serve.specs.declared.fault.ServeFault.{ServeFault}
 use Rattle.sporc_serve.specs.declared.item.Item.{Item}
 use Rattle.sporc_serve.specs.Logs.{by_of, order_at, placed}
 use Rattle.sporc_serve.specs.Served.{log_at_first}
-use Rattle.sporc_serve.specs.Visits.{came, went, AreFrom, AreBehind, TellsOf}
-use Rattle.sporc_serve.proofs.Coursing.{starts_same}
+use Rattle.sporc_serve.specs.Visits.{came, handed_back, AreFrom, AreBehind, TellsOf}
+use Rattle.sporc_serve.proofs.Tracing.{starts_same}
 use Rattle.sporc_serve.proofs.Crowding.{from_none, behind_none}
 use Rattle.sporc_serve.proofs.Serving.{first_is, tells_before}
 use Rattle.sporc_docs.specs.declared.locks.Locks.{Locks}
@@ -141,7 +141,7 @@ serves_before old mid new n result os os' served coming returned le =
         served = s.served;
         came_open = s.came_open;
         coming = subst (λ (x : Option (List StreamTold)). AreFrom x new.coming (came vs)) coming s.coming;
-        returned = subst (λ (x : Option (List StreamTold)). AreBehind x new.returned (went vs)) returned s.returned;
+        returned = subst (λ (x : Option (List StreamTold)). AreBehind x new.returned (handed_back vs)) returned s.returned;
         result_is = tells_before n old.faults mid.faults new.faults vs result le s.result_is;
         kept = s.kept;
       },

@@ -12,11 +12,11 @@ use Rattle.sporc_order.specs.declared.tail.Tail.{Ghosts}
 use Rattle.sporc_serve.specs.declared.end.SessionEnd.{SessionEnd}
 use Rattle.sporc_serve.specs.Endings.{inlet_at, IsFirst}
 use Rattle.sporc_serve.specs.Logs.{IsLogOf}
-use Rattle.sporc_serve.specs.Courses.{ServerStand, stand, stand_at, Leads}
+use Rattle.sporc_serve.specs.Traces.{ServerStand, stand, stand_at, Leads}
 use Rattle.sporc_serve.specs.Visits.{visit, IsServedSession}
 use Rattle.sporc_serve.proofs.Going.{kept}
 use Rattle.sporc_serve.proofs.Stepping.{session_ended}
-use Rattle.sporc_serve.proofs.Waiting.{course_waits}
+use Rattle.sporc_serve.proofs.Waiting.{trace_waits}
 use Rattle.sporc_turn.specs.declared.pass.Pass.{Pass}
 use Rattle.sporc_turn.specs.declared.turn.Turn.{Turn}
 use Rattle.sporc_serve.specs.declared.desk.Desk.{Desk}
@@ -92,7 +92,7 @@ module _ (before mid link after : StreamTold) (unread unread' : Unread) (m : ToS
       let found = first.4 in
       let a : ServerStand = stand_at k before (stream_of []) false in
       let b : ServerStand = stand k came.left before.written came.faults came.unread false in
-      let course = kept g a b bytes [] (course_waits g k before.written (inlet_at before unread) came bytes first.2) mid.left mid.faults mid.written
+      let trace = kept g a b bytes [] (trace_waits g k before.written (inlet_at before unread) came bytes first.2) mid.left mid.faults mid.written
       (subst (λ (l : Option (List ℕ)). Consumes came.left l []) (sym found.left) (Consumes-nil came.left)) first.3 same in
       session_ended g k k' before link after (stream_of []) false end
-      (goes came.unread found.answer found.unread g a bytes [] log course) (as_shut' ∙ as_shut) shuts
+      (goes came.unread found.answer found.unread g a bytes [] log trace) (as_shut' ∙ as_shut) shuts

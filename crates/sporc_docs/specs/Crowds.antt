@@ -7,7 +7,7 @@ use Rattle.sporc_serve.specs.declared.desk.Desk.{Desk}
 use Rattle.sporc_serve.specs.declared.fault.ServeFault.{ServeFault}
 use Rattle.sporc_serve.specs.declared.fault.ServeFault.TheVariants.{Unkept}
 use Rattle.sporc_serve.specs.declared.item.Item.{Item}
-use Rattle.sporc_serve.specs.Visits.{Visit, CameOpen, came, went, AreFrom, AreBehind, NoneUnkept, TellsOf}
+use Rattle.sporc_serve.specs.Visits.{Visit, CameOpen, came, handed_back, AreFrom, AreBehind, NoneUnkept, TellsOf}
 use Rattle.sporc_docs.specs.declared.hands.Hand.{Hand}
 use Rattle.sporc_docs.specs.Hands.{HavePasses}
 use Rattle.sporc_docs.specs.Sessions.{Sits}
@@ -28,7 +28,7 @@ module _ {T : Type 0} {tail : Ghosts T} (turns : List (Turn (Desk T tail) Item))
     pub sit : AllSit visits hands hands'
     pub came_open : CameOpen visits
     pub coming : AreFrom old.coming new.coming (came visits)
-    pub returned : AreBehind old.returned new.returned (went visits)
+    pub returned : AreBehind old.returned new.returned (handed_back visits)
     pub result_is : TellsOf (length hands) old.faults new.faults visits result
     pub kept : result ≢ Err Unkept → NoneUnkept visits
 

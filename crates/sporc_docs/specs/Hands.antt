@@ -30,7 +30,7 @@ abbrev pub HasPass : {T : Type 0} {tail : Ghosts T} → Turn (Desk T tail) Item 
 HasPass turn None = ⊥
 HasPass turn (Some p) = IsPassOf turn p × ((known_of p).number ≢ 0)
 
--- the same, or none
+-- a pass of this lock with another number, or none
 abbrev pub MayHave : {T : Type 0} {tail : Ghosts T} → Turn (Desk T tail) Item → Option (Pass Item) → Type 0
 MayHave turn None = Unit {0}
 MayHave turn (Some p) = IsPassOf turn p × ((known_of p).number ≢ 0)

@@ -11,7 +11,7 @@ use Rattle.sporc_order.specs.declared.tail.Tail.{Ghosts}
 use Rattle.sporc_serve.specs.declared.item.Item.{Item}
 use Rattle.sporc_serve.specs.Logs.{by_of, order_at, IsLogOf}
 use Rattle.sporc_serve.specs.Served.{log_at_first}
-use Rattle.sporc_serve.specs.Visits.{CameOpen, came, went, AreFrom, AreBehind, NoneUnkept, TellsOf}
+use Rattle.sporc_serve.specs.Visits.{CameOpen, came, handed_back, AreFrom, AreBehind, NoneUnkept, TellsOf}
 use Rattle.sporc_serve.specs.declared.fault.ServeFault.{ServeFault}
 use Rattle.sporc_serve.specs.declared.fault.ServeFault.TheVariants.{Unkept}
 use Rattle.sporc_docs.specs.declared.locks.Locks.{Locks}
@@ -57,7 +57,7 @@ pub record Ending (orders : List OrderModel)
   pub ends : Both (Ends sessions) (reverse orders) firsts
   pub came_open : CameOpen (visits_of sessions)
   pub coming : AreFrom old.coming new.coming (came (visits_of sessions))
-  pub returned : AreBehind old.returned new.returned (went (visits_of sessions))
+  pub returned : AreBehind old.returned new.returned (handed_back (visits_of sessions))
   pub result_is : TellsOf count old.faults new.faults (visits_of sessions) result
   pub kept : result ≢ Err Unkept → NoneUnkept (visits_of sessions)
 

@@ -49,7 +49,7 @@ pub record Asked : Type 0 where
   pub answer : Answer
   pub orders : List OrderModel
 
--- the same, behind a list more
+-- an answer and the lists after it, behind a list more
 abbrev pub behind : OrderModel → Asked → Asked
 behind o asked = record { answer = asked.answer; orders = o ∷ asked.orders }
 

@@ -11,7 +11,7 @@ use Rattle.sporc_serve.specs.declared.fault.ServeFault.{ServeFault}
 use Rattle.sporc_serve.specs.declared.fault.ServeFault.TheVariants as faults
 use Rattle.sporc_serve.specs.declared.item.Item.{Item}
 use Rattle.sporc_serve.specs.Logs.{by_of, order_at}
-use Rattle.sporc_serve.specs.Visits.{Visit, CameOpen, came, went, AreFrom, AreBehind, NoneUnkept, TellsOf}
+use Rattle.sporc_serve.specs.Visits.{Visit, CameOpen, came, handed_back, AreFrom, AreBehind, NoneUnkept, TellsOf}
 use Rattle.sporc_serve.specs.Served.{Attends, IsWornAt, log_at_first}
 use Rattle.sporc_docs.specs.declared.fault.DocsServeFault.{DocsServeFault}
 use Rattle.sporc_docs.specs.declared.fault.DocsServeFault.TheVariants as faults'
@@ -80,7 +80,7 @@ pub record ServesDocuments (before after : List OrderModel) (old new : NetTold) 
   pub served : Both (IsServedDocument sessions) before after
   pub came_open : CameOpen (visits_of sessions)
   pub coming : AreFrom old.coming new.coming (came (visits_of sessions))
-  pub returned : AreBehind old.returned new.returned (went (visits_of sessions))
+  pub returned : AreBehind old.returned new.returned (handed_back (visits_of sessions))
   pub result_is : TellsOf count old.faults new.faults (visits_of sessions) result
   pub kept : result ≢ Err faults.Unkept → NoneUnkept (visits_of sessions)
 

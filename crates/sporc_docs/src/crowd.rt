@@ -35,7 +35,7 @@ where
     N: Send,
     N::Link: Send,
     requires locks { AllHands (HavePasses turns.now) hands.old }
-    requires documents { length documents.now ≡ length turns.now }
+    requires one_length { length documents.now ≡ length turns.now }
     ensures locks { AllHands (HavePasses turns.now) hands.new }
     ensures crowd { AllHands LogsBegin hands.old
         → IsCrowd turns.now documents.now hands.old hands.new (N.told net.old) (N.told net.new) result }
@@ -76,7 +76,7 @@ where
     with_end(rest, end)
 }
 
-// The same, unless memory ran out as the hands' passes were split.
+// Serves links with these hands, unless memory ran out as the hands' passes were split.
 pub(crate) fn crowd_if<R: Threads + Wait + Sync, N: Listen, G: Gate + Sync, T: Tail + Send>(
     rt: &R,
     alloc: Global,
@@ -92,7 +92,7 @@ where
     N::Link: Send,
     requires hands { AllHands (Both MayHave turns.now) hands.old }
     requires locks { OnOk split (AllHands (HavePasses turns.now) hands.old) }
-    requires documents { length documents.now ≡ length turns.now }
+    requires one_length { length documents.now ≡ length turns.now }
     ensures hands { AllHands (Both MayHave turns.now) hands.new }
     ensures crowd { AllHands LogsBegin hands.old
         → IsCrowd turns.now documents.now hands.old hands.new (N.told net.old) (N.told net.new) result }

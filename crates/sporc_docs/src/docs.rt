@@ -45,7 +45,7 @@ impl Docs {
     // These orders.
     pub(crate) fn of(orders: Vec<Order>) -> Docs
         requires apart { AreApart orders.items }
-        requires within { length orders.items ≤ MAX_DOCUMENTS }
+        requires limit { length orders.items ≤ MAX_DOCUMENTS }
         ensures value { result ≡ orders.items }
     {
         Docs { orders }
@@ -110,7 +110,7 @@ impl Docs {
 
 // The place of a document's order.
 fn place_in(orders: &[Order], document: &[u8; 16]) -> Option<u32>
-    requires within { length orders.now ≤ MAX_DOCUMENTS }
+    requires limit { length orders.now ≤ MAX_DOCUMENTS }
     ensures value { result ≡ place_of orders.now document.now }
 {
     for (place, order) in orders.iter().enumerate() {

@@ -11,7 +11,7 @@
 //! docs.route(&ToServer::Hello { document, member: 1 })     // its place, from 0 on
 //! let (docs, answer) = serve_docs(&rt, alloc, &mut net, "localhost:4000", docs, 2, &OpenGate);
 //! docs.into_orders()                                       // as they were added
-//! serve_docs_kept(.., docs, tails, 2, &OpenGate)           // the same, with a tail for each document
+//! serve_docs_kept(.., docs, tails, 2, &OpenGate)           // a server with a tail for each document
 //! ```
 //!
 //! Proved: which orders are held, no two of one document, and which of them a message names; of the machine of many

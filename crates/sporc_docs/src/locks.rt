@@ -32,9 +32,9 @@ impl<T: Tail> Locks<T> {
     // No lock, and room for so many.
     pub(crate) fn with_capacity(alloc: Global, len: usize) -> Result<Locks<T>, Memory>
         ensures none { IfOk result (AreOpen []) }
-        ensures turns { IfOk result (λ l. vec_len l.turns + len ≤ vec_capacity l.turns) }
-        ensures documents { IfOk result (λ l. vec_len l.documents + len ≤ vec_capacity l.documents) }
-        ensures firsts { IfOk result (λ l. vec_len l.firsts + len ≤ vec_capacity l.firsts) }
+        ensures turns_room { IfOk result (λ l. vec_len l.turns + len ≤ vec_capacity l.turns) }
+        ensures documents_room { IfOk result (λ l. vec_len l.documents + len ≤ vec_capacity l.documents) }
+        ensures firsts_room { IfOk result (λ l. vec_len l.firsts + len ≤ vec_capacity l.firsts) }
     {
         let documents = Vec::with_capacity(alloc, len)?;
         let firsts = Vec::with_capacity(alloc, len)?;
@@ -54,13 +54,13 @@ impl<T: Tail> Locks<T> {
         tails: &mut Vec<T>,
     ) -> Result<(), Memory>
         requires none { AreOpen [] self.old }
-        requires kept { AreKept T.keeps tails.old.items orders.old.items }
-        requires turns { vec_len self.old.turns + vec_len orders.old ≤ vec_capacity self.old.turns }
-        requires documents { vec_len self.old.documents + vec_len orders.old ≤ vec_capacity self.old.documents }
-        requires firsts { vec_len self.old.firsts + vec_len orders.old ≤ vec_capacity self.old.firsts }
+        requires tails { AreKept T.keeps tails.old.items orders.old.items }
+        requires turns_room { vec_len self.old.turns + vec_len orders.old ≤ vec_capacity self.old.turns }
+        requires documents_room { vec_len self.old.documents + vec_len orders.old ≤ vec_capacity self.old.documents }
+        requires firsts_room { vec_len self.old.firsts + vec_len orders.old ≤ vec_capacity self.old.firsts }
         ensures open { (os : List OrderModel) × (orders.old.items ≡ orders.new.items ++ reverse os) × AreOpen os self.new }
         ensures ok { OnOk result (orders.new.items ≡ []) }
-        ensures kept { AreKept T.keeps tails.new.items orders.new.items }
+        ensures tails { AreKept T.keeps tails.new.items orders.new.items }
         ensures room { (vec_capacity orders.new ≡ vec_capacity orders.old) × (vec_capacity tails.new ≡ vec_capacity tails.old) }
     {
         while let Some(order) = orders.pop() {
@@ -80,9 +80,9 @@ impl<T: Tail> Locks<T> {
 
     // One lock more.
     fn push(&mut self, turn: Turn<Desk<T>>, document: [u8; 16], first: Pass<Item>)
-        requires turns { vec_len self.old.turns < vec_capacity self.old.turns }
-        requires documents { vec_len self.old.documents < vec_capacity self.old.documents }
-        requires firsts { vec_len self.old.firsts < vec_capacity self.old.firsts }
+        requires turns_room { vec_len self.old.turns < vec_capacity self.old.turns }
+        requires documents_room { vec_len self.old.documents < vec_capacity self.old.documents }
+        requires firsts_room { vec_len self.old.firsts < vec_capacity self.old.firsts }
         ensures turns { self.new.turns.items ≡ self.old.turns.items ++ turn ∷ [] }
         ensures documents { self.new.documents.items ≡ self.old.documents.items ++ document ∷ [] }
         ensures firsts { self.new.firsts.items ≡ self.old.firsts.items ++ Some first ∷ [] }
@@ -112,7 +112,7 @@ impl<T: Tail> Locks<T> {
         requires firsts { Both HasFirst self.old.turns.items self.old.firsts.items }
         requires room { HaveRoom (length hands.old) self.old.firsts.items }
         requires empty { AllHands (Both IsEmpty self.old.turns.items) hands.old }
-        requires documents { length self.old.documents.items ≡ length self.old.turns.items }
+        requires one_length { length self.old.documents.items ≡ length self.old.turns.items }
         ensures turns { self.new.turns ≡ self.old.turns }
         ensures firsts { Both HasFirst self.new.turns.items self.new.firsts.items }
         ensures ending { (orders : List OrderModel) → AreApart orders → self.old.documents.items ≡ map (λ o. o.genesis.document) (reverse orders)
@@ -140,11 +140,11 @@ impl<T: Tail> Locks<T> {
     pub(crate) fn close(self, orders: &mut Vec<Order>, tails: &mut Vec<T>)
         requires firsts { Both HasFirst self.turns.items self.firsts.items }
         requires back { AreBack self.firsts.items }
-        requires kept { AreKept T.keeps tails.old.items orders.old.items }
+        requires tails { AreKept T.keeps tails.old.items orders.old.items }
         requires room { vec_len orders.old + vec_len self.turns ≤ vec_capacity orders.old }
         requires tails_room { vec_len tails.old + vec_len self.turns ≤ vec_capacity tails.old }
         ensures closed { (os : List OrderModel) × (orders.new.items ≡ orders.old.items ++ reverse os) × Both Closes self.firsts.items os }
-        ensures kept { AreKept T.keeps tails.new.items orders.new.items }
+        ensures tails { AreKept T.keeps tails.new.items orders.new.items }
     {
         let Locks {
             mut turns,

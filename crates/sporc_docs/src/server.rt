@@ -83,7 +83,7 @@ pub fn serve_docs<R: Threads + Wait + Sync, N: Listen, G: Gate + Sync>(
 where
     N: Send,
     N::Link: Send,
-    requires some { 1 ≤ sessions }
+    requires positive { 1 ≤ sessions }
     requires limit { sessions ≤ MAX_SESSIONS }
     ensures served { AreServed docs result.0 (N.told net.old) (N.told net.new) sessions (as_served result.1) }
     ensures asked { result.1 ≢ Err DocsServeFault.ListenFault → AppendsItem (N.told net.old).asked (N.told net.new).asked address.now }
@@ -116,7 +116,7 @@ pub fn serve_docs_kept<R: Threads + Wait + Sync, N: Listen, G: Gate + Sync, T: T
 where
     N: Send,
     N::Link: Send,
-    requires some { 1 ≤ sessions }
+    requires positive { 1 ≤ sessions }
     requires limit { sessions ≤ MAX_SESSIONS }
     requires tails { AreKept T.keeps tails.items docs }
     ensures served { AreServed docs result.0 (N.told net.old) (N.told net.new) sessions (as_served result.2) }

@@ -35,7 +35,7 @@ where
     requires firsts { Both HasFirst turns.now firsts.old }
     requires room { HaveRoom (length hands.old) firsts.old }
     requires empty { AllHands (Both IsEmpty turns.now) hands.old }
-    requires documents { length documents.now ≡ length turns.now }
+    requires one_length { length documents.now ≡ length turns.now }
     ensures firsts { Both HasFirst turns.now firsts.new }
     ensures ending { (orders : List OrderModel) → AreApart orders → documents.now ≡ map (λ o. o.genesis.document) (reverse orders)
         → Both KnowsFirst (reverse orders) firsts.old

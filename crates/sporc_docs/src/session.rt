@@ -8,7 +8,7 @@ ghost use Rattle.sporc_turn.specs.Passes.{known_of, read_of};
 ghost use Rattle.sporc_wire.specs.Messages.{Unread, next, stream_of};
 ghost use Rattle.sporc_wire.specs.ToServer.{to_server_of};
 ghost use Rattle.sporc_order.specs.Sessions.{IsFramed};
-ghost use Rattle.sporc_serve.specs.Courses.{stand_at, Leads};
+ghost use Rattle.sporc_serve.specs.Traces.{stand_at, Leads};
 ghost use Rattle.sporc_serve.specs.Turns.{HasReadLast};
 ghost use Rattle.std.specs.List.{position_from};
 ghost use Rattle.std.specs.Str.{bytes_eq};
@@ -91,7 +91,7 @@ fn serve_one<R: Wait, L: Link, G: Gate, T: Tail>(
     hand: &mut [Option<Pass<Item>>],
 ) -> SessionEnd
     requires locks { HavePasses turns.now hand.old }
-    requires documents { length documents.now ≡ length turns.now }
+    requires one_length { length documents.now ≡ length turns.now }
     ensures locks { HavePasses turns.now hand.new }
     ensures session { Sits documents.now (visit (L.told link.old) (L.told link.new) result) hand.old hand.new }
     ensures unkept { result ≡ SessionEnd.Unkept → T.may_fail }
@@ -123,7 +123,7 @@ fn serve_one<R: Wait, L: Link, G: Gate, T: Tail>(
     end
 }
 
-// The same with a hand.
+// A session over a link with a hand.
 pub(crate) fn serve_hand<R: Wait, L: Link, G: Gate, T: Tail>(
     rt: &R,
     alloc: Global,
@@ -134,7 +134,7 @@ pub(crate) fn serve_hand<R: Wait, L: Link, G: Gate, T: Tail>(
     hand: &mut Hand,
 ) -> SessionEnd
     requires locks { HavePasses turns.now hand.old.passes.items }
-    requires documents { length documents.now ≡ length turns.now }
+    requires one_length { length documents.now ≡ length turns.now }
     ensures locks { HavePasses turns.now hand.new.passes.items }
     ensures session { Sits documents.now (visit (L.told link.old) (L.told link.new) result) hand.old.passes.items hand.new.passes.items }
     ensures unkept { result ≡ SessionEnd.Unkept → T.may_fail }

@@ -34,7 +34,7 @@ founder_at least r = do
   key ← bytes_at 56 role.1
   Ok (record { member = member.0; role = role.0; key = key.0 }, key.1)
 
--- the same, and the least number of the one after it
+-- a founder whose number is at least this, and the least number of the one after it
 unfoldable pub next_founder : ℕ × Reading → Result (Founder × (ℕ × Reading)) ℕ
 next_founder (least, r) = do
   m ← founder_at least r

@@ -179,14 +179,14 @@ pub(crate) fn read_body(
 
 /// The body of a change that these bytes spell in an entry of this version. Places are counted from the first of them.
 pub fn read_change(alloc: Global, version: u8, body: &[u8]) -> Result<ChangeBody, EntryFault>
-    requires version { (FIRST_VERSION ≤ version) × (version ≤ DEVICES_VERSION) }
+    requires range { (FIRST_VERSION ≤ version) × (version ≤ DEVICES_VERSION) }
     // What is read is spelled so.
     ensures found { IfOk result (λ c. IsChangeBody version c × (body.now ≡ change_body_bytes c)) }
     // What is spelled so is read, unless memory runs out.
     ensures only { (c : ChangeBody) → IsChangeBody version c → body.now ≡ change_body_bytes c
         → GivesUnless EntryFault.Memory (λ c. c) result (Ok c) }
     // Which fault it is.
-    ensures exact { GivesUnless EntryFault.Memory (λ c. c) result
+    ensures value { GivesUnless EntryFault.Memory (λ c. c) result
         (fault_as EntryFault.Malformed (change_body_from version 0 body.now)) }
 {
     read_body(alloc, version, body, 0)
@@ -224,7 +224,7 @@ fn put_member(out: &mut Out, kind: u8, member: u16) -> Result<(), Memory>
     out.put_u16(member)
 }
 
-// The same, and the role that it gives.
+// Appends the kind of a change, whom it is of, and the role that it gives.
 fn put_role(out: &mut Out, kind: u8, member: u16, role: Role) -> Result<(), Memory>
     ensures { OnOk result (out.new ≡ out.old ++ kind ∷ to_be_bytes w16 member ++ role_code_of role ∷ []) }
 {
@@ -232,7 +232,7 @@ fn put_role(out: &mut Out, kind: u8, member: u16, role: Role) -> Result<(), Memo
     out.put_u8(role.code())
 }
 
-// The same, and which device of the member.
+// Appends the kind of a change, whom it is of, and which device of the member.
 fn put_device(out: &mut Out, kind: u8, member: u16, device: u8) -> Result<(), Memory>
     ensures { OnOk result (out.new ≡ out.old ++ kind ∷ to_be_bytes w16 member ++ device ∷ []) }
 {

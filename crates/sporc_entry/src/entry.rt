@@ -31,12 +31,12 @@ pub fn read_entry(alloc: Global, bytes: &[u8]) -> Result<Entry, EntryFault>
     // What is read is spelled so.
     ensures found { IfOk result (λ e. IsEntry e × (bytes.now ≡ entry_bytes e)) }
     // Such bytes are no more than those of an edit with the longest body and signature.
-    ensures sized { IfOk result (λ _. length bytes.now ≤ MAX_ENTRY) }
+    ensures within { IfOk result (λ _. length bytes.now ≤ MAX_ENTRY) }
     // What is spelled so is read, unless memory runs out.
     ensures only { (e : Entry) → IsEntry e → bytes.now ≡ entry_bytes e
         → GivesUnless EntryFault.Memory (λ e. e) result (Ok e) }
     // Which fault it is.
-    ensures exact { GivesUnless EntryFault.Memory (λ e. e) result
+    ensures value { GivesUnless EntryFault.Memory (λ e. e) result
         (fault_as EntryFault.Malformed (entry_of bytes.now)) }
 {
     read_copied(alloc, bytes)
@@ -56,8 +56,8 @@ fn read_copied(alloc: Global, bytes: &[u8]) -> Result<Entry, EntryFault>
 #[tactic(auto, unfolding(crate::specs::Entry::entry_bytes))]
 pub fn write_entry(alloc: Global, entry: &Entry) -> Result<Vec<u8>, Memory>
     requires version { fits_version entry.now.header.version entry.now.header.device ≡ true }
-    requires body { length entry.now.body < 2 ^ 32 }
-    requires signature { length entry.now.signature < 2 ^ 32 }
+    requires body_limit { length entry.now.body < 2 ^ 32 }
+    requires signature_limit { length entry.now.signature < 2 ^ 32 }
     ensures ok { IfOk result (λ bytes. bytes.items ≡ entry_bytes entry.now) }
 {
     let body = entry.body.as_slice();
@@ -76,7 +76,7 @@ pub fn write_entry(alloc: Global, entry: &Entry) -> Result<Vec<u8>, Memory>
 #[tactic(auto, unfolding(crate::specs::Entry::signed_string))]
 pub fn signed_part(alloc: Global, entry: &Entry) -> Result<Vec<u8>, Memory>
     requires version { fits_version entry.now.header.version entry.now.header.device ≡ true }
-    requires body { length entry.now.body < 2 ^ 32 }
+    requires limit { length entry.now.body < 2 ^ 32 }
     ensures ok { IfOk result (λ bytes. bytes.items ≡ signed_string entry.now) }
 {
     let body = entry.body.as_slice();

@@ -157,7 +157,7 @@ pub fn read_genesis(alloc: Global, bytes: &[u8]) -> Result<Genesis, GenesisFault
     ensures only { (g : Genesis) → IsGenesis g → bytes.now ≡ genesis_bytes g
         → GivesUnless GenesisFault.Memory (λ g. g) result (Ok g) }
     // Which fault it is.
-    ensures exact { GivesUnless GenesisFault.Memory (λ g. g) result (genesis_of bytes.now) }
+    ensures value { GivesUnless GenesisFault.Memory (λ g. g) result (genesis_of bytes.now) }
 {
     read_tested(alloc, bytes)
 }

@@ -53,7 +53,7 @@ impl<'a> Model for EntryView<'a> {
 // How many bytes the body of an entry of this kind may have.
 pub(crate) fn limit_of(kind: u8) -> u32
     ensures value { result ≡ body_limit kind }
-    ensures small { result ≤ MAX_EDIT_BODY }
+    ensures within { result ≤ MAX_EDIT_BODY }
 {
     if kind == EDIT {
         MAX_EDIT_BODY
@@ -65,7 +65,7 @@ pub(crate) fn limit_of(kind: u8) -> u32
 // The change that the body behind this header is, if it is one.
 fn read_kind(alloc: Global, header: &Header, body: &[u8]) -> Result<Option<ChangeBody>, EntryFault>
     requires { length body.now ≤ MAX_EDIT_BODY }
-    ensures exact { GivesUnless EntryFault.Memory (λ _. tt) result
+    ensures value { GivesUnless EntryFault.Memory (λ _. tt) result
         (fault_as EntryFault.Malformed (body_read header.now body.now)) }
     ensures edit { IfOk result (λ change. header.now.kind ≡ 1 → change ≡ None) }
     ensures change { IfOk result (λ change. header.now.kind ≡ 2
@@ -81,7 +81,7 @@ fn read_kind(alloc: Global, header: &Header, body: &[u8]) -> Result<Option<Chang
 // The fields of the entry that these bytes spell.
 #[tactic(auto, unfolding(crate::specs::Entry::entry_of))]
 fn read_parts<'a>(alloc: Global, bytes: &'a [u8]) -> Result<Parts<'a>, EntryFault>
-    ensures exact { GivesUnless EntryFault.Memory (λ p. parts_entry p.header p.body.now p.signature.now) result
+    ensures value { GivesUnless EntryFault.Memory (λ p. parts_entry p.header p.body.now p.signature.now) result
         (fault_as EntryFault.Malformed (entry_of bytes.now)) }
     ensures edit { IfOk result (λ p. p.header.kind ≡ 1 → p.change ≡ None) }
     ensures change { IfOk result (λ p. p.header.kind ≡ 2
@@ -105,11 +105,11 @@ impl<'a> EntryView<'a> {
     /// Reads the entry that these bytes spell. A change's body is read where it stands, which alone takes memory: that
     /// of its sealed keys.
     pub fn read(alloc: Global, bytes: &'a [u8]) -> Result<EntryView<'a>, EntryFault>
-        ensures exact { GivesUnless EntryFault.Memory (λ v. v.entry) result
+        ensures value { GivesUnless EntryFault.Memory (λ v. v.entry) result
             (fault_as EntryFault.Malformed (entry_of bytes.entry.now)) }
         ensures bytes { IfOk result (λ v. v.bytes ≡ bytes.entry.now) }
         ensures found { IfOk result (λ v. IsEntry v.entry × (bytes.entry.now ≡ entry_bytes v.entry)) }
-        ensures sized { IfOk result (λ _. length bytes.entry.now ≤ MAX_ENTRY) }
+        ensures within { IfOk result (λ _. length bytes.entry.now ≤ MAX_ENTRY) }
     {
         let parts = read_parts(alloc, bytes)?;
         Ok(EntryView { parts, bytes })
@@ -158,7 +158,7 @@ impl<'a> EntryView<'a> {
         self.parts.change.as_ref()
     }
 
-    /// The same, moved out.
+    /// The body of the change that it is, if it is one, moved out.
     pub fn into_change(self) -> Option<ChangeBody>
         ensures value { result ≡ change_of self.entry.entry }
     {

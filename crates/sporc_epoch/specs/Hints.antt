@@ -76,7 +76,7 @@ abbrev pub with_keys : Keys → List (ℕ × List ℕ) → Keys
 with_keys ring [] = ring
 with_keys ring ((epoch, key) ∷ keys) = with_keys (insert ring epoch key) keys
 
--- the same, with keys that may be missing
+-- a ring with keys more, which may be missing
 abbrev pub ring_of : Keys → Result (List (ℕ × List ℕ)) HintFault → Result Keys HintFault
 ring_of ring (Ok keys) = Ok (with_keys ring keys)
 ring_of ring (Err fault) = Err fault

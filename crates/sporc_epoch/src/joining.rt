@@ -30,7 +30,7 @@ pub(crate) fn find_joining(
         option_map (λ j. j.change) found ≡ joining me (changes (map (λ e. e.items) entries.now))) }
     ensures starts { IfOk result (λ found. IfSome found (λ j. reverse j.starts.items
         ≡ start_by j.change ∷ starts_before me (changes (map (λ e. e.items) entries.now)))) }
-    ensures epoch { IfOk result (λ found. IfSome found (λ j. j.change.header.epoch < MAX_EPOCH)) }
+    ensures within { IfOk result (λ found. IfSome found (λ j. j.change.header.epoch < MAX_EPOCH)) }
 {
     let mut starts = Vec::new(alloc);
     for bytes in entries {

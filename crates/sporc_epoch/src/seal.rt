@@ -35,7 +35,7 @@ pub fn seal_change(
     new: &[u8; 32],
     pairs: &Pairs,
 ) -> Result<ChangeBody, SealFault>
-    requires epoch { epoch < MAX_EPOCH }
+    requires limit { epoch < MAX_EPOCH }
     ensures value { GivesUnless SealFault.Memory (λ body. body) result (change_sealed (record {
       change = change.now;
       members = members.now;
@@ -56,7 +56,7 @@ pub fn seal_change(
     )
 }
 
-/// The same of an entry by the number of its stream.
+/// The body of a change, its keys sealed for an entry by the number of its stream.
 #[tactic(auto, unfolding(crate::specs::Sealing::body_sealed, crate::specs::Sealing::change_sealed))]
 pub fn seal_change_at(
     alloc: Global,
@@ -70,7 +70,7 @@ pub fn seal_change_at(
     new: &[u8; 32],
     pairs: &Pairs,
 ) -> Result<ChangeBody, SealFault>
-    requires epoch { epoch < MAX_EPOCH }
+    requires limit { epoch < MAX_EPOCH }
     ensures value { GivesUnless SealFault.Memory (λ body. body) result (change_sealed (record {
       change = change.now;
       members = members.now;

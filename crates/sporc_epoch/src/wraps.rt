@@ -32,7 +32,7 @@ pub fn open_wrap(
     )
 }
 
-/// The same of an entry by the number of its stream.
+/// The key in the first wrap for `me`, of an entry by the number of its stream.
 #[tactic(auto, using(crate::proofs::Lookups::get_pairs), unfolding(crate::specs::Wraps::wrap_opened))]
 pub fn open_wrap_at(
     body: &ChangeBody,

@@ -36,7 +36,7 @@ pub any_err : {T E : Type 0} (r : Result T E) (P : Type 0) → P → OnErr r P
 any_err (Ok x) P held = tt
 any_err (Err e) P held = held
 
--- the same bytes, otherwise said
+-- the bytes that were appended, by an equal list
 pub said : (a b : Option (List ℕ)) (x y : List ℕ) → x ≡ y → Appends a b x → Appends a b y
 said a b x y same written = subst (λ (t : List ℕ). Appends a b t) same written
 

@@ -29,7 +29,7 @@ unless_closed (Some fault) x = Err (fault_of_line fault)
 abbrev pub kit_with : Genesis → Device → Keys → Keys → Result Kit Fault
 kit_with genesis device pairs keys = unless_closed (first_of (open_checks genesis (get keys 0))) (kit_of device keys pairs)
 
--- the same, by what its member's ring says and by the entries that a joiner's hints are taken from
+-- the kit of a device, by what its member's ring says and by the entries that a joiner's hints are taken from
 abbrev pub kit_by : Genesis → Device → RingFile → List (List ℕ) → Result Kit Fault
 kit_by genesis device ring entries =
     let pairs = pair_keys ring.pairs in

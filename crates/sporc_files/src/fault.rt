@@ -109,7 +109,7 @@ impl Fault {
         }
     }
 
-    /// The same fault of a document's genesis or log, as one of several documents, counted from 1.
+    /// The fault of a document's genesis or log as that of one of several documents, counted from 1.
     pub fn among(self, number: u32) -> Fault
         ensures value { result ≡ fault_among number self }
     {

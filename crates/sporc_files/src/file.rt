@@ -50,7 +50,7 @@ impl File {
         Ok(name)
     }
 
-    // The same file of the document of this number, among those of several.
+    // This file of the document of this number, among those of several.
     pub(crate) fn among(self, number: u32) -> File
         ensures { result ≡ file_among number self }
     {

@@ -3,7 +3,7 @@
 use std::alloc::Global;
 use std::process::Abort;
 
-/// The same bytes.
+/// A vector of these bytes.
 pub fn bytes_of(rt: &impl Abort, alloc: Global, bytes: &[u8]) -> Vec<u8> {
     Vec::from_slice(alloc, bytes).expect(rt, "memory")
 }

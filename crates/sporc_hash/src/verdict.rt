@@ -25,7 +25,7 @@ pub enum Verdict {
 /// It looks at few of the values: the chains of different histories, once apart, stay apart unless two different strings
 /// have one digest. If two do, `ForkedAfter` names one of the places at which the chains part.
 pub fn compare(a: &[Digest32], b: &[Digest32]) -> Verdict
-    requires begun { 0 < length a.now }
+    requires positive { 0 < length a.now }
     requires one_genesis { slice_get a.now 0 ≡ slice_get b.now 0 }
 
     // For any values.
@@ -53,8 +53,8 @@ pub fn compare(a: &[Digest32], b: &[Digest32]) -> Verdict
 
 // Whether both have one value at this place.
 fn agree_at(a: &[Digest32], b: &[Digest32], at: usize) -> bool
-    requires in_a { at < length a.now }
-    requires in_b { at < length b.now }
+    requires a_in_bounds { at < length a.now }
+    requires b_in_bounds { at < length b.now }
     ensures { IsTrue result ↔ (slice_get a.now at ≡ slice_get b.now at) }
 {
     a[at] == b[at]
@@ -63,8 +63,8 @@ fn agree_at(a: &[Digest32], b: &[Digest32], at: usize) -> bool
 // After how many entries two chains part, found by halves between a place at which they agree and one at which they
 // don't.
 fn common_entries(a: &[Digest32], b: &[Digest32], last: usize) -> usize
-    requires in_a { last < length a.now }
-    requires in_b { last < length b.now }
+    requires a_in_bounds { last < length a.now }
+    requires b_in_bounds { last < length b.now }
     requires agreed { slice_get a.now 0 ≡ slice_get b.now 0 }
     requires different { slice_get a.now last ≢ slice_get b.now last }
     ensures { DivergesAfter a.now b.now result }

@@ -42,7 +42,7 @@ rank_same a b low high = go (eqb (rank_of a) (rank_of b)) (eqb a.member b.member
 
 -- ---- the tables
 
--- the same device has the same entries
+-- one device has one count of entries
 same_counts : (a b : Device) (f : Device → ℕ) → same_device a b ≡ true → f a ≡ f b
 same_counts a b f e =
     let p = and_parts (eqb a.member b.member) (eqb a.number b.number) e in

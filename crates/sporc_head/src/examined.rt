@@ -92,7 +92,7 @@ impl Examined {
     /// Whether they are an entry whose signature verifies under the key.
     pub fn verdict(&self) -> bool
         ensures value { result ≡ self.now.verdict }
-        ensures exact { result ≡ is_verified self.now.key self.now.entry }
+        ensures verified { result ≡ is_verified self.now.key self.now.entry }
     {
         self.verdict.good
     }

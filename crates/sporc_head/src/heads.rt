@@ -100,8 +100,8 @@ impl Heads {
     /// The bytes of the entries, oldest first.
     pub fn entries(&self) -> &[Vec<u8>]
         ensures value { map (λ v. v.items) result.now ≡ self.now.entries }
-        ensures few { length result.now ≤ MAX_ENTRIES }
-        ensures within { All (λ bytes. length bytes ≤ MAX_ENTRY) self.now.entries }
+        ensures within { length result.now ≤ MAX_ENTRIES }
+        ensures each_within { All (λ bytes. length bytes ≤ MAX_ENTRY) self.now.entries }
     {
         self.entries.as_slice()
     }
@@ -144,7 +144,7 @@ impl Heads {
 
     // How many entries a device has, and where its last one stands.
     fn tally(&self, device: Device) -> Tally
-        ensures count { result.count ≡ count_of device self.now.entries }
+        ensures total { result.count ≡ count_of device self.now.entries }
         ensures last { result.last ≡ last_of device self.now.entries }
     {
         tally_of(&self.tables.tallies, device)
@@ -215,7 +215,7 @@ impl Heads {
 
     // Appends an edit that was checked at this history.
     fn put_edit(&mut self, checked: Checked)
-        requires spare { 1 ≤ self.old.spare }
+        requires room { 1 ≤ self.old.spare }
         requires checked { IsChecked self.old.genesis self.old.entries checked }
         requires edit { member_change_of checked.entry ≡ None }
         ensures genesis { self.new.genesis ≡ self.old.genesis }
@@ -233,7 +233,7 @@ impl Heads {
 
     // Appends a change that was checked at this history.
     fn put_change(&mut self, change: Change, checked: Checked)
-        requires spare { 1 ≤ self.old.spare }
+        requires room { 1 ≤ self.old.spare }
         requires checked { IsChecked self.old.genesis self.old.entries checked }
         requires change { member_change_of checked.entry ≡ Some change }
         ensures genesis { self.new.genesis ≡ self.old.genesis }
@@ -276,7 +276,7 @@ impl Heads {
         self.check_known(me.map(device_of_pair), pos, bytes, None)
     }
 
-    /// The same of an entry whose signature was examined. It is verified anew if the key isn't that of its author's device
+    /// The checks of an entry whose signature was examined. It is verified anew if the key isn't that of its author's device
     /// at this history.
     pub fn check_examined(
         &self,
@@ -297,7 +297,7 @@ impl Heads {
         )
     }
 
-    /// The same of bytes of which a verdict may be known.
+    /// The checks of an entry's bytes, of which a verdict may be known.
     #[tactic(auto, unfolding(crate::specs::HeadChecks::head_fault))]
     pub fn check_known(
         &self,

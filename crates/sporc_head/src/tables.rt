@@ -51,7 +51,7 @@ pub(crate) fn tally_of(tallies: &HashMap<u32, Tally>, device: Device) -> Tally
 // One entry more of a device, at a position, where there is room.
 pub(crate) fn record_entry(tallies: &mut HashMap<u32, Tally>, device: Device, position: u32)
     requires room { 1 ≤ spare tallies.old }
-    requires count { (tally_in (get nat_eq tallies.old) device).count + 1 < 2 ^ 32 }
+    requires limit { (tally_in (get nat_eq tallies.old) device).count + 1 < 2 ^ 32 }
     ensures { (q : ℕ) → get nat_eq tallies.new q ≡ (if nat_eq (rank_of device) q
         then Some (record { count = (tally_in (get nat_eq tallies.old) device).count + 1; last = position })
         else get nat_eq tallies.old q) }

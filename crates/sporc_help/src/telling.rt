@@ -42,7 +42,7 @@ pub fn text_of(page: Page) -> &'static str
     }
 }
 
-// The same, of a command by its first word.
+// The text of the page of a command, by its first word.
 #[tactic(auto, unfolding(crate::specs::Pages::command_text))]
 fn text_of_command(verb: Verb) -> &'static str
     ensures { result.now ≡ command_text verb }

@@ -9,7 +9,7 @@ pub fn check(rt: &impl Abort, what: &str, holds: bool) {
     assert!(rt; holds, "{what}");
 }
 
-/// The same of one of several, which has a number.
+/// Stops the test unless this holds of one of several, which has this number.
 pub fn check_at(rt: &impl Abort, what: &str, number: u64, holds: bool) {
     assert!(rt; holds, "{what} {number}");
 }

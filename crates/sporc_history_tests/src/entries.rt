@@ -92,7 +92,7 @@ fn altered(rt: &impl Abort, alloc: Global, bytes: &[u8], place: usize, value: u8
     all
 }
 
-// The same edit in version 2: the author's device stands behind the author.
+// The edit in version 2: the author's device stands behind the author.
 fn device_bytes(rt: &impl Abort, alloc: Global, device: u8) -> Vec<u8> {
     let mut bytes = edit_bytes(rt, alloc);
     if bytes.len() > 19 {

@@ -187,7 +187,7 @@ fn is_whole_to_server(rt: &impl Abort, frames: &mut Frames, bytes: &[u8]) -> boo
     frames.next_to_server().expect(rt, "good frames").is_some()
 }
 
-// The same of a message to a client.
+// Whether a message to a client is whole once these bytes came.
 fn is_whole_to_client(rt: &impl Abort, frames: &mut Frames, bytes: &[u8]) -> bool {
     frames.feed(bytes).expect(rt, "good frames");
     frames.next_to_client().expect(rt, "good frames").is_some()
@@ -200,7 +200,7 @@ fn needs_both_to_server(rt: &impl Abort, frames: &mut Frames, prefix: &[u8], res
     whole && !early
 }
 
-// The same of a message to a client.
+// Whether a message to a client is whole once both parts came, and not before.
 fn needs_both_to_client(rt: &impl Abort, frames: &mut Frames, prefix: &[u8], rest: &[u8]) -> bool {
     let early = is_whole_to_client(rt, frames, prefix);
     let whole = is_whole_to_client(rt, frames, rest);
@@ -216,7 +216,7 @@ fn is_cut_to_server(rt: &impl Abort, alloc: Global, frame: &[u8], len: usize) ->
     needs_both_to_server(rt, &mut frames, prefix, rest)
 }
 
-// The same of a message to a client.
+// Whether nothing is handed out of a prefix of this length, and a message to a client of the whole.
 fn is_cut_to_client(rt: &impl Abort, alloc: Global, frame: &[u8], len: usize) -> bool
     requires { len ≤ length frame.now }
 {

@@ -169,7 +169,7 @@ fn short(rt: &impl Abort, alloc: Global, cast: &Cast) -> Box<Heads> {
     grown(rt, alloc, cast, sample.entries())
 }
 
-// The same, and the document's Upgrade by 1, and another edit by 5.
+// The short history, the document's Upgrade by 1, and another edit by 5.
 fn upgraded(rt: &impl Abort, alloc: Global, cast: &Cast) -> Box<Heads> {
     let sample = upgraded_sample(rt, alloc, cast);
     grown(rt, alloc, cast, sample.entries())

@@ -18,7 +18,7 @@ pub(crate) fn short_sample(rt: &impl Abort, alloc: Global, cast: &Cast) -> Box<H
     Box::new(alloc, sample).expect(rt, "memory")
 }
 
-/// The same, and the document's Upgrade by 1, and another edit by 5.
+/// The short history, the document's Upgrade by 1, and another edit by 5.
 pub(crate) fn upgraded_sample(rt: &impl Abort, alloc: Global, cast: &Cast) -> Box<History> {
     let mut sample = short_sample(rt, alloc, cast);
     sample

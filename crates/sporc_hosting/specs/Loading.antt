@@ -70,7 +70,7 @@ abbrev pub order_unless_held : ℕ → Bool → ServedFiles → Result OrderMode
 order_unless_held number false content = order_in content
 order_unless_held number true content = log_in content >>= λ order. Err (faults.Exists (files.Document number))
 
--- the same, where these orders are held
+-- the order that the files of the document of this number give, where these orders are held
 abbrev pub opened_in : ℕ → List OrderModel → ServedFiles → Result OrderModel Fault
 opened_in number held content = genesis_in content.genesis >>= λ genesis. order_unless_held number (is_held held genesis.document) content
 
@@ -83,7 +83,7 @@ unless_held number (Some place) orders = Err (faults.Exists (files.Document numb
 abbrev pub added : ℕ → List OrderModel → OrderModel → Result (List OrderModel) Fault
 added number held order = unless_held number (place_of held order.genesis.document) (held ++ order ∷ [])
 
--- the same, of what its files hold
+-- these orders and that of the document of this number, by what its files hold
 abbrev pub with_document : ℕ → List OrderModel → ServedFiles → Result (List OrderModel) Fault
 with_document number held content = fault_as (fault_among number) (opened_in number held content) >>= added number held
 

@@ -20,7 +20,7 @@ pub(crate) fn give_back_all<F: Folder>(
     tails: &mut Vec<LogTail<F::Appended>>,
     saved: Result<(), Fault>,
 ) -> Result<(), Fault>
-    requires each { length logs.now ≡ length orders.now }
+    requires one_length { length logs.now ≡ length orders.now }
     requires tails { (front : List (LogTailModel F.Appended)) × (mine : List (LogTailModel F.Appended)) × (tails.old.items ≡ front ++ mine)
         × AreKept (KeepsBehind F.Appended.told) mine orders.now }
     ensures gives { GivesAllBack logs.now orders.now saved (F.told files.old) (F.told files.new) result }

@@ -45,10 +45,10 @@ pub fn serve_all<R: Threads + Wait + Sync, F: Folder, N: Listen + Send, O: Sink,
 where
     F::Appended: Drop + Send,
     N::Link: Send,
-    requires documents { length names.now ≤ MAX_DOCUMENTS }
-    requires some { 1 ≤ sessions }
+    requires documents_limit { length names.now ≤ MAX_DOCUMENTS }
+    requires positive { 1 ≤ sessions }
     requires limit { sessions ≤ MAX_SESSIONS }
-    requires times { 1 ≤ times }
+    requires times_positive { 1 ≤ times }
     ensures outcome { ServeAllOutcome names.now sessions times (use_of F.told files.old files.new)
         (use_of O.told out.old out.new)
         (N.told net.old) (N.told net.new)
@@ -86,7 +86,7 @@ fn give_back<F: Folder>(
 ) -> Result<(), Fault>
 where
     F::Appended: Drop,
-    requires each { length held.logs.items ≡ length held.docs }
+    requires one_length { length held.logs.items ≡ length held.docs }
     requires tails { AreKept (KeepsBehind F.Appended.told) held.tails.items held.docs }
     ensures gives { GivesAllBack held.logs.items held.docs saved (F.told files.old) (F.told files.new) result }
     ensures lent { (F.told files.new).lent ≡ (F.told files.old).lent }

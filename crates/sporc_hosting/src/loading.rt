@@ -78,8 +78,8 @@ pub(crate) fn open_documents<R: Threads + Wait + Sync, F: Folder, G: Gate + Sync
     held: &mut OpenDocs<F::Appended>,
     gate: &G,
 ) -> Result<(), Fault>
-    requires room { length held.old.docs + length names.now ≤ MAX_DOCUMENTS }
-    requires numbers { number + length names.now < 2 ^ 32 }
+    requires limit { length held.old.docs + length names.now ≤ MAX_DOCUMENTS }
+    requires numbers_limit { number + length names.now < 2 ^ 32 }
     ensures opens { (first : List (List ℕ)) (begun : List ServedFiles)
         → AreOpen F.Appended.told first begun held.old.docs held.old.tails.items held.old.logs.items
         → OpensMore F.Appended.told (F.told files.old).files names.now number (F.told files.old).faults (F.told files.new).faults result
@@ -107,7 +107,7 @@ fn open_document<R: Threads + Wait + Sync, F: Folder, G: Gate + Sync>(
     held: &mut OpenDocs<F::Appended>,
     gate: &G,
 ) -> Result<(), Fault>
-    requires room { length held.old.docs < MAX_DOCUMENTS }
+    requires limit { length held.old.docs < MAX_DOCUMENTS }
     ensures opens { (first : List (List ℕ)) (begun : List ServedFiles)
         → AreOpen F.Appended.told first begun held.old.docs held.old.tails.items held.old.logs.items
         → OpensOne F.Appended.told (F.told files.old).files name.now number (F.told files.old).faults (F.told files.new).faults result
@@ -213,9 +213,9 @@ fn add<F: Folder>(
     opened: OpenedOrder<F::Appended>,
     number: u32,
 ) -> Result<(), Fault>
-    requires room { length held.old.docs < MAX_DOCUMENTS }
-    requires tails { vec_len held.old.tails < vec_capacity held.old.tails }
-    requires logs { vec_len held.old.logs < vec_capacity held.old.logs }
+    requires limit { length held.old.docs < MAX_DOCUMENTS }
+    requires tails_room { vec_len held.old.tails < vec_capacity held.old.tails }
+    requires logs_room { vec_len held.old.logs < vec_capacity held.old.logs }
     ensures value { AnswersUnlessOutside (λ docs. docs) ⊥ (opened_to result held.new.docs) (added number held.old.docs opened.kept.order) }
     ensures docs { OnOk result (held.new.docs ≡ held.old.docs ++ opened.kept.order ∷ []) }
     ensures tails { OnOk result (held.new.tails.items ≡ held.old.tails.items ++ opened.kept.tail ∷ []) }
@@ -247,7 +247,7 @@ fn add<F: Folder>(
 
 // The fault of the program that one of adding is, if there is room.
 fn fault_of(fault: DocsFault, number: u32) -> Fault
-    requires room { fault ≢ docs_faults.Full }
+    requires not_full { fault ≢ docs_faults.Full }
     ensures value { result ≡ fault_of_adding number fault }
 {
     match fault {

@@ -55,10 +55,10 @@ pub(crate) fn serve_rounds<
 where
     F::Appended: Drop + Send,
     N::Link: Send,
-    requires each { length names.now ≡ length held.docs }
-    requires some { 1 ≤ sessions }
+    requires one_length { length names.now ≡ length held.docs }
+    requires positive { 1 ≤ sessions }
     requires limit { sessions ≤ MAX_SESSIONS }
-    requires times { 1 ≤ times }
+    requires times_positive { 1 ≤ times }
     requires tails { AreKept (KeepsBehind F.Appended.told) held.tails.items held.docs }
     ensures rounds { GoRounds (IsRoundOfAll names.now sessions) times
         (record {
@@ -120,8 +120,8 @@ fn serve_round<R: Threads + Wait + Sync, F: Folder, N: Listen + Send, O: Sink, G
 where
     F::Appended: Drop + Send,
     N::Link: Send,
-    requires each { length names.now ≡ length held.docs }
-    requires some { 1 ≤ sessions }
+    requires one_length { length names.now ≡ length held.docs }
+    requires positive { 1 ≤ sessions }
     requires limit { sessions ≤ MAX_SESSIONS }
     requires tails { AreKept (KeepsBehind F.Appended.told) held.tails.items held.docs }
     ensures round { IsRoundOfAll names.now sessions

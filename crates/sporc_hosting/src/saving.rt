@@ -26,7 +26,7 @@ pub(crate) fn keep_logs<F: Folder, O: Sink>(
     names: &[Word],
     orders: &[Order],
 ) -> Result<(), Fault>
-    requires each { length names.now ≡ length orders.now }
+    requires one_length { length names.now ≡ length orders.now }
     ensures keeps { KeepsLogs names.now orders.now (moment_of F.told O.told files.old out.old)
         (moment_of F.told O.told files.new out.new)
         result }

@@ -36,7 +36,7 @@ pair_at least r = do
   key ← bytes_at 32 member.1
   Ok (record { member = member.0; key = key.0 }, key.1)
 
--- the same, and the least number of the one after it
+-- a key shared with a member whose number is at least this, and the least number of the one after it
 unfoldable pub next_pair : ℕ × Reading → Result (PairKey × (ℕ × Reading)) ℕ
 next_pair (least, r) = do
   p ← pair_at least r
@@ -62,7 +62,7 @@ ring_file_at low high r = do
 abbrev pub ring_file_in : List ℕ → Result RingFile ℕ
 ring_file_in bytes = whole (ring_file_at 0 HIGHEST_MEMBER) bytes
 
--- the same, where any other member is forbidden
+-- the ring file of this member that bytes spell, where any other member is forbidden
 abbrev pub ring_file_of_member : ℕ → List ℕ → Result RingFile ℕ
 ring_file_of_member member bytes = whole (ring_file_at member member) bytes
 

@@ -94,7 +94,7 @@ pub fn read_ring_file(alloc: Global, bytes: &[u8]) -> Result<RingFile, RingFileF
     // What is read is spelled so.
     ensures found { IfOk result (λ f. IsRingFile f × (bytes.now ≡ ring_file_bytes f)) }
     // Which place it is otherwise, unless memory runs out.
-    ensures exact { GivesUnless RingFileFault.Memory (λ f. f) result
+    ensures value { GivesUnless RingFileFault.Memory (λ f. f) result
         (fault_as RingFileFault.Malformed (ring_file_in bytes.now)) }
 {
     read_all(alloc, bytes, 0, HIGHEST_MEMBER)
@@ -103,7 +103,7 @@ pub fn read_ring_file(alloc: Global, bytes: &[u8]) -> Result<RingFile, RingFileF
 /// The ring file of this member that these bytes spell: that of another is malformed at its number, which stands at 4.
 pub fn ring_of_member(alloc: Global, bytes: &[u8], member: u16) -> Result<RingFile, RingFileFault>
     ensures found { IfOk result (λ f. IsRingFile f × (f.member ≡ member) × (bytes.now ≡ ring_file_bytes f)) }
-    ensures exact { GivesUnless RingFileFault.Memory (λ f. f) result
+    ensures value { GivesUnless RingFileFault.Memory (λ f. f) result
         (fault_as RingFileFault.Malformed (ring_file_of_member member bytes.now)) }
 {
     read_all(alloc, bytes, u32::from(member), u32::from(member))

@@ -4,7 +4,7 @@ use Rattle.std.specs.Prelude.{is_some, nat_lt, nat_le, ◌==◌}
 use Rattle.std.specs.Str.{bytes_eq}
 use Rattle.std.proofs.lemmas.Bool.{leb-true, eqb-true, eq-eqb}
 use Rattle.sporc_base.specs.FirstFault.{unless, first_of}
-use Rattle.sporc_delta.specs.Marks.{Mark, base_len, inserted_len, retains}
+use Rattle.sporc_delta.specs.Marks.{Mark, base_len, inserted_len, keep_marks}
 use Rattle.sporc_suffix.specs.Forms.{later_over}
 use Rattle.sporc_member.specs.declared.device.Device.{Device}
 use Rattle.sporc_member.specs.Roster.{member_at, key_of as key_of_device}
@@ -27,14 +27,14 @@ use Rattle.sporc_head.specs.HeadChecks.{place_checks, history_checks, author_che
 use Rattle.sporc_head.proofs.Grows.{change_in_read}
 use Rattle.sporc_line.specs.declared.effect.Effect.{Effect}
 use Rattle.sporc_line.specs.Kit.{Kit}
-use Rattle.sporc_line.specs.Keys.{key_after, key_of, key_by_wraps}
+use Rattle.sporc_line.specs.Keys.{key_after, epoch_key, key_by_wraps}
 use Rattle.sporc_line.specs.Operations.{marks_in, edit_marks}
 use Rattle.sporc_line.specs.Document.{forms_of, text_of}
 use Rattle.sporc_line.specs.LineChecks.{is_over, edit_checks, new_key_checks, key_checks_of, key_checks, first_fault}
 use Rattle.sporc_line.specs.Prepared.{IsEffect}
 use Rattle.sporc_line.proofs.Passes.{both_pass}
 use Rattle.sporc_line.proofs.SameKeys.{committed}
-use Rattle.sporc_delta.proofs.Lengths.{inserted_len-retains}
+use Rattle.sporc_delta.proofs.Lengths.{inserted_len-keep_marks}
 use Rattle.sporc_line.proofs.FormLengths.{change_form, edit_form, inserted_len-over}
 use Rattle.sporc_line.proofs.NextEntry.{started_by_wraps, edit_key, key_after_change, fault_at_keys}
 use Rattle.sporc_line.proofs.ReadLengths.{body_within, marks_within}
@@ -94,12 +94,12 @@ head_passed g A c k =
 -- ---- an edit
 
 -- the checks of an edit, by the key of the last epoch
-pub edit_faults : (g : Genesis) (kit : Kit) (A : List (List ℕ)) (c : CheckedModel) (key : Option (List ℕ)) → IsChecked g A c → change_of c.entry ≡ None → key ≡ key_of g kit A (epoch_of A)
+pub edit_faults : (g : Genesis) (kit : Kit) (A : List (List ℕ)) (c : CheckedModel) (key : Option (List ℕ)) → IsChecked g A c → change_of c.entry ≡ None → key ≡ epoch_key g kit A (epoch_of A)
     → first_of (key_checks g kit A c.entry) ≡ first_of (edit_checks (length (text_of g kit (take c.entry.header.base A))) (edit_marks key c.entry))
 unfolding key_checks
 edit_faults g kit A c key k none is =
     let p = head_passed g A c k in
-    let same : key_of g kit A c.entry.header.epoch ≡ key = ap (key_of g kit A) p.epoch ∙ sym is in
+    let same : epoch_key g kit A c.entry.header.epoch ≡ key = ap (epoch_key g kit A) p.epoch ∙ sym is in
     ap (λ (o : Option ChangeBody). first_of (key_checks_of g kit A c.entry o)) none
     ∙ ap (λ (key : Option (List ℕ)). first_of (edit_checks (length (text_of g kit (take c.entry.header.base A))) (edit_marks key c.entry))) same
 
@@ -122,11 +122,11 @@ edit_passes len marks m is same = subst (λ (o : Option (List Mark)). first_of (
 
 -- what an edit does
 pub edit_does : (g : Genesis) (kit : Kit) (A : List (List ℕ)) (c : CheckedModel) (key : List ℕ) (m : List Mark) (effect : Effect) → IsChecked g A c → change_of c.entry ≡ None
-    → Some key ≡ key_of g kit A (epoch_of A) → edit_marks (Some key) c.entry ≡ Some m
+    → Some key ≡ epoch_key g kit A (epoch_of A) → edit_marks (Some key) c.entry ≡ Some m
     → effect.form ≡ later_over m (drop c.entry.header.base (forms_of g kit A)) → effect.key ≡ Some key → IsEffect g kit A c effect
 edit_does g kit A c key m effect k none is marks form after =
     let p = head_passed g A c k in
-    let there : edit_marks (key_of g kit A c.entry.header.epoch) c.entry ≡ Some m = ap (λ (key : Option (List ℕ)). edit_marks key c.entry) (ap (key_of g kit A) p.epoch ∙ sym is) ∙ marks in
+    let there : edit_marks (epoch_key g kit A c.entry.header.epoch) c.entry ≡ Some m = ap (λ (key : Option (List ℕ)). edit_marks key c.entry) (ap (epoch_key g kit A) p.epoch ∙ sym is) ∙ marks in
     let in_none : change_in c.bytes ≡ None = change_in_read c.bytes c.entry None k.read (sym none) in
     record {
       form_is = form ∙ sym (edit_form g kit A c.bytes c.entry m k.read none there);
@@ -138,7 +138,7 @@ edit_does g kit A c key m effect k none is marks form after =
 
 -- the checks of the key that a change starts
 pub change_faults : (g : Genesis) (kit : Kit) (A : List (List ℕ)) (c : CheckedModel) (body : ChangeBody) (epoch : ℕ) (document : List ℕ) (old key : Option (List ℕ)) → IsChecked g A c → change_of c.entry ≡ Some body
-    → epoch ≡ epoch_of A + 1 → document ≡ g.document → old ≡ key_of g kit A (epoch_of A) → key ≡ key_by_wraps kit epoch c.entry.header body
+    → epoch ≡ epoch_of A + 1 → document ≡ g.document → old ≡ epoch_key g kit A (epoch_of A) → key ≡ key_by_wraps kit epoch c.entry.header body
     → first_of (key_checks g kit A c.entry) ≡ first_of (new_key_checks document kit.me epoch body old key)
 unfolding key_checks
 change_faults g kit A c body epoch document old key k has e d o is =
@@ -146,21 +146,21 @@ change_faults g kit A c body epoch document old key k has e d o is =
     let started = started_by_wraps g kit A c.bytes c.entry body k.read has p.roster in
     let same : key_after g kit (changes A ++ committed c.entry body ∷ []) (epoch_of A + 1) ≡ key = started ∙ ap (λ (n : ℕ). key_by_wraps kit n c.entry.header body) (sym e) ∙ sym is in
     ap (λ (o : Option ChangeBody). first_of (key_checks_of g kit A c.entry o)) has
-    ∙ ap (λ (key : Option (List ℕ)). first_of (new_key_checks g.document kit.me (epoch_of A + 1) body (key_of g kit A (epoch_of A)) key)) same
+    ∙ ap (λ (key : Option (List ℕ)). first_of (new_key_checks g.document kit.me (epoch_of A + 1) body (epoch_key g kit A (epoch_of A)) key)) same
     ∙ ap (λ (old : Option (List ℕ)). first_of (new_key_checks g.document kit.me (epoch_of A + 1) body old key)) (sym o)
     ∙ ap (λ (n : ℕ). first_of (new_key_checks g.document kit.me n body old key)) (sym e)
     ∙ ap (λ (d : List ℕ). first_of (new_key_checks d kit.me epoch body old key)) (sym d)
 
 -- what a change does
 pub change_does : (g : Genesis) (kit : Kit) (A : List (List ℕ)) (c : CheckedModel) (body : ChangeBody) (epoch : ℕ) (effect : Effect) → IsChecked g A c → change_of c.entry ≡ Some body
-    → epoch ≡ epoch_of A + 1 → effect.form ≡ retains (length (text_of g kit A)) → effect.key ≡ key_by_wraps kit epoch c.entry.header body → IsEffect g kit A c effect
+    → epoch ≡ epoch_of A + 1 → effect.form ≡ keep_marks (length (text_of g kit A)) → effect.key ≡ key_by_wraps kit epoch c.entry.header body → IsEffect g kit A c effect
 change_does g kit A c body epoch effect k has e form key =
     let p = head_passed g A c k in
     let started = started_by_wraps g kit A c.bytes c.entry body k.read has p.roster in
     let some : change_in c.bytes ≡ Some (committed c.entry body) = change_in_read c.bytes c.entry (Some body) k.read (sym has) in
     record {
       form_is = form ∙ sym (change_form g kit A c.bytes c.entry body k.read has);
-      small = omega (arith, ap inserted_len form, inserted_len-retains (length (text_of g kit A)));
+      small = omega (arith, ap inserted_len form, inserted_len-keep_marks (length (text_of g kit A)));
       key_is = key ∙ ap (λ (n : ℕ). key_by_wraps kit n c.entry.header body) e ∙ sym started ∙ sym (key_after_change g kit A c.bytes (committed c.entry body) some);
     }
 
@@ -169,7 +169,7 @@ change_does g kit A c body epoch effect k has e form key =
 pub record EditSeen (g : Genesis) (kit : Kit) (A : List (List ℕ)) (c : CheckedModel) (h : Header) (stream : ℕ) (key body : List ℕ) : Type 0 where
   pub checked : IsChecked g A c
   pub edit : change_of c.entry ≡ None
-  pub key_is : Some key ≡ key_of g kit A (epoch_of A)
+  pub key_is : Some key ≡ epoch_key g kit A (epoch_of A)
   pub header_is : h ≡ c.entry.header
   pub stream_is : stream ≡ stream_of h
   pub body_is : body ≡ c.entry.body
@@ -214,7 +214,7 @@ module _ {g : Genesis} {kit : Kit} {A : List (List ℕ)} {c : CheckedModel} {h :
       (form_is ∙ ap (λ (h : Header). later_over m (drop h.base (forms_of g kit A))) s.header_is) refl
 
 -- without a key no body is a delta
-pub no_key : (g : Genesis) (kit : Kit) (A : List (List ℕ)) (c : CheckedModel) → IsChecked g A c → change_of c.entry ≡ None → None ≡ key_of g kit A (epoch_of A) → first_of (key_checks g kit A c.entry) ≡ Some BadPayload
+pub no_key : (g : Genesis) (kit : Kit) (A : List (List ℕ)) (c : CheckedModel) → IsChecked g A c → change_of c.entry ≡ None → None ≡ epoch_key g kit A (epoch_of A) → first_of (key_checks g kit A c.entry) ≡ Some BadPayload
 no_key g kit A c k none is = edit_faults g kit A c None k none is
 
 pub record ChangeSeen (g : Genesis) (kit : Kit) (A : List (List ℕ)) (c : CheckedModel) (body : ChangeBody) (epoch : ℕ) (me : Device) (document : List ℕ) (old key : Option (List ℕ)) : Type 0 where
@@ -223,7 +223,7 @@ pub record ChangeSeen (g : Genesis) (kit : Kit) (A : List (List ℕ)) (c : Check
   pub epoch_is : epoch ≡ epoch_of A + 1
   pub me_is : me ≡ kit.me
   pub document_is : document ≡ g.document
-  pub old_is : old ≡ key_of g kit A (epoch_of A)
+  pub old_is : old ≡ epoch_key g kit A (epoch_of A)
   pub key_is : key ≡ key_by_wraps kit epoch c.entry.header body
 
 pub change_seen : {g : Genesis} {kit : Kit} {A : List (List ℕ)} {c : CheckedModel} {body : ChangeBody} {epoch : ℕ} {me : Device} {document : List ℕ} {old key : Option (List ℕ)} → ChangeSeen g kit A c body epoch me document old key

@@ -1,6 +1,6 @@
 -- Worked examples of the definitions.
 use Rattle.std.proofs.Common.{◌≡◌, List, [], ◌∷◌, refl, None, Some}
-use Rattle.sporc_delta.specs.Marks.{Mark, Retain, Delete, Insert}
+use Rattle.sporc_delta.specs.Marks.{Mark, Keep, Remove, Insert}
 use Rattle.sporc_member.specs.declared.role.Role.TheVariants.{Reader}
 use Rattle.sporc_member.specs.declared.change.Change.TheVariants.{SetRole}
 use Rattle.sporc_member.specs.Device.{first_device}
@@ -24,8 +24,8 @@ after_abc os = forms_from [] (abc ∷ os)
 -- both members insert at the end of "abc": the one whose entry stands first stands left, "abcde"
 pub two_insertions_example :
     text_after (after_abc (
-    record { author = first_device 1; number = 2; base = 1; what = Edited (Retain ∷ Retain ∷ Retain ∷ Insert 100 ∷ []) }
-    ∷ record { author = first_device 2; number = 1; base = 1; what = Edited (Retain ∷ Retain ∷ Retain ∷ Insert 101 ∷ []) }
+    record { author = first_device 1; number = 2; base = 1; what = Edited (Keep ∷ Keep ∷ Keep ∷ Insert 100 ∷ []) }
+    ∷ record { author = first_device 2; number = 1; base = 1; what = Edited (Keep ∷ Keep ∷ Keep ∷ Insert 101 ∷ []) }
     ∷ []))
     ≡ 97 ∷ 98 ∷ 99 ∷ 100 ∷ 101 ∷ []
 unfolding forms_from
@@ -34,10 +34,10 @@ two_insertions_example = refl
 -- both members remove the "b" of "abc": the form of the second one's entry keeps all of "ac"
 pub one_removal_example :
     after_abc (
-    record { author = first_device 1; number = 2; base = 1; what = Edited (Retain ∷ Delete ∷ Retain ∷ []) }
-    ∷ record { author = first_device 2; number = 1; base = 1; what = Edited (Retain ∷ Delete ∷ Retain ∷ []) }
+    record { author = first_device 1; number = 2; base = 1; what = Edited (Keep ∷ Remove ∷ Keep ∷ []) }
+    ∷ record { author = first_device 2; number = 1; base = 1; what = Edited (Keep ∷ Remove ∷ Keep ∷ []) }
     ∷ [])
-    ≡ (Insert 97 ∷ Insert 98 ∷ Insert 99 ∷ []) ∷ (Retain ∷ Delete ∷ Retain ∷ []) ∷ (Retain ∷ Retain ∷ []) ∷ []
+    ≡ (Insert 97 ∷ Insert 98 ∷ Insert 99 ∷ []) ∷ (Keep ∷ Remove ∷ Keep ∷ []) ∷ (Keep ∷ Keep ∷ []) ∷ []
 unfolding forms_from
 one_removal_example = refl
 
@@ -45,9 +45,9 @@ one_removal_example = refl
 pub change_example :
     after_abc (
     record { author = first_device 1; number = 2; base = 1; what = Changed (SetRole 2 Reader) }
-    ∷ record { author = first_device 2; number = 1; base = 1; what = Edited (Delete ∷ Retain ∷ Retain ∷ []) }
+    ∷ record { author = first_device 2; number = 1; base = 1; what = Edited (Remove ∷ Keep ∷ Keep ∷ []) }
     ∷ [])
-    ≡ (Insert 97 ∷ Insert 98 ∷ Insert 99 ∷ []) ∷ (Retain ∷ Retain ∷ Retain ∷ []) ∷ (Delete ∷ Retain ∷ Retain ∷ []) ∷ []
+    ≡ (Insert 97 ∷ Insert 98 ∷ Insert 99 ∷ []) ∷ (Keep ∷ Keep ∷ Keep ∷ []) ∷ (Remove ∷ Keep ∷ Keep ∷ []) ∷ []
 unfolding forms_from
 change_example = refl
 
@@ -59,6 +59,6 @@ no_epoch_example g kit = refl
 -- a body that is no delta, an edit of a text of another length, and one of a text of this length
 pub edit_checks_example :
     (first_of (edit_checks 3 None) ≡ Some BadPayload)
-    × (first_of (edit_checks 3 (Some (Retain ∷ Insert 97 ∷ []))) ≡ Some WrongLength)
-    × (first_of (edit_checks 3 (Some (Retain ∷ Retain ∷ Delete ∷ []))) ≡ None)
+    × (first_of (edit_checks 3 (Some (Keep ∷ Insert 97 ∷ []))) ≡ Some WrongLength)
+    × (first_of (edit_checks 3 (Some (Keep ∷ Keep ∷ Remove ∷ []))) ≡ None)
 edit_checks_example = (refl, refl, refl)

@@ -4,9 +4,9 @@ use Rattle.std.proofs.lemmas.List.{take-append-le, take-append-drop, take_all, l
 use Rattle.std.proofs.lemmas.Bool.{eqb-true, cases_lt}
 use Rattle.sporc_base.specs.FirstFault.{first_of}
 use Rattle.sporc_hash.proofs.Lists.{from_end}
-use Rattle.sporc_delta.specs.Marks.{Mark, Retain, Delete, Insert, base_len, out_len, inserted_len, apply, retains}
+use Rattle.sporc_delta.specs.Marks.{Mark, Keep, Remove, Insert, base_len, out_len, inserted_len, apply, keep_marks}
 use Rattle.sporc_delta.specs.Transforms.{later}
-use Rattle.sporc_delta.proofs.Lengths.{base_len-retains}
+use Rattle.sporc_delta.proofs.Lengths.{base_len-keep_marks}
 use Rattle.sporc_xform.proofs.LengthLemmas.{base_len-later, inserted_len-later, out_len-le}
 use Rattle.sporc_suffix.specs.Forms.{later_over, reached, Follow, all_inserted}
 use Rattle.sporc_suffix.proofs.Passing.{Follow-append, Follow-drop}
@@ -18,7 +18,7 @@ use Rattle.sporc_entry.specs.declared.genesis.Genesis.{Genesis}
 use Rattle.sporc_entry.specs.Entry.{author_device, entry_of, change_of}
 use Rattle.sporc_head.specs.declared.refusal.Refusal.TheVariants.{WrongLength}
 use Rattle.sporc_line.specs.Kit.{Kit}
-use Rattle.sporc_line.specs.Keys.{key_of}
+use Rattle.sporc_line.specs.Keys.{epoch_key}
 use Rattle.sporc_line.specs.Operations.{Operation, edit_marks, edited, what_of, operation_in, operation_read, operations}
 use Rattle.sporc_line.specs.Document.{form_of, form_of_what, forms_from, forms_of, next_form, text_after, text_of}
 use Rattle.sporc_line.specs.LineChecks.{is_over, edit_checks, key_checks_of, key_checks}
@@ -32,10 +32,10 @@ use Rattle.sporc_line.proofs.MoreForms.{forms_push}
 pub length-apply : (ms : List Mark) (s : List ℕ) → base_len ms ≡ length s → length (apply ms s) ≡ out_len ms
 length-apply [] s h = refl
 length-apply (Insert c ∷ ms) s h = ap suc (length-apply ms s h)
-length-apply (Retain ∷ ms) [] h = absurd (omega arith)
-length-apply (Retain ∷ ms) (c ∷ s) h = ap suc (length-apply ms s (omega arith))
-length-apply (Delete ∷ ms) [] h = absurd (omega arith)
-length-apply (Delete ∷ ms) (c ∷ s) h = length-apply ms s (omega arith)
+length-apply (Keep ∷ ms) [] h = absurd (omega arith)
+length-apply (Keep ∷ ms) (c ∷ s) h = ap suc (length-apply ms s (omega arith))
+length-apply (Remove ∷ ms) [] h = absurd (omega arith)
+length-apply (Remove ∷ ms) (c ∷ s) h = length-apply ms s (omega arith)
 
 pub text_reached : (base : ℕ) (forms : List (List Mark)) (s : List ℕ) → Follow base forms → base ≡ length s → length (fold (λ (text : List ℕ) (form : List Mark). apply form text) s forms) ≡ reached base forms
 text_reached base [] s h is = sym is
@@ -68,7 +68,7 @@ length-forms_from fs [] = omega arith
 length-forms_from fs (o ∷ os) = omega (arith, length-forms_from (fs ++ form_of fs o ∷ []) os, length-append fs (form_of fs o ∷ []))
 
 pub length-forms : (g : Genesis) (kit : Kit) (A : List (List ℕ)) → length (forms_of g kit A) ≡ length A
-length-forms g kit A = length-forms_from [] (operations g kit A) ∙ omega (arith, length-map A (operation_in (key_of g kit A)))
+length-forms g kit A = length-forms_from [] (operations g kit A) ∙ omega (arith, length-map A (operation_in (epoch_key g kit A)))
 
 -- the forms of a beginning are the first ones
 abbrev FormsTake : Genesis → Kit → List (List ℕ) → Type 0
@@ -113,22 +113,22 @@ operation_is keys b e o is c =
     ∙ ap (λ (o : Option ChangeBody). let x : Operation = record { author = author_device e.header; number = e.header.number; base = e.header.base; what = what_of (keys e.header.epoch) e o } in x) c
 
 -- the form of an entry that changes the members
-pub change_form : (g : Genesis) (kit : Kit) (A : List (List ℕ)) (b : List ℕ) (e : Entry) (c : ChangeBody) → entry_of b ≡ Ok e → change_of e ≡ Some c → next_form g kit A b ≡ retains (length (text_of g kit A))
-change_form g kit A b e c is h = ap (form_of (forms_of g kit A)) (operation_is (key_of g kit A) b e (Some c) is h)
+pub change_form : (g : Genesis) (kit : Kit) (A : List (List ℕ)) (b : List ℕ) (e : Entry) (c : ChangeBody) → entry_of b ≡ Ok e → change_of e ≡ Some c → next_form g kit A b ≡ keep_marks (length (text_of g kit A))
+change_form g kit A b e c is h = ap (form_of (forms_of g kit A)) (operation_is (epoch_key g kit A) b e (Some c) is h)
 
 -- and of one that edits the text
-pub edit_form : (g : Genesis) (kit : Kit) (A : List (List ℕ)) (b : List ℕ) (e : Entry) (m : List Mark) → entry_of b ≡ Ok e → change_of e ≡ None → edit_marks (key_of g kit A e.header.epoch) e ≡ Some m
+pub edit_form : (g : Genesis) (kit : Kit) (A : List (List ℕ)) (b : List ℕ) (e : Entry) (m : List Mark) → entry_of b ≡ Ok e → change_of e ≡ None → edit_marks (epoch_key g kit A e.header.epoch) e ≡ Some m
     → next_form g kit A b ≡ later_over m (drop e.header.base (forms_of g kit A))
 edit_form g kit A b e m is h marks =
-    ap (form_of (forms_of g kit A)) (operation_is (key_of g kit A) b e None is h)
+    ap (form_of (forms_of g kit A)) (operation_is (epoch_key g kit A) b e None is h)
     ∙ ap (λ (o : Option (List Mark)). form_of_what (forms_of g kit A) e.header.base (edited o)) marks
 
 -- an edit that passed is stated on the text after its base
 pub edit_over : (g : Genesis) (kit : Kit) (A : List (List ℕ)) (pos : ℕ) (e : Entry) → Passes g kit A pos e → change_of e ≡ None
-    → (m : List Mark) × (edit_marks (key_of g kit A e.header.epoch) e ≡ Some m) × (base_len m ≡ length (text_of g kit (take e.header.base A)))
+    → (m : List Mark) × (edit_marks (epoch_key g kit A e.header.epoch) e ≡ Some m) × (base_len m ≡ length (text_of g kit (take e.header.base A)))
 unfolding key_checks
 edit_over g kit A pos e p none =
-    edit_passed (length (text_of g kit (take e.header.base A))) (edit_marks (key_of g kit A e.header.epoch) e) (ap (λ (o : Option ChangeBody). first_of (key_checks_of g kit A e o)) (sym none) ∙ p.keys)
+    edit_passed (length (text_of g kit (take e.header.base A))) (edit_marks (epoch_key g kit A e.header.epoch) e) (ap (λ (o : Option ChangeBody). first_of (key_checks_of g kit A e o)) (sym none) ∙ p.keys)
 
 -- the text after a beginning of a good history is as long as the forms up to there reach
 pub text_at : (g : Genesis) (kit : Kit) (A : List (List ℕ)) (n : ℕ) → Good g kit A → Follow 0 (forms_of g kit (take n A)) → length (text_of g kit (take n A)) ≡ reached 0 (take n (forms_of g kit A))
@@ -150,7 +150,7 @@ pub next_form_base : (g : Genesis) (kit : Kit) (A : List (List ℕ)) (b : List �
 next_form_base g kit A b pos e good follow is p = go (change_of e) refl
   where
     go : (o : Option ChangeBody) → change_of e ≡ o → base_len (next_form g kit A b) ≡ reached 0 (forms_of g kit A)
-    go (Some c) h = ap base_len (change_form g kit A b e c is h) ∙ base_len-retains (length (text_of g kit A)) ∙ length-text (forms_of g kit A) follow
+    go (Some c) h = ap base_len (change_form g kit A b e c is h) ∙ base_len-keep_marks (length (text_of g kit A)) ∙ length-text (forms_of g kit A) follow
     go None h =
         let m = edit_over g kit A pos e p h in
         let f = edit_follows g kit A e.header.base m.0 good follow m.2 in

@@ -6,22 +6,22 @@ use Rattle.sporc_entry.specs.declared.entry.Entry.{Entry}
 use Rattle.sporc_entry.specs.declared.genesis.Genesis.{Genesis}
 use Rattle.sporc_entry.specs.Entry.{entry_of}
 use Rattle.sporc_line.specs.Kit.{Kit}
-use Rattle.sporc_line.specs.Keys.{key_after, key_of}
+use Rattle.sporc_line.specs.Keys.{key_after, epoch_key}
 use Rattle.sporc_line.specs.LineChecks.{first_fault}
 use Rattle.sporc_line.specs.Good.{Good, Meets}
 use Rattle.sporc_line.proofs.Lists.{slice_get_push, slice_get_last, slice_get-take, take_front}
 use Rattle.sporc_line.proofs.Passes.{Passes, passed}
 
 -- the key of epoch 0 is that of the ring, whatever the history
-pub first_key : (g : Genesis) (kit : Kit) (A B : List (List ℕ)) → key_of g kit A 0 ≡ key_of g kit B 0
+pub first_key : (g : Genesis) (kit : Kit) (A B : List (List ℕ)) → epoch_key g kit A 0 ≡ epoch_key g kit B 0
 unfolding key_after
 first_key g kit A B = refl
 
-opens_at : (g : Genesis) (kit : Kit) (A B : List (List ℕ)) → Good g kit A → Meets g 0 (key_of g kit B 0) g.commitment
+opens_at : (g : Genesis) (kit : Kit) (A B : List (List ℕ)) → Good g kit A → Meets g 0 (epoch_key g kit B 0) g.commitment
 opens_at g kit A B good = subst (λ k. Meets g 0 k g.commitment) (first_key g kit A B) good.opens
 
 -- the empty history of a member whose key of epoch 0 meets the commitment
-pub good_none : (g : Genesis) (kit : Kit) → Meets g 0 (key_of g kit [] 0) g.commitment → Good g kit []
+pub good_none : (g : Genesis) (kit : Kit) → Meets g 0 (epoch_key g kit [] 0) g.commitment → Good g kit []
 good_none g kit opens = record { opens = opens; each = λ i b at. absurd cc }
 
 -- the entry at a place of a good history

@@ -15,7 +15,7 @@ use Rattle.sporc_head.specs.CheckedModel.{CheckedModel}
 use Rattle.sporc_text.specs.ReadyTextModel.{rewritten}
 use Rattle.sporc_line.specs.declared.limits.TheConstants.{MAX_COMMITTED_LEN}
 use Rattle.sporc_line.specs.Kit.{Kit}
-use Rattle.sporc_line.specs.Keys.{key_after, key_of}
+use Rattle.sporc_line.specs.Keys.{key_after, epoch_key}
 use Rattle.sporc_line.specs.Document.{forms_from, forms_of, next_form, text_of}
 use Rattle.sporc_line.specs.declared.line.Line.TheInside as line
 use Rattle.sporc_line.specs.declared.prepared.Prepared.TheInside as prepared
@@ -34,7 +34,7 @@ use Rattle.sporc_line.proofs.NextEntry.{keyed_push}
 
 -- ---- the empty line
 
-opening : (g : Genesis) (kit : Kit) (key : List ℕ) → get kit.ring 0 ≡ Some key → commitment_of g.document 0 key ≡ g.commitment → Meets g 0 (key_of g kit [] 0) g.commitment
+opening : (g : Genesis) (kit : Kit) (key : List ℕ) → get kit.ring 0 ≡ Some key → commitment_of g.document 0 key ≡ g.commitment → Meets g 0 (epoch_key g kit [] 0) g.commitment
 unfolding key_after
 opening g kit key holds meets = subst (λ k. Meets g 0 k g.commitment) (sym holds) meets
 
@@ -166,7 +166,7 @@ line_push g kit A key base forms text p k q =
       few = omega (arith, all_inserted-append forms (p.form ∷ []), k.few, q.small, length-append A (p.checked.bytes ∷ []));
     }
 
--- the same over what the fields became
+-- a line with one entry more, over what the fields became
 pub line_pushed : (g g' : Genesis) (kit : Kit) (A A' : List (List ℕ)) (key key' : Option (List ℕ)) (base base' : ℕ) (forms forms' : List (List Mark)) (text text' : List ℕ) (p : PreparedModel)
     → LineInvariant g kit A key base forms text → IsPrepared g kit A p → g' ≡ g → A' ≡ A ++ p.checked.bytes ∷ [] → key' ≡ p.key → base' ≡ base → forms' ≡ forms ++ p.form ∷ [] → text' ≡ rewritten p.text text
     → LineInvariant g' kit A' key' base' forms' text'

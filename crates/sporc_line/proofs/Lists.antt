@@ -21,7 +21,7 @@ slice_get_before [] ys i h = absurd (omega arith)
 slice_get_before (x ∷ xs) ys zero h = refl
 slice_get_before (x ∷ xs) ys (suc i) h = slice_get_before xs ys i (omega arith)
 
--- the same of the list's first n elements
+-- the element at a place of the list's first n
 pub slice_get-take : {X : Type 0} (xs : List X) (n i : ℕ) (z : X) → slice_get (take n xs) i ≡ Some z → (i < n) × (slice_get xs i ≡ Some z)
 slice_get-take xs zero i z h = absurd cc
 slice_get-take [] (suc n) i z h = absurd cc

@@ -10,7 +10,7 @@ use Rattle.sporc_entry.specs.declared.genesis.Genesis.{Genesis}
 use Rattle.sporc_entry.specs.Entry.{entry_of}
 use Rattle.sporc_head.specs.History.{CommittedChange, change_in, changes, epoch_of}
 use Rattle.sporc_line.specs.Kit.{Kit}
-use Rattle.sporc_line.specs.Keys.{key_started, key_after, key_of}
+use Rattle.sporc_line.specs.Keys.{key_started, key_after, epoch_key}
 use Rattle.sporc_line.specs.Operations.{Operation, operation_in, operation_read, operation_of, operations}
 use Rattle.sporc_line.specs.Document.{form_of, forms_from, forms_of, next_form, text_after, text_of}
 use Rattle.sporc_line.specs.Good.{Good}
@@ -31,7 +31,7 @@ key_after_front g kit cs ds (suc e) h =
 pub changes_append : (A B : List (List ℕ)) → changes (A ++ B) ≡ changes A ++ changes B
 changes_append A B = filter_map-append change_in A B
 
-pub key_of_push : (g : Genesis) (kit : Kit) (A : List (List ℕ)) (b : List ℕ) (e : ℕ) → e ≤ epoch_of A → key_of g kit (A ++ b ∷ []) e ≡ key_of g kit A e
+pub key_of_push : (g : Genesis) (kit : Kit) (A : List (List ℕ)) (b : List ℕ) (e : ℕ) → e ≤ epoch_of A → epoch_key g kit (A ++ b ∷ []) e ≡ epoch_key g kit A e
 key_of_push g kit A b e h = ap (λ (cs : List CommittedChange). key_after g kit cs e) (changes_append A (b ∷ [])) ∙ key_after_front g kit (changes A) (changes (b ∷ [])) e h
 
 -- the changes of a beginning begin those of the history
@@ -42,7 +42,7 @@ pub epoch_front : (A : List (List ℕ)) (n : ℕ) → epoch_of (take n A) ≤ ep
 epoch_front A n = omega (arith, ap length (changes_front A n), length-append (changes (take n A)) (changes (drop n A)))
 
 -- the key of an epoch that began in a beginning is that of the whole history
-pub key_of_take : (g : Genesis) (kit : Kit) (A : List (List ℕ)) (n e : ℕ) → e ≤ epoch_of (take n A) → key_of g kit A e ≡ key_of g kit (take n A) e
+pub key_of_take : (g : Genesis) (kit : Kit) (A : List (List ℕ)) (n e : ℕ) → e ≤ epoch_of (take n A) → epoch_key g kit A e ≡ epoch_key g kit (take n A) e
 key_of_take g kit A n e h = ap (λ (cs : List CommittedChange). key_after g kit cs e) (changes_front A n) ∙ key_after_front g kit (changes (take n A)) (changes (drop n A)) e h
 
 -- ---- the operations
@@ -52,18 +52,18 @@ unfolding operation_in
 operation_same keys keys' b e is h = ap (operation_read keys) is ∙ ap (λ (k : Option (List ℕ)). operation_of k e) h ∙ sym (ap (operation_read keys') is)
 
 pub operations_push : (g : Genesis) (kit : Kit) (A : List (List ℕ)) (b : List ℕ) → Good g kit (A ++ b ∷ [])
-    → operations g kit (A ++ b ∷ []) ≡ operations g kit A ++ operation_in (key_of g kit A) b ∷ []
+    → operations g kit (A ++ b ∷ []) ≡ operations g kit A ++ operation_in (epoch_key g kit A) b ∷ []
 operations_push g kit A b good =
-    let keys = key_of g kit (A ++ b ∷ []) in
-    let old : map (operation_in keys) A ≡ operations g kit A = map_same (operation_in keys) (operation_in (key_of g kit A)) A (λ i x at.
+    let keys = epoch_key g kit (A ++ b ∷ []) in
+    let old : map (operation_in keys) A ≡ operations g kit A = map_same (operation_in keys) (operation_in (epoch_key g kit A)) A (λ i x at.
     let p = good_entry g kit A i x (good_front g kit A b good) at in
     let q : Passes g kit (take i A) (i + 1) p.0 = p.2 in
     let l : p.0.header.epoch ≤ epoch_of A = omega (arith, q.epoch, epoch_front A i) in
-    operation_same keys (key_of g kit A) x p.0 p.1 (key_of_push g kit A b p.0.header.epoch l)) in
+    operation_same keys (epoch_key g kit A) x p.0 p.1 (key_of_push g kit A b p.0.header.epoch l)) in
     let p = last_passes g kit A b good in
     let q : Passes g kit A (length A + 1) p.0 = p.2 in
     let l : p.0.header.epoch ≤ epoch_of A = omega (arith, q.epoch) in
-    let new = operation_same keys (key_of g kit A) b p.0 p.1 (key_of_push g kit A b p.0.header.epoch l) in
+    let new = operation_same keys (epoch_key g kit A) b p.0 p.1 (key_of_push g kit A b p.0.header.epoch l) in
     map-append (operation_in keys) A (b ∷ []) ∙ ap (λ (os : List Operation). os ++ operation_in keys b ∷ []) old ∙ ap (λ (o : Operation). operations g kit A ++ o ∷ []) new
 
 -- ---- the forms and the text
@@ -74,7 +74,7 @@ forms_from_push fs [] o = refl
 forms_from_push fs (p ∷ os) o = forms_from_push (fs ++ form_of fs p ∷ []) os o
 
 pub forms_push : (g : Genesis) (kit : Kit) (A : List (List ℕ)) (b : List ℕ) → Good g kit (A ++ b ∷ []) → forms_of g kit (A ++ b ∷ []) ≡ forms_of g kit A ++ next_form g kit A b ∷ []
-forms_push g kit A b good = ap (λ (os : List Operation). forms_from [] os) (operations_push g kit A b good) ∙ forms_from_push [] (operations g kit A) (operation_in (key_of g kit A) b)
+forms_push g kit A b good = ap (λ (os : List Operation). forms_from [] os) (operations_push g kit A b good) ∙ forms_from_push [] (operations g kit A) (operation_in (epoch_key g kit A) b)
 
 pub text_push : (g : Genesis) (kit : Kit) (A : List (List ℕ)) (b : List ℕ) → Good g kit (A ++ b ∷ []) → text_of g kit (A ++ b ∷ []) ≡ apply (next_form g kit A b) (text_of g kit A)
 text_push g kit A b good =

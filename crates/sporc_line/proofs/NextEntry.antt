@@ -24,7 +24,7 @@ use Rattle.sporc_head.specs.HeadChecks.{names, roster_checks, head_checks, fault
 use Rattle.sporc_head.proofs.ChecksPass.{first_of-none, first_of-some}
 use Rattle.sporc_head.proofs.Grows.{changes_push, removed_push, removes_in, change_in_read, roster_change}
 use Rattle.sporc_line.specs.Kit.{Kit}
-use Rattle.sporc_line.specs.Keys.{key_started, key_after, key_of, key_by_wraps}
+use Rattle.sporc_line.specs.Keys.{key_started, key_after, epoch_key, key_by_wraps}
 use Rattle.sporc_line.specs.LineChecks.{key_checks, line_checks, first_fault}
 use Rattle.sporc_line.proofs.Lists.{slice_get_last}
 use Rattle.sporc_line.proofs.Passes.{Passes, passed}
@@ -112,13 +112,13 @@ started_by_wraps g kit A b e c is has h =
 
 -- ---- the key after one entry more
 
-pub edit_key : (g : Genesis) (kit : Kit) (A : List (List ℕ)) (b : List ℕ) → change_in b ≡ None → key_of g kit (A ++ b ∷ []) (epoch_of (A ++ b ∷ [])) ≡ key_of g kit A (epoch_of A)
+pub edit_key : (g : Genesis) (kit : Kit) (A : List (List ℕ)) (b : List ℕ) → change_in b ≡ None → epoch_key g kit (A ++ b ∷ []) (epoch_of (A ++ b ∷ [])) ≡ epoch_key g kit A (epoch_of A)
 edit_key g kit A b none =
     let same : changes (A ++ b ∷ []) ≡ changes A = changes_push A b None none ∙ append-nil (changes A) in
     ap (λ (cs : List CommittedChange). key_after g kit cs (length cs)) same
 
 pub key_after_change : (g : Genesis) (kit : Kit) (A : List (List ℕ)) (b : List ℕ) (s : CommittedChange) → change_in b ≡ Some s
-    → key_of g kit (A ++ b ∷ []) (epoch_of (A ++ b ∷ [])) ≡ key_after g kit (changes A ++ s ∷ []) (epoch_of A + 1)
+    → epoch_key g kit (A ++ b ∷ []) (epoch_of (A ++ b ∷ [])) ≡ key_after g kit (changes A ++ s ∷ []) (epoch_of A + 1)
 key_after_change g kit A b s some =
     ap (λ (cs : List CommittedChange). key_after g kit cs (length cs)) (changes_push A b (Some s) some)
     ∙ ap (key_after g kit (changes A ++ s ∷ [])) (length-append (changes A) (s ∷ []))
@@ -140,13 +140,13 @@ change_keyed g kit A pos e c p has = go (removes kit.me c.change) refl
     go false t = ap is_some (change_key g kit A pos e c p has t).is
 
 -- a key is at hand exactly where the device is not removed
-pub keyed_push : (g : Genesis) (kit : Kit) (A : List (List ℕ)) (b : List ℕ) (pos : ℕ) → is_some (key_of g kit A (epoch_of A)) ≡ not (is_removed kit.me A) → first_fault g kit A pos b ≡ None
-    → is_some (key_of g kit (A ++ b ∷ []) (epoch_of (A ++ b ∷ []))) ≡ not (is_removed kit.me (A ++ b ∷ []))
+pub keyed_push : (g : Genesis) (kit : Kit) (A : List (List ℕ)) (b : List ℕ) (pos : ℕ) → is_some (epoch_key g kit A (epoch_of A)) ≡ not (is_removed kit.me A) → first_fault g kit A pos b ≡ None
+    → is_some (epoch_key g kit (A ++ b ∷ []) (epoch_of (A ++ b ∷ []))) ≡ not (is_removed kit.me (A ++ b ∷ []))
 keyed_push g kit A b pos keyed h =
     let p = passed g kit A pos b h in
     go p.0 p.1 p.2 (change_of p.0) refl
   where
-    go : (e : Entry) → entry_of b ≡ Ok e → Passes g kit A pos e → (o : Option ChangeBody) → change_of e ≡ o → is_some (key_of g kit (A ++ b ∷ []) (epoch_of (A ++ b ∷ []))) ≡ not (is_removed kit.me (A ++ b ∷ []))
+    go : (e : Entry) → entry_of b ≡ Ok e → Passes g kit A pos e → (o : Option ChangeBody) → change_of e ≡ o → is_some (epoch_key g kit (A ++ b ∷ []) (epoch_of (A ++ b ∷ []))) ≡ not (is_removed kit.me (A ++ b ∷ []))
     go e is p None has =
         let none : change_in b ≡ None = change_in_read b e None is (sym has) in
         ap is_some (edit_key g kit A b none) ∙ keyed ∙ ap not (p.not_removed ∙ sym (removed_after kit.me A b None none p.not_removed))

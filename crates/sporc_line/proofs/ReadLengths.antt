@@ -21,7 +21,7 @@ use Rattle.sporc_delta.specs.Parts.{part_marks, marks_of, kind_of}
 use Rattle.sporc_delta.specs.Reading.{head_at, text_at, body_at, part_at, parts_at, read_delta}
 use Rattle.sporc_delta.proofs.Counted.{length-chars}
 use Rattle.sporc_delta.proofs.Decoding.{head_ok, text_ok}
-use Rattle.sporc_delta.proofs.Lengths.{inserted_len-append, inserted_len-deletes, inserted_len-inserts, inserted_len-retains}
+use Rattle.sporc_delta.proofs.Lengths.{inserted_len-append, inserted_len-remove_marks, inserted_len-insert_marks, inserted_len-keep_marks}
 use Rattle.sporc_entry.specs.declared.entry.Entry.{Entry}
 use Rattle.sporc_entry.specs.declared.limits.TheConstants.{MAX_CHANGE_BODY, MAX_EDIT_BODY, MAX_SIGNATURE}
 use Rattle.sporc_entry.specs.Entry.{header_at, body_limit, body_read, entry_of}
@@ -81,16 +81,16 @@ Within r x = inserted_len (part_marks x.0) + length x.1.rest ≤ length r.rest
 part_body : (kind : Kind) (n : ℕ) (r : Reading) (x : Part × Reading) → body_at kind n r ≡ Ok x → Within r x
 part_body kinds.Keep n r x e =
     let same : (Keep n, r) ≡ x = cc in
-    subst (Within r) same (omega (arith, inserted_len-retains n))
+    subst (Within r) same (omega (arith, inserted_len-keep_marks n))
 part_body kinds.Remove n r x e =
     let same : (Remove n, r) ≡ x = cc in
-    subst (Within r) same (omega (arith, inserted_len-deletes n))
+    subst (Within r) same (omega (arith, inserted_len-remove_marks n))
 part_body kinds.Insert n r x e =
     let a = bind_ok (text_at n r) (λ text. Ok (InsertText text.0, text.1)) x e in
     let same : (InsertText a.0.0, a.0.1) ≡ x = cc a.2 in
     let t = text_ok n r a.0 a.1 in
     let chars = length-chars t.front (IsUtf8-from_is_utf8 t.front t.utf8) in
-    subst (Within r) same (omega (arith, inserted_len-inserts a.0.0, chars, ap length t.is, bytes_size n r (t.front, a.0.1) t.taken, bytes_len n r (t.front, a.0.1) t.taken))
+    subst (Within r) same (omega (arith, inserted_len-insert_marks a.0.0, chars, ap length t.is, bytes_size n r (t.front, a.0.1) t.taken, bytes_len n r (t.front, a.0.1) t.taken))
 
 part_within : (before : Option Kind) (r : Reading) (x : Part × Reading) → part_at before r ≡ Ok x → Within r x
 unfolding part_at

@@ -23,12 +23,12 @@ use Rattle.sporc_head.specs.declared.refusal.Refusal.TheVariants.{NoKey, WrongKe
 use Rattle.sporc_head.specs.History.{CommittedChange, change_in, changes, epoch_of, is_removed}
 use Rattle.sporc_head.proofs.Grows.{changes_push, removed_push, removes_in, change_in_read}
 use Rattle.sporc_line.specs.Kit.{Kit}
-use Rattle.sporc_line.specs.Keys.{key_after, key_of}
+use Rattle.sporc_line.specs.Keys.{key_after, epoch_key}
 use Rattle.sporc_line.specs.Operations.{Operation, operation_in, operations}
 use Rattle.sporc_line.specs.Document.{forms_from, text_after, text_of}
 use Rattle.sporc_line.specs.LineChecks.{is_new_key, new_key_checks, key_checks_of, key_checks}
 use Rattle.sporc_line.specs.LineStrings.{line_strings}
-use Rattle.sporc_line.specs.Commitments.{commitment_at, commitment_started}
+use Rattle.sporc_line.specs.Commitments.{commitment_after, commitment_started}
 use Rattle.sporc_line.specs.Good.{Good, Meets}
 use Rattle.sporc_line.proofs.Lists.{slice_get_before, slice_get_last, map_same}
 use Rattle.sporc_line.proofs.Passes.{Passes}
@@ -39,7 +39,7 @@ use Rattle.sporc_line.proofs.MoreForms.{key_after_front, key_of_take, epoch_fron
 
 -- each key after changes meets its commitment
 abbrev KeysMeet : Genesis → Kit → List CommittedChange → Type 0
-KeysMeet g kit cs = (e : ℕ) → e ≤ length cs → Meets g e (key_after g kit cs e) (commitment_at g cs e)
+KeysMeet g kit cs = (e : ℕ) → e ≤ length cs → Meets g e (key_after g kit cs e) (commitment_after g cs e)
 
 -- ---- the key that a change starts
 
@@ -75,15 +75,15 @@ committed e c = record { header = e.header; body = c }
 
 -- the key of the epoch that a change starts, where it passed and doesn't remove the device
 pub change_key : (g : Genesis) (kit : Kit) (A : List (List ℕ)) (pos : ℕ) (e : Entry) (c : ChangeBody) → Passes g kit A pos e → change_of e ≡ Some c → removes kit.me c.change ≡ false
-    → NewKey g.document (epoch_of A + 1) c (key_of g kit A (epoch_of A)) (key_after g kit (changes A ++ committed e c ∷ []) (epoch_of A + 1))
+    → NewKey g.document (epoch_of A + 1) c (epoch_key g kit A (epoch_of A)) (key_after g kit (changes A ++ committed e c ∷ []) (epoch_of A + 1))
 unfolding key_checks
 change_key g kit A pos e c p is kept =
-    new_key g.document kit.me (epoch_of A + 1) c (key_of g kit A (epoch_of A)) (key_after g kit (changes A ++ committed e c ∷ []) (epoch_of A + 1)) kept
+    new_key g.document kit.me (epoch_of A + 1) c (epoch_key g kit A (epoch_of A)) (key_after g kit (changes A ++ committed e c ∷ []) (epoch_of A + 1)) kept
     (ap (λ (o : Option ChangeBody). first_of (key_checks_of g kit A e o)) (sym is) ∙ p.keys)
 
 -- ---- all keys of a good history
 
-commitment_at_front : (g : Genesis) (cs ds : List CommittedChange) (e : ℕ) → e ≤ length cs → commitment_at g (cs ++ ds) e ≡ commitment_at g cs e
+commitment_at_front : (g : Genesis) (cs ds : List CommittedChange) (e : ℕ) → e ≤ length cs → commitment_after g (cs ++ ds) e ≡ commitment_after g cs e
 commitment_at_front g cs ds zero h = refl
 commitment_at_front g cs ds (suc e) h = ap (commitment_started g) (slice_get_before cs ds e h)
 
@@ -95,8 +95,8 @@ meets_more g kit cs c old new e h = elim (cases_lt (length cs) e) [
   | inl l ↦
       let n : e ≡ suc (length cs) = omega (arith, length-append cs (c ∷ []), h, l) in
       let m : length cs + 1 ≡ suc (length cs) = omega arith in
-      let at : commitment_at g (cs ++ c ∷ []) (suc (length cs)) ≡ c.body.commitment = ap (commitment_started g) (slice_get_last cs c) in
-      subst (λ e. Meets g e (key_after g kit (cs ++ c ∷ []) e) (commitment_at g (cs ++ c ∷ []) e)) (sym n)
+      let at : commitment_after g (cs ++ c ∷ []) (suc (length cs)) ≡ c.body.commitment = ap (commitment_started g) (slice_get_last cs c) in
+      subst (λ e. Meets g e (key_after g kit (cs ++ c ∷ []) e) (commitment_after g (cs ++ c ∷ []) e)) (sym n)
       (subst (λ k. Meets g (suc (length cs)) (key_after g kit (cs ++ c ∷ []) (suc (length cs))) k) (sym at)
       (subst (λ e. Meets g e (key_after g kit (cs ++ c ∷ []) e) c.body.commitment) m new))
 ]
@@ -131,7 +131,7 @@ meet_push g kit A b ih good kept =
         (meets_more g kit (changes A) (committed e c) (ih (good_front g kit A b good) before.0) (meets_new g (epoch_of A + 1) c _ _ key.new))
 
 -- the keys of a good history that doesn't remove the device meet their commitments
-pub keys_meet : (g : Genesis) (kit : Kit) (A : List (List ℕ)) → Good g kit A → is_removed kit.me A ≡ false → (e : ℕ) → e ≤ epoch_of A → Meets g e (key_of g kit A e) (commitment_at g (changes A) e)
+pub keys_meet : (g : Genesis) (kit : Kit) (A : List (List ℕ)) → Good g kit A → is_removed kit.me A ≡ false → (e : ℕ) → e ≤ epoch_of A → Meets g e (epoch_key g kit A e) (commitment_after g (changes A) e)
 keys_meet g kit A = from_end (IfThere g kit) (meet_none g kit) (meet_push g kit) A
 
 -- ---- two members
@@ -160,12 +160,12 @@ key_string_in document keys (suc n) e x l h = elim (cases_lt e n) [
 
 -- ss has the commitment strings of a history's keys
 abbrev pub HasKeys : Genesis → Kit → List (List ℕ) → List (List ℕ) → Type 0
-HasKeys g kit A ss = (e : ℕ) (x : List ℕ) → e ≤ epoch_of A → Contains (key_string g.document e (key_of g kit A e)) x → Contains ss x
+HasKeys g kit A ss = (e : ℕ) (x : List ℕ) → e ≤ epoch_of A → Contains (key_string g.document e (epoch_key g kit A e)) x → Contains ss x
 
 pub has_keys : (g : Genesis) (kit : Kit) (A ss : List (List ℕ)) → ((x : List ℕ) → Contains (line_strings g kit A) x → Contains ss x) → HasKeys g kit A ss
 has_keys g kit A ss all e x l h =
     let m : e < epoch_of A + 1 = omega (arith, l) in
-    all x (Contains-append_right (chain_strings (genesis_bytes g) A) (key_strings g.document (key_of g kit A) (epoch_of A + 1)) x (key_string_in g.document (key_of g kit A) (epoch_of A + 1) e x m h))
+    all x (Contains-append_right (chain_strings (genesis_bytes g) A) (key_strings g.document (epoch_key g kit A) (epoch_of A + 1)) x (key_string_in g.document (epoch_key g kit A) (epoch_of A + 1) e x m h))
 
 pub has_left : (g : Genesis) (kit : Kit) (A ss : List (List ℕ)) → HasKeys g kit A (line_strings g kit A ++ ss)
 has_left g kit A ss = has_keys g kit A (line_strings g kit A ++ ss) (λ x h. Contains-append_left (line_strings g kit A) ss x h)
@@ -175,14 +175,14 @@ has_right g kit A ss = has_keys g kit A (ss ++ line_strings g kit A) (λ x h. Co
 
 -- two members with one good history, which removes neither, have one key of each epoch
 pub same_epoch_keys : (g : Genesis) (kit kit' : Kit) (A ss : List (List ℕ)) (e : ℕ) → Good g kit A → Good g kit' A → CollisionFree ss → HasKeys g kit A ss → HasKeys g kit' A ss
-    → is_removed kit.me A ≡ false → is_removed kit'.me A ≡ false → e ≤ epoch_of A → key_of g kit A e ≡ key_of g kit' A e
+    → is_removed kit.me A ≡ false → is_removed kit'.me A ≡ false → e ≤ epoch_of A → epoch_key g kit A e ≡ epoch_key g kit' A e
 same_epoch_keys g kit kit' A ss e good good' apart a b there there' le =
-    same_key g e ss (key_of g kit A e) (key_of g kit' A e) (commitment_at g (changes A) e) apart (λ x h. a e x le h) (λ x h. b e x le h)
+    same_key g e ss (epoch_key g kit A e) (epoch_key g kit' A e) (commitment_after g (changes A) e) apart (λ x h. a e x le h) (λ x h. b e x le h)
     (keys_meet g kit A good there e le) (keys_meet g kit' A good' there' e le)
 
 -- they have one key for each of its entries, also where it removes them later
 pub same_entry_keys : (g : Genesis) (kit kit' : Kit) (A ss : List (List ℕ)) (i : ℕ) (b : List ℕ) (e : Entry) → Good g kit A → Good g kit' A → CollisionFree ss → HasKeys g kit A ss → HasKeys g kit' A ss
-    → slice_get A i ≡ Some b → entry_of b ≡ Ok e → key_of g kit A e.header.epoch ≡ key_of g kit' A e.header.epoch
+    → slice_get A i ≡ Some b → entry_of b ≡ Ok e → epoch_key g kit A e.header.epoch ≡ epoch_key g kit' A e.header.epoch
 same_entry_keys g kit kit' A ss i b e good good' apart a b' at is =
     let p = good_entry g kit A i b good at in
     let q = good_entry g kit' A i b good' at in
@@ -196,15 +196,15 @@ same_entry_keys g kit kit' A ss i b e good good' apart a b' at is =
     let n = keys_meet g kit' (take i A) (good_take g kit' A i good') qq.not_removed e.header.epoch le in
     let s = key_of_take g kit A i e.header.epoch le in
     let t = key_of_take g kit' A i e.header.epoch le in
-    same_key g e.header.epoch ss (key_of g kit A e.header.epoch) (key_of g kit' A e.header.epoch) (commitment_at g (changes (take i A)) e.header.epoch) apart
+    same_key g e.header.epoch ss (epoch_key g kit A e.header.epoch) (epoch_key g kit' A e.header.epoch) (commitment_after g (changes (take i A)) e.header.epoch) apart
     (λ x h. a e.header.epoch x le' h) (λ x h. b' e.header.epoch x le' h) (rw s m) (rw t n)
 
 -- and so they read the same operations
 pub same_operations : (g : Genesis) (kit kit' : Kit) (A ss : List (List ℕ)) → Good g kit A → Good g kit' A → CollisionFree ss → HasKeys g kit A ss → HasKeys g kit' A ss → operations g kit A ≡ operations g kit' A
 same_operations g kit kit' A ss good good' apart a b =
-    map_same (operation_in (key_of g kit A)) (operation_in (key_of g kit' A)) A (λ i x at.
+    map_same (operation_in (epoch_key g kit A)) (operation_in (epoch_key g kit' A)) A (λ i x at.
     let p = good_entry g kit A i x good at in
-    operation_same (key_of g kit A) (key_of g kit' A) x p.0 p.1 (same_entry_keys g kit kit' A ss i x p.0 good good' apart a b at p.1))
+    operation_same (epoch_key g kit A) (epoch_key g kit' A) x p.0 p.1 (same_entry_keys g kit kit' A ss i x p.0 good good' apart a b at p.1))
 
 -- what two members with one good history read
 pub one_reading : (g : Genesis) (kit kit' : Kit) (A : List (List ℕ)) → Good g kit A → Good g kit' A → CollisionFree (line_strings g kit A ++ line_strings g kit' A) → operations g kit A ≡ operations g kit' A
@@ -215,6 +215,6 @@ pub one_text : (g : Genesis) (kit kit' : Kit) (A : List (List ℕ)) → Good g k
 one_text g kit kit' A good good' apart = ap (λ (os : List Operation). text_after (forms_from [] os)) (one_reading g kit kit' A good good' apart)
 
 pub one_key : (g : Genesis) (kit kit' : Kit) (A : List (List ℕ)) (e : ℕ) → Good g kit A → Good g kit' A → CollisionFree (line_strings g kit A ++ line_strings g kit' A)
-    → is_removed kit.me A ≡ false → is_removed kit'.me A ≡ false → e ≤ epoch_of A → key_of g kit A e ≡ key_of g kit' A e
+    → is_removed kit.me A ≡ false → is_removed kit'.me A ≡ false → e ≤ epoch_of A → epoch_key g kit A e ≡ epoch_key g kit' A e
 one_key g kit kit' A e good good' apart there there' le =
     same_epoch_keys g kit kit' A (line_strings g kit A ++ line_strings g kit' A) e good good' apart (has_left g kit A (line_strings g kit' A)) (has_right g kit' A (line_strings g kit A)) there there' le

@@ -8,6 +8,6 @@ commitment_started genesis None = genesis.commitment
 commitment_started genesis (Some change) = change.body.commitment
 
 -- that of the genesis, or of the change that starts the epoch
-abbrev pub commitment_at : Genesis → List CommittedChange → ℕ → List ℕ
-commitment_at genesis committed zero = genesis.commitment
-commitment_at genesis committed (suc e) = commitment_started genesis (slice_get committed e)
+abbrev pub commitment_after : Genesis → List CommittedChange → ℕ → List ℕ
+commitment_after genesis committed zero = genesis.commitment
+commitment_after genesis committed (suc e) = commitment_started genesis (slice_get committed e)

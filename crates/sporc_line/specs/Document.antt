@@ -1,10 +1,10 @@
 -- The forms of a history's entries, and the text that they make.
 use Rattle.std.specs.Prelude.{ℕ, List, [], ◌∷◌, ◌++◌, length, drop, fold}
-use Rattle.sporc_delta.specs.Marks.{Mark, apply, retains}
+use Rattle.sporc_delta.specs.Marks.{Mark, apply, keep_marks}
 use Rattle.sporc_suffix.specs.Forms.{later_over}
 use Rattle.sporc_entry.specs.declared.genesis.Genesis.{Genesis}
 use Rattle.sporc_line.specs.Kit.{Kit}
-use Rattle.sporc_line.specs.Keys.{key_of}
+use Rattle.sporc_line.specs.Keys.{epoch_key}
 use Rattle.sporc_line.specs.Operations.{Operation, What, Edited, Changed, Unread, operation_in, operations}
 
 -- the text after forms, from the empty text on
@@ -14,8 +14,8 @@ text_after forms = fold (λ text form. apply form text) [] forms
 -- an edit's marks pass the forms after its base; all else keeps the text
 abbrev pub form_of_what : List (List Mark) → ℕ → What → List Mark
 form_of_what forms base (Edited marks) = later_over marks (drop base forms)
-form_of_what forms base (Changed c) = retains (length (text_after forms))
-form_of_what forms base Unread = retains (length (text_after forms))
+form_of_what forms base (Changed c) = keep_marks (length (text_after forms))
+form_of_what forms base Unread = keep_marks (length (text_after forms))
 
 -- the form of an operation behind the forms of those before it
 abbrev pub form_of : List (List Mark) → Operation → List Mark
@@ -32,7 +32,7 @@ forms_of genesis kit entries = forms_from [] (operations genesis kit entries)
 
 -- the form that an entry gets that comes next
 abbrev pub next_form : Genesis → Kit → List (List ℕ) → List ℕ → List Mark
-next_form genesis kit entries bytes = form_of (forms_of genesis kit entries) (operation_in (key_of genesis kit entries) bytes)
+next_form genesis kit entries bytes = form_of (forms_of genesis kit entries) (operation_in (epoch_key genesis kit entries) bytes)
 
 -- the committed text
 abbrev pub text_of : Genesis → Kit → List (List ℕ) → List ℕ

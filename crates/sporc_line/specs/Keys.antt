@@ -25,10 +25,10 @@ key_after genesis kit committed zero = get kit.ring 0
 key_after genesis kit committed (suc e) = key_started genesis kit (take (suc e) committed) (suc e) (slice_get committed e)
 
 -- the key of epoch e of a history
-abbrev pub key_of : Genesis → Kit → List (List ℕ) → ℕ → Option (List ℕ)
-key_of genesis kit entries e = key_after genesis kit (changes entries) e
+abbrev pub epoch_key : Genesis → Kit → List (List ℕ) → ℕ → Option (List ℕ)
+epoch_key genesis kit entries e = key_after genesis kit (changes entries) e
 
--- the same, where the change's wraps name the members after it: a member finds its own wrap, and a joiner to come none
+-- the key that a change starts, where its wraps name the members after it: a member finds its own wrap, and a joiner to come none
 abbrev pub key_by_wraps : Kit → ℕ → Header → ChangeBody → Option (List ℕ)
 key_by_wraps kit e h c =
     if removes kit.me c.change then None

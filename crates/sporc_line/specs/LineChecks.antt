@@ -16,7 +16,7 @@ use Rattle.sporc_head.specs.declared.refusal.Refusal.TheVariants.{BadPayload, Wr
 use Rattle.sporc_head.specs.History.{changes, epoch_of}
 use Rattle.sporc_head.specs.HeadChecks.{head_checks, fault_read}
 use Rattle.sporc_line.specs.Kit.{Kit}
-use Rattle.sporc_line.specs.Keys.{key_after, key_of}
+use Rattle.sporc_line.specs.Keys.{key_after, epoch_key}
 use Rattle.sporc_line.specs.Operations.{edit_marks}
 use Rattle.sporc_line.specs.Document.{text_of}
 
@@ -48,11 +48,11 @@ new_key_checks document me epoch c old key =
 -- the checks that need keys
 abbrev pub key_checks_of : Genesis → Kit → List (List ℕ) → Entry → Option ChangeBody → List (Option Refusal)
 key_checks_of genesis kit entries e None =
-    edit_checks (length (text_of genesis kit (take e.header.base entries))) (edit_marks (key_of genesis kit entries e.header.epoch) e)
+    edit_checks (length (text_of genesis kit (take e.header.base entries))) (edit_marks (epoch_key genesis kit entries e.header.epoch) e)
 key_checks_of genesis kit entries e (Some c) =
     let epoch = epoch_of entries in
     let next = changes entries ++ record { header = e.header; body = c } ∷ [] in
-    new_key_checks genesis.document kit.me (epoch + 1) c (key_of genesis kit entries epoch) (key_after genesis kit next (epoch + 1))
+    new_key_checks genesis.document kit.me (epoch + 1) c (epoch_key genesis kit entries epoch) (key_after genesis kit next (epoch + 1))
 
 unfoldable pub key_checks : Genesis → Kit → List (List ℕ) → Entry → List (Option Refusal)
 key_checks genesis kit entries e = key_checks_of genesis kit entries e (change_of e)

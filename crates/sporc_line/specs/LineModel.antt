@@ -7,7 +7,7 @@ use Rattle.sporc_entry.specs.declared.limits.TheConstants.{MAX_EDIT_BODY}
 use Rattle.sporc_head.specs.declared.limits.TheConstants.{MAX_ENTRIES}
 use Rattle.sporc_head.specs.History.{epoch_of, is_removed}
 use Rattle.sporc_line.specs.Kit.{Kit}
-use Rattle.sporc_line.specs.Keys.{key_of}
+use Rattle.sporc_line.specs.Keys.{epoch_key}
 use Rattle.sporc_line.specs.Document.{forms_of, text_of}
 use Rattle.sporc_line.specs.Good.{Good}
 
@@ -22,7 +22,7 @@ pub record LineModel : Type 0 where
 pub record LineInvariant (genesis : Genesis) (kit : Kit) (entries : List (List ℕ)) (key : Option (List ℕ)) (base : ℕ) (forms : List (List Mark)) (text : List ℕ) : Type 0 where
   pub good : Good genesis kit entries
   pub room : length entries ≤ MAX_ENTRIES
-  pub key_is : key ≡ key_of genesis kit entries (epoch_of entries)
+  pub key_is : key ≡ epoch_key genesis kit entries (epoch_of entries)
   pub keyed : is_some key ≡ not (is_removed kit.me entries)
   pub base_is : base ≡ 0
   pub forms_are : forms ≡ forms_of genesis kit entries

@@ -5,8 +5,8 @@ use Rattle.sporc_entry.specs.declared.genesis.Genesis.{Genesis}
 use Rattle.sporc_entry.specs.Genesis.{genesis_bytes}
 use Rattle.sporc_head.specs.History.{epoch_of}
 use Rattle.sporc_line.specs.Kit.{Kit}
-use Rattle.sporc_line.specs.Keys.{key_of}
+use Rattle.sporc_line.specs.Keys.{epoch_key}
 
 -- those of its chain, and the commitment strings of its epochs' keys
 abbrev pub line_strings : Genesis → Kit → List (List ℕ) → List (List ℕ)
-line_strings g k es = strings (genesis_bytes g) es g.document (key_of g k es) (epoch_of es + 1)
+line_strings g k es = strings (genesis_bytes g) es g.document (epoch_key g k es) (epoch_of es + 1)

@@ -13,7 +13,7 @@ use Rattle.sporc_entry.specs.declared.genesis.Genesis.{Genesis}
 use Rattle.sporc_entry.specs.Entry.{author_device, entry_of, change_of}
 use Rattle.sporc_epoch.specs.Streams.{stream_of}
 use Rattle.sporc_line.specs.Kit.{Kit}
-use Rattle.sporc_line.specs.Keys.{key_of}
+use Rattle.sporc_line.specs.Keys.{epoch_key}
 
 -- what an entry does: it edits the text, it changes the members, or it can't be read
 pub data What : Type 0 where
@@ -60,4 +60,4 @@ operation_in keys bytes = operation_read keys (entry_of bytes)
 
 -- a history as a member reads it
 abbrev pub operations : Genesis → Kit → List (List ℕ) → List Operation
-operations genesis kit entries = map (operation_in (key_of genesis kit entries)) entries
+operations genesis kit entries = map (operation_in (epoch_key genesis kit entries)) entries

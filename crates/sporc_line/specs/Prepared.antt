@@ -10,7 +10,7 @@ use Rattle.sporc_head.specs.IsChecked.{IsChecked}
 use Rattle.sporc_head.specs.History.{epoch_of}
 use Rattle.sporc_line.specs.declared.effect.Effect.{Effect}
 use Rattle.sporc_line.specs.Kit.{Kit}
-use Rattle.sporc_line.specs.Keys.{key_of}
+use Rattle.sporc_line.specs.Keys.{epoch_key}
 use Rattle.sporc_line.specs.Document.{forms_of, next_form, text_of}
 use Rattle.sporc_line.specs.LineChecks.{first_fault}
 
@@ -27,7 +27,7 @@ pub record PreparedModel : Type 0 where
 pub record IsEffect (genesis : Genesis) (kit : Kit) (entries : List (List ℕ)) (checked : CheckedModel) (effect : Effect) : Type 0 where
   pub form_is : effect.form ≡ next_form genesis kit entries checked.bytes
   pub small : inserted_len effect.form ≤ MAX_EDIT_BODY
-  pub key_is : effect.key ≡ key_of genesis kit (entries ++ checked.bytes ∷ []) (epoch_of (entries ++ checked.bytes ∷ []))
+  pub key_is : effect.key ≡ epoch_key genesis kit (entries ++ checked.bytes ∷ []) (epoch_of (entries ++ checked.bytes ∷ []))
 
 -- the form with its runs
 abbrev pub ready_form : PreparedModel → ReadyModel
@@ -41,4 +41,4 @@ pub record IsPrepared (genesis : Genesis) (kit : Kit) (entries : List (List ℕ)
   pub ready : IsReadyAt 0 (forms_of genesis kit entries) (ready_form p)
   pub small : inserted_len p.form ≤ MAX_EDIT_BODY
   pub text_is : rewritten p.text (text_of genesis kit entries) ≡ apply p.form (text_of genesis kit entries)
-  pub key_is : p.key ≡ key_of genesis kit (entries ++ p.checked.bytes ∷ []) (epoch_of (entries ++ p.checked.bytes ∷ []))
+  pub key_is : p.key ≡ epoch_key genesis kit (entries ++ p.checked.bytes ∷ []) (epoch_of (entries ++ p.checked.bytes ∷ []))

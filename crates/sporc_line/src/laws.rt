@@ -5,7 +5,7 @@ ghost use Rattle.sporc_hash.specs.Strings.{CollisionFree};
 ghost use Rattle.sporc_entry.specs.declared.genesis.Genesis.{Genesis};
 ghost use Rattle.sporc_head.specs.History.{epoch_of, is_removed};
 ghost use Rattle.sporc_line.specs.Kit.{Kit};
-ghost use Rattle.sporc_line.specs.Keys.{key_of};
+ghost use Rattle.sporc_line.specs.Keys.{epoch_key};
 ghost use Rattle.sporc_line.specs.Operations.{operations};
 ghost use Rattle.sporc_delta.specs.Marks.{apply};
 ghost use Rattle.sporc_line.specs.Document.{forms_of, next_form, text_of};
@@ -31,7 +31,7 @@ pub fn one_history_is_read_alike()
     ensures keys { (genesis : Genesis) (mine yours : Kit) (entries : List (List ℕ)) (epoch : ℕ) → Good genesis mine entries → Good genesis yours entries
         → CollisionFree (line_strings genesis mine entries ++ line_strings genesis yours entries)
         → is_removed mine.me entries ≡ false → is_removed yours.me entries ≡ false → epoch ≤ epoch_of entries
-        → key_of genesis mine entries epoch ≡ key_of genesis yours entries epoch }
+        → epoch_key genesis mine entries epoch ≡ epoch_key genesis yours entries epoch }
 {}
 
 /// A good history stays good with one entry more that fails no check, and has the entry's form at the end of its forms and

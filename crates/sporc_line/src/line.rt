@@ -14,7 +14,7 @@ ghost use Rattle.sporc_head.specs.declared.limits.TheConstants.{MAX_ENTRIES};
 ghost use Rattle.sporc_head.specs.Examined.{key_for};
 ghost use Rattle.sporc_head.specs.History.{epoch_of, hash_of, is_removed, roster_of};
 ghost use Rattle.sporc_line.specs.Kit.{kit_of};
-ghost use Rattle.sporc_line.specs.Keys.{key_of};
+ghost use Rattle.sporc_line.specs.Keys.{epoch_key};
 ghost use Rattle.sporc_line.specs.Document.{forms_of, text_of};
 ghost use Rattle.sporc_line.specs.Good.{Good};
 ghost use Rattle.sporc_line.specs.Openings.{open_checks};
@@ -169,8 +169,8 @@ impl Line {
 
     /// The form of the entry at position `i`, from 1 on.
     pub fn form(&self, i: u32) -> &Delta
-        requires first { 1 ≤ i }
-        requires within { i ≤ length self.now.entries }
+        requires positive { 1 ≤ i }
+        requires in_bounds { i ≤ length self.now.entries }
         ensures value { slice_get (forms_of self.now.genesis self.now.kit self.now.entries) (i - 1) ≡ Some result.now }
     {
         self.forms.form(i - 1)
@@ -264,7 +264,7 @@ impl Line {
 
     /// The key of the last epoch. None if the member was removed or the device dropped.
     pub fn key(&self) -> Option<&[u8; 32]>
-        ensures value { option_copied result ≡ key_of self.now.genesis self.now.kit self.now.entries (epoch_of self.now.entries) }
+        ensures value { option_copied result ≡ epoch_key self.now.genesis self.now.kit self.now.entries (epoch_of self.now.entries) }
         ensures none { is_none result ≡ is_removed self.now.kit.me self.now.entries }
     {
         self.key.as_ref()
@@ -273,7 +273,7 @@ impl Line {
     /// The committed text as UTF-8.
     pub fn text(&self) -> Result<String, Memory>
         ensures ok { IfOk result (λ t. string_bytes t ≡ encode_utf8_all (text_of self.now.genesis self.now.kit self.now.entries)) }
-        ensures chars { IfOk result (λ t. chars (string_bytes t) ≡ text_of self.now.genesis self.now.kit self.now.entries) }
+        ensures characters { IfOk result (λ t. chars (string_bytes t) ≡ text_of self.now.genesis self.now.kit self.now.entries) }
         ensures within { length (text_of self.now.genesis self.now.kit self.now.entries) ≤ MAX_COMMITTED_LEN }
     {
         self.text.text()

@@ -14,7 +14,7 @@ use std::sync::ledger::{Blank, Ledger};
 /// What marks, stated on the text after the first `from` forms, become behind all forms. There are none after an edit of the
 /// last text, whose marks are the form.
 pub(crate) fn pass_forms(forms: &Blocks, marks: Delta, from: u32) -> Result<Delta, Memory>
-    requires within { from ≤ length forms.now.forms }
+    requires in_bounds { from ≤ length forms.now.forms }
     requires base { base_len marks ≡ reached forms.now.base (take from forms.now.forms) }
     requires limit { base_len marks + inserted_len marks + all_inserted (drop from forms.now.forms) ≤ MAX_TEXT_LEN }
     ensures ok { IfOk result (λ form. form ≡ later_over marks (drop from forms.now.forms)) }
@@ -25,7 +25,7 @@ pub(crate) fn pass_forms(forms: &Blocks, marks: Delta, from: u32) -> Result<Delt
     pass_counted::<Brand>(Blank::new(1), forms, &marks, from)
 }
 
-// The same, its steps counted on a blank.
+// What marks become behind all forms from a place on, the steps counted on a blank.
 fn pass_counted<L: Ledger>(
     blank: Blank,
     forms: &Blocks,
@@ -34,8 +34,8 @@ fn pass_counted<L: Ledger>(
 ) -> Result<Delta, Memory>
     requires name { blank.name ≡ L.name }
     requires parts { blank.parts ≡ L.parts }
-    requires some { 0 < blank.parts }
-    requires within { from ≤ length forms.now.forms }
+    requires positive { 0 < blank.parts }
+    requires in_bounds { from ≤ length forms.now.forms }
     requires base { base_len marks.now ≡ reached forms.now.base (take from forms.now.forms) }
     requires limit { base_len marks.now + inserted_len marks.now + all_inserted (drop from forms.now.forms) ≤ MAX_TEXT_LEN }
     ensures ok { IfOk result (λ form. form ≡ later_over marks.now (drop from forms.now.forms)) }

@@ -56,7 +56,7 @@ impl Roster {
     /// The roster of the founders.
     pub fn found(alloc: Global, founders: &[Founder]) -> Result<Roster, Memory>
         requires ascending { IsStrictlyIncreasing (founder_numbers founders.now) }
-        requires room { length founders.now ≤ MAX_MEMBERS }
+        requires limit { length founders.now ≤ MAX_MEMBERS }
         ensures ok { IfOk result (λ roster. roster.roster ≡ founded founders.now) }
     {
         let members = members_by(alloc, founders)?;

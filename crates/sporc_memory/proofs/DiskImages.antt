@@ -25,7 +25,7 @@ state_after-more first log call = fold-more after_call IsImage (record { bytes =
 abbrev pub StepsAt : DiskState → DiskCall → (List ℕ → List ℕ → Type 0) → Type 0
 StepsAt s call step = Steps after_call IsImage s call step
 
--- the same over what a disk holds: its first bytes, its log, and its calls
+-- what each such image was before, by what a disk holds: its first bytes, its log, and its calls
 pub passes_unlogged : (old : MemoryDiskModel) (first : List ℕ) (log new : List DiskCall) (calls : CallsModel) (step : List ℕ → List ℕ → Type 0)
     → ◌≡◌ {A = MemoryDiskModel} (record { first = first; log = log; calls = calls }) old → new ≡ log
     → ((image : List ℕ) → step image image) → CrashStep (length old.log) (length new) (images_of old) (images_in first new) step

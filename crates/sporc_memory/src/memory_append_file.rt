@@ -150,7 +150,7 @@ impl AppendFile for MemoryAppendFile {
         ensures images { CrashStep (length self.old.log) (length self.new.log) (images_of self.old) (images_of self.new)
             IsSame }
         ensures call { CountsCall self.old.calls self.new.calls result }
-        ensures count { self.old.calls.faults ≤ self.new.calls.faults }
+        ensures kept { self.old.calls.faults ≤ self.new.calls.faults }
     {
         self.enter(AppendRequest::Read)?;
         let len = self.bytes.len() as u64;

@@ -224,7 +224,7 @@ fn is_unsynced(log: &[DiskCall], at: usize) -> bool
     is_unsynced
 }
 
-// The same after one call more.
+// Whether the byte at a place was written and not synced, after one call more.
 fn is_unsynced_after(is_unsynced: bool, call: &DiskCall, at: usize) -> bool
     ensures { (s : DiskState) → IsTrue is_unsynced ↔ IsUnsynced s.unsynced at
         → IsTrue result ↔ IsUnsynced (after_call s call.now).unsynced at }

@@ -119,7 +119,7 @@ impl Folder for MemoryFolder {
         ensures answered { IfErr result (λ fault. fault ≢ faults.Failed
             → self.new.asked ≡ self.old.asked ++ name.now ∷ []) }
         ensures may_ask { MayAppend (Some self.old.asked) (Some self.new.asked) name.now }
-        ensures count { self.old.calls.faults ≤ self.new.calls.faults }
+        ensures kept { self.old.calls.faults ≤ self.new.calls.faults }
         ensures call { CountsCall self.old.calls self.new.calls result }
     {
         let bytes = look_up(
@@ -159,7 +159,7 @@ impl Folder for MemoryFolder {
         ensures answered { IfErr result (λ fault. fault ≢ faults.Failed
             → self.new.asked ≡ self.old.asked ++ name.now ∷ []) }
         ensures may_ask { MayAppend (Some self.old.asked) (Some self.new.asked) name.now }
-        ensures count { self.old.calls.faults ≤ self.new.calls.faults }
+        ensures kept { self.old.calls.faults ≤ self.new.calls.faults }
         ensures call { CountsCall self.old.calls self.new.calls result }
     {
         ask(self.alloc, &mut self.calls, &mut self.asked, name)?;
@@ -178,12 +178,12 @@ impl Folder for MemoryFolder {
         ensures err { IfErr result (IsDiskFault (Some self.old.files) name.now self.old.calls.faults self.new.calls.faults) }
         ensures files { Some self.new.files ≡ Some self.old.files }
         ensures lent { OnOk result (Some self.new.lent ≡ Some (name.now ∷ self.old.lent)) }
-        ensures not_lent { OnErr result (Some self.new.lent ≡ Some self.old.lent) }
+        ensures lent_unchanged { OnErr result (Some self.new.lent ≡ Some self.old.lent) }
         ensures asked { OnOk result (AppendsItem (Some self.old.asked) (Some self.new.asked) name.now) }
         ensures may_ask { MayAppend (Some self.old.asked) (Some self.new.asked) name.now }
         ensures answered { IfErr result (λ fault. fault ≢ faults.Failed
             → self.new.asked ≡ self.old.asked ++ name.now ∷ []) }
-        ensures count { self.old.calls.faults ≤ self.new.calls.faults }
+        ensures kept { self.old.calls.faults ≤ self.new.calls.faults }
         ensures call { CountsCall self.old.calls self.new.calls result }
         ensures failing { IfOk result (λ disk. disk.calls.failing ≡ self.old.disk_calls) }
         ensures taken { OnOk result (self.new.disk_calls ≡ []) }
@@ -225,7 +225,7 @@ impl Folder for MemoryFolder {
         ensures answered { IfErr result (λ fault. fault ≢ faults.Failed
             → self.new.asked ≡ self.old.asked ++ name.now ∷ []) }
         ensures may_ask { MayAppend (Some self.old.asked) (Some self.new.asked) name.now }
-        ensures count { self.old.calls.faults ≤ self.new.calls.faults }
+        ensures kept { self.old.calls.faults ≤ self.new.calls.faults }
         ensures call { CountsCall self.old.calls self.new.calls result }
         ensures failing { IfOk result (λ file. file.calls.failing ≡ self.old.append_calls) }
         ensures taken { OnOk result (self.new.append_calls ≡ []) }
@@ -245,7 +245,7 @@ impl Folder for MemoryFolder {
         ensures back { TakesFile name.now (Some (bytes_in file)) (Some self.old.files) (Some self.new.files) }
         ensures lent { Some self.new.lent ≡ Some self.old.lent }
         ensures asked { Some self.new.asked ≡ Some self.old.asked }
-        ensures count { count_of_both self.old.calls.faults file.calls.faults ≤ self.new.calls.faults }
+        ensures kept { count_of_both self.old.calls.faults file.calls.faults ≤ self.new.calls.faults }
     {
         self.calls.add_faults(file.faults());
         let (_, bytes) = file.into_parts();
@@ -314,7 +314,7 @@ fn look_up<'a>(
     ensures answered { IfErr result (λ fault. fault ≢ faults.Failed
         → asked.new.items ≡ asked.old.items ++ name.now ∷ []) }
     ensures may_ask { MayAppend (Some asked.old.items) (Some asked.new.items) name.now }
-    ensures count { calls.old.faults ≤ calls.new.faults }
+    ensures kept { calls.old.faults ≤ calls.new.faults }
     ensures call { CountsCall calls.old calls.new result }
 {
     ask(alloc, calls, asked, name)?;
@@ -384,7 +384,7 @@ fn lend(
     ensures err { OnErr result (lent.new.items ≡ lent.old.items) }
     ensures failed { IfErr result (λ fault. (fault ≡ faults.Failed) × Rose calls.old.faults calls.new.faults) }
     ensures calls { calls.new ≡ record calls.old { faults = calls.new.faults } }
-    ensures count { calls.old.faults ≤ calls.new.faults }
+    ensures kept { calls.old.faults ≤ calls.new.faults }
 {
     match open(alloc, lent, name, bytes, failing) {
         Ok(disk) => Ok(disk),
@@ -424,7 +424,7 @@ fn appended(
     ensures err { IfErr result (IsAppendFault (Some files.old.items) name.now calls.old.faults calls.new.faults) }
     ensures unchanged { OnErr result (files.new.items ≡ files.old.items) }
     ensures calls { calls.new ≡ record calls.old { faults = calls.new.faults } }
-    ensures count { calls.old.faults ≤ calls.new.faults }
+    ensures kept { calls.old.faults ≤ calls.new.faults }
 {
     let place = place_of(files, name);
     let bytes = match place {

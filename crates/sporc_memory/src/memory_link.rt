@@ -82,7 +82,7 @@ impl Stream for MemoryLink {
 
 impl Source for MemoryLink {
     fn read(&mut self, buf: &mut [u8]) -> Result<usize, Failed>
-        ensures bound { IfOk result (λ n. n ≤ length buf.new) }
+        ensures within { IfOk result (λ n. n ≤ length buf.new) }
         ensures did { Reads (use_of link_told self.old self.new) result buf.new }
         ensures listed { IsErr result ↔ Contains self.old.calls.failing (next_count self.old.calls.made) }
         ensures call { CountsCall self.old.calls self.new.calls result }
@@ -98,8 +98,8 @@ impl Source for MemoryLink {
 
 impl Sink for MemoryLink {
     fn write(&mut self, bytes: &[u8]) -> Result<usize, Failed>
-        ensures bound { IfOk result (λ n. n ≤ length bytes.now) }
-        ensures some { IfOk result (λ n. 0 < length bytes.now → 0 < n) }
+        ensures within { IfOk result (λ n. n ≤ length bytes.now) }
+        ensures positive { IfOk result (λ n. 0 < length bytes.now → 0 < n) }
         ensures did { Writes (use_of link_told self.old self.new) result bytes.now }
         ensures call { CountsCall self.old.calls self.new.calls result }
         ensures piece { IfOk result (λ n. n ≡ min (length bytes.now) self.old.piece) }

@@ -75,7 +75,7 @@ impl MemoryNet {
         ensures fresh { IfOk result IsFresh }
         ensures err { OnErr result (self.new.coming ≡ self.old.coming) }
         ensures out { OnOk result (self.new.out ≡ self.old.out + 1) }
-        ensures not_out { OnErr result (self.new.out ≡ self.old.out) }
+        ensures out_unchanged { OnErr result (self.new.out ≡ self.old.out) }
         ensures asked { self.new.asked ≡ self.old.asked }
         ensures returned { self.new.returned ≡ self.old.returned }
         ensures links { self.new.link_faults ≡ self.old.link_faults }
@@ -130,9 +130,9 @@ impl Dial for MemoryNet {
         ensures fresh { IfOk result (λ link. link.calls.faults ≡ 0) }
         ensures open { IfOk result (λ link. link.is_shut ≡ false) }
         ensures next { IfOk result (λ link. self.old.coming ≡ link ∷ self.new.coming) }
-        ensures same { OnErr result (Some self.new.coming ≡ Some self.old.coming) }
+        ensures coming_unchanged { OnErr result (Some self.new.coming ≡ Some self.old.coming) }
         ensures out { OnOk result (Some self.new.out ≡ Some (self.old.out + 1)) }
-        ensures not_out { OnErr result (Some self.new.out ≡ Some self.old.out) }
+        ensures out_unchanged { OnErr result (Some self.new.out ≡ Some self.old.out) }
         ensures asked { OnOk result (self.new.asked ≡ self.old.asked ++ address.now ∷ []) }
         ensures may_ask { MayAppend (Some self.old.asked) (Some self.new.asked) address.now }
         ensures returned { Some self.new.returned ≡ Some self.old.returned }
@@ -163,9 +163,9 @@ impl Listen for MemoryNet {
         ensures fresh { IfOk result (λ link. link.calls.faults ≡ 0) }
         ensures open { IfOk result (λ link. link.is_shut ≡ false) }
         ensures next { IfOk result (λ link. self.old.coming ≡ link ∷ self.new.coming) }
-        ensures same { OnErr result (Some self.new.coming ≡ Some self.old.coming) }
+        ensures coming_unchanged { OnErr result (Some self.new.coming ≡ Some self.old.coming) }
         ensures out { OnOk result (Some self.new.out ≡ Some (self.old.out + 1)) }
-        ensures not_out { OnErr result (Some self.new.out ≡ Some self.old.out) }
+        ensures out_unchanged { OnErr result (Some self.new.out ≡ Some self.old.out) }
         ensures asked { Some self.new.asked ≡ Some self.old.asked }
         ensures returned { Some self.new.returned ≡ Some self.old.returned }
         ensures links { self.new.link_faults ≡ self.old.link_faults }

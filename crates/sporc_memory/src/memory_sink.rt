@@ -69,8 +69,8 @@ impl Stream for MemorySink {
 
 impl Sink for MemorySink {
     fn write(&mut self, bytes: &[u8]) -> Result<usize, Failed>
-        ensures bound { IfOk result (λ n. n ≤ length bytes.now) }
-        ensures some { IfOk result (λ n. 0 < length bytes.now → 0 < n) }
+        ensures within { IfOk result (λ n. n ≤ length bytes.now) }
+        ensures positive { IfOk result (λ n. 0 < length bytes.now → 0 < n) }
         ensures did { Writes (use_of sink_told self.old self.new) result bytes.now }
         ensures call { CountsCall self.old.calls self.new.calls result }
         ensures piece { IfOk result (λ n. n ≡ min (length bytes.now) self.old.piece) }

@@ -64,7 +64,7 @@ impl Stream for MemorySource {
 
 impl Source for MemorySource {
     fn read(&mut self, buf: &mut [u8]) -> Result<usize, Failed>
-        ensures bound { IfOk result (λ n. n ≤ length buf.new) }
+        ensures within { IfOk result (λ n. n ≤ length buf.new) }
         ensures did { Reads (use_of source_told self.old self.new) result buf.new }
         ensures listed { IsErr result ↔ Contains self.old.calls.failing (next_count self.old.calls.made) }
         ensures call { CountsCall self.old.calls self.new.calls result }

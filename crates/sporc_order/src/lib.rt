@@ -10,7 +10,7 @@
 //! order.submit_examined(&examined)?;        // answers as submit does
 //! order.pull(0)                             // the longest batch from the first entry on that its limits allow
 //! session.reply(&mut order, &message)       // what is sent, nothing, or that the session ends
-//! session.reply_kept(.., &mut tail)         // the same, where a tail keeps each entry before the order takes it
+//! session.reply_kept(.., &mut tail)         // a reply where a tail keeps each entry before the order takes it
 //! ```
 //!
 //! Proved: an entry is appended exactly if no check fails, whatever is known of its signature; an answer is the longest batch

@@ -101,7 +101,7 @@ impl Order {
         self.submit_known(bytes, None)
     }
 
-    /// The same of an entry whose signature was examined. It is verified anew if the key isn't that of its author's device here.
+    /// Appends an entry whose signature was examined. It is verified anew if the key isn't that of its author's device here.
     pub fn submit_examined(&mut self, examined: &Examined) -> Result<u32, Refusal>
         ensures genesis { self.new.genesis ≡ self.old.genesis }
         ensures fault { AnswersUnless Refusal.Memory result (head_fault self.old.genesis None self.old.entries (length self.old.entries + 1) examined.now.entry) }
@@ -112,7 +112,7 @@ impl Order {
         self.submit_known(examined.entry(), Some(examined.known()))
     }
 
-    /// The same of bytes of which a verdict may be known.
+    /// Appends an entry's bytes, of which a verdict may be known.
     pub fn submit_known(&mut self, entry: &[u8], known: Option<&Verdict>) -> Result<u32, Refusal>
         requires exact { IfSome known (λ v. IsExact v.now entry.now) }
         ensures genesis { self.new.genesis ≡ self.old.genesis }
@@ -128,7 +128,7 @@ impl Order {
         }
     }
 
-    /// The same of an entry that a tail keeps first. If it does not, the order is unchanged.
+    /// Appends an entry that a tail keeps first. If it does not, the order is unchanged.
     pub fn submit_kept<T: Tail>(
         &mut self,
         entry: &[u8],
@@ -141,7 +141,7 @@ impl Order {
         ensures position { IfOk result (λ position. position ≡ length self.old.entries + 1) }
         ensures ok { OnOk result (self.new.entries ≡ self.old.entries ++ entry.now ∷ []) }
         ensures unchanged { OnErr result (self.new.entries ≡ self.old.entries) }
-        ensures kept { T.keeps tail.old self.old.entries → T.keeps tail.new self.new.entries }
+        ensures tail { T.keeps tail.old self.old.entries → T.keeps tail.new self.new.entries }
     {
         let position = self.heads.len() + 1;
         let checked = match self.heads.check_known(None, position, entry, known) {
@@ -172,7 +172,7 @@ impl Order {
     /// [`MAX_PULLED`].
     pub fn pull(&self, from: u32) -> &[Vec<u8>]
         ensures entries { map (λ v. v.items) result.now ≡ batch_after self.now.entries from }
-        ensures empty { length result.now ≡ 0 ↔ length self.now.entries ≤ from }
+        ensures none_left { length result.now ≡ 0 ↔ length self.now.entries ≤ from }
         ensures within { length result.now ≤ MAX_PULLED }
     {
         let entries = self.heads.entries();

@@ -105,7 +105,7 @@ impl Session {
         ensures unanswered { IfErr result (IsUnanswered T.may_fail) }
         ensures err { OnErr result (order.new ≡ order.old) }
         ensures unchanged { OnErr result (self.new ≡ self.old) }
-        ensures kept { T.keeps tail.old order.old.entries → T.keeps tail.new order.new.entries }
+        ensures tail { T.keeps tail.old order.old.entries → T.keeps tail.new order.new.entries }
     {
         match message {
             ToServer::Hello { document, .. } => Ok(reply_of(self.greet(order, document))),
@@ -176,7 +176,7 @@ fn submit<T: Tail>(
         (head_fault order.old.genesis None order.old.entries (length order.old.entries + 1) entry.now)).order) }
     ensures unanswered { IfErr result (IsUnanswered T.may_fail) }
     ensures err { OnErr result (order.new ≡ order.old) }
-    ensures kept { T.keeps tail.old order.old.entries → T.keeps tail.new order.new.entries }
+    ensures tail { T.keeps tail.old order.old.entries → T.keeps tail.new order.new.entries }
 {
     match order.submit_kept(entry, known, tail) {
         Ok(pos) => Ok(Answer::Send(ToClient::Ordered { pos })),

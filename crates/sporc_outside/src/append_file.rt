@@ -29,7 +29,7 @@ pub trait AppendFile: Counted {
         ensures stored { (told self.new).stored ≡ (told self.old).stored }
         ensures name { (told self.new).name ≡ (told self.old).name }
         ensures images { FileSteps (use_of told self.old self.new) IsSame }
-        ensures count { (told self.old).faults ≤ (told self.new).faults };
+        ensures kept { (told self.old).faults ≤ (told self.new).faults };
 
     /// Writes the bytes behind the last one, if the file then has no more than [`MAX_FILE`](crate::MAX_FILE); else it fails.
     fn append(&mut self, bytes: &[u8]) -> Result<(), Failed>

@@ -36,7 +36,7 @@ pub trait Folder: Counted {
         ensures answered { IfErr result (λ fault. fault ≢ FileFault.Failed
             → AppendsItem (told self.old).asked (told self.new).asked name.now) }
         ensures may_ask { MayAppend (told self.old).asked (told self.new).asked name.now }
-        ensures count { (told self.old).faults ≤ (told self.new).faults };
+        ensures kept { (told self.old).faults ≤ (told self.new).faults };
 
     /// Writes a file, in place of the one with this name if there is one. After a call that failed, that one may have
     /// changed.
@@ -60,7 +60,7 @@ pub trait Folder: Counted {
         ensures answered { IfErr result (λ fault. fault ≢ FileFault.Failed
             → AppendsItem (told self.old).asked (told self.new).asked name.now) }
         ensures may_ask { MayAppend (told self.old).asked (told self.new).asked name.now }
-        ensures count { (told self.old).faults ≤ (told self.new).faults };
+        ensures kept { (told self.old).faults ≤ (told self.new).faults };
 
     /// A disk over the bytes of a file.
     fn leaf_disk(&mut self, name: &str) -> Result<Self::Disk, FileFault>
@@ -69,12 +69,12 @@ pub trait Folder: Counted {
         ensures err { IfErr result (IsDiskFault (told self.old).files name.now (told self.old).faults (told self.new).faults) }
         ensures files { (told self.new).files ≡ (told self.old).files }
         ensures lent { OnOk result ((told self.new).lent ≡ option_map (λ names. name.now ∷ names) (told self.old).lent) }
-        ensures not_lent { OnErr result ((told self.new).lent ≡ (told self.old).lent) }
+        ensures lent_unchanged { OnErr result ((told self.new).lent ≡ (told self.old).lent) }
         ensures asked { OnOk result (AppendsItem (told self.old).asked (told self.new).asked name.now) }
         ensures answered { IfErr result (λ fault. fault ≢ FileFault.Failed
             → AppendsItem (told self.old).asked (told self.new).asked name.now) }
         ensures may_ask { MayAppend (told self.old).asked (told self.new).asked name.now }
-        ensures count { (told self.old).faults ≤ (told self.new).faults };
+        ensures kept { (told self.old).faults ≤ (told self.new).faults };
 
     /// Takes back the disk that it handed out last of those that are out. Its bytes are the file's.
     fn take_back(&mut self, disk: Self::Disk)
@@ -82,7 +82,7 @@ pub trait Folder: Counted {
         ensures lent { (told self.new).lent ≡ option_map (λ names. drop 1 names) (told self.old).lent }
         ensures back { TakesBack (told self.old).lent (told self.old).files (told self.new).files (Self.Disk.told disk).stored }
         ensures asked { (told self.new).asked ≡ (told self.old).asked }
-        ensures count { count_of_both (told self.old).faults (Self.Disk.told disk).faults ≤ (told self.new).faults };
+        ensures kept { count_of_both (told self.old).faults (Self.Disk.told disk).faults ≤ (told self.new).faults };
 
     /// The file with this name, to be appended to. If there is none, it is made, with no bytes. After a call that failed there
     /// may be one. A file that another program has is a call that fails.
@@ -98,14 +98,14 @@ pub trait Folder: Counted {
         ensures answered { IfErr result (λ fault. fault ≢ FileFault.Failed
             → AppendsItem (told self.old).asked (told self.new).asked name.now) }
         ensures may_ask { MayAppend (told self.old).asked (told self.new).asked name.now }
-        ensures count { (told self.old).faults ≤ (told self.new).faults };
+        ensures kept { (told self.old).faults ≤ (told self.new).faults };
 
     /// Takes back a file that it handed out by this name. Its bytes are those of the file with the name.
     fn take_file(&mut self, name: &str, file: Self::Appended)
         ensures back { TakesFile name.now (Self.Appended.told file).stored (told self.old).files (told self.new).files }
         ensures lent { (told self.new).lent ≡ (told self.old).lent }
         ensures asked { (told self.new).asked ≡ (told self.old).asked }
-        ensures count { count_of_both (told self.old).faults (Self.Appended.told file).faults ≤ (told self.new).faults };
+        ensures kept { count_of_both (told self.old).faults (Self.Appended.told file).faults ≤ (told self.new).faults };
 
     /// Takes back a file that it handed out by this name, and removes it. Nobody else gets it before it is gone. After a call
     /// that failed it is gone or as it was.

@@ -20,7 +20,7 @@ pub trait LeafDisk: Counted {
 
     /// The length in bytes, which no call changes.
     fn len(&mut self) -> Result<u64, Failed>
-        ensures length { IfOk result (λ n. IfSome (told self.old).stored (λ bytes. n ≡ length bytes)) }
+        ensures value { IfOk result (λ n. IfSome (told self.old).stored (λ bytes. n ≡ length bytes)) }
         ensures stored { (told self.new).stored ≡ (told self.old).stored }
         ensures images { DiskSteps (use_of told self.old self.new) IsSame }
         ensures time { OnOk result (TakesTime (told self.old).stored (told self.old).moment (told self.new).moment) }

@@ -27,8 +27,8 @@ pub trait Links: Counted {
         ensures returned { AppendsItem (told self.old).returned (told self.new).returned (Self.Link.told link) }
         ensures asked { (told self.new).asked ≡ (told self.old).asked }
         ensures coming { (told self.new).coming ≡ (told self.old).coming }
-        ensures count { (told self.new).faults ≡ (told self.old).faults }
-        ensures links { count_of_both (told self.old).link_faults (Self.Link.told link).faults ≤ (told self.new).link_faults };
+        ensures kept { (told self.new).faults ≡ (told self.old).faults }
+        ensures links_kept { count_of_both (told self.old).link_faults (Self.Link.told link).faults ≤ (told self.new).link_faults };
 
     // The faults that it tells are those that it counts.
     ghost faults_are_told: { (net : Self) → (told net).faults ≡ Self.faults net };
@@ -41,9 +41,9 @@ pub trait Dial: Links {
         ensures fresh { IfOk result (λ link. (Self.Link.told link).faults ≡ 0) }
         ensures open { IfOk result (λ link. IsFalseIfTold (Self.Link.told link).is_shut) }
         ensures next { IfOk result (λ link. TakesItem (Self.told self.old).coming (Self.told self.new).coming (Self.Link.told link)) }
-        ensures same { OnErr result ((Self.told self.new).coming ≡ (Self.told self.old).coming) }
+        ensures coming_unchanged { OnErr result ((Self.told self.new).coming ≡ (Self.told self.old).coming) }
         ensures out { OnOk result ((Self.told self.new).out ≡ option_map (λ n. n + 1) (Self.told self.old).out) }
-        ensures not_out { OnErr result ((Self.told self.new).out ≡ (Self.told self.old).out) }
+        ensures out_unchanged { OnErr result ((Self.told self.new).out ≡ (Self.told self.old).out) }
         ensures asked { OnOk result (AppendsItem (Self.told self.old).asked (Self.told self.new).asked address.now) }
         ensures may_ask { MayAppend (Self.told self.old).asked (Self.told self.new).asked address.now }
         ensures returned { (Self.told self.new).returned ≡ (Self.told self.old).returned }
@@ -68,9 +68,9 @@ pub trait Listen: Links {
         ensures fresh { IfOk result (λ link. (Self.Link.told link).faults ≡ 0) }
         ensures open { IfOk result (λ link. IsFalseIfTold (Self.Link.told link).is_shut) }
         ensures next { IfOk result (λ link. TakesItem (Self.told self.old).coming (Self.told self.new).coming (Self.Link.told link)) }
-        ensures same { OnErr result ((Self.told self.new).coming ≡ (Self.told self.old).coming) }
+        ensures coming_unchanged { OnErr result ((Self.told self.new).coming ≡ (Self.told self.old).coming) }
         ensures out { OnOk result ((Self.told self.new).out ≡ option_map (λ n. n + 1) (Self.told self.old).out) }
-        ensures not_out { OnErr result ((Self.told self.new).out ≡ (Self.told self.old).out) }
+        ensures out_unchanged { OnErr result ((Self.told self.new).out ≡ (Self.told self.old).out) }
         ensures asked { (Self.told self.new).asked ≡ (Self.told self.old).asked }
         ensures returned { (Self.told self.new).returned ≡ (Self.told self.old).returned }
         ensures links { (Self.told self.new).link_faults ≡ (Self.told self.old).link_faults }

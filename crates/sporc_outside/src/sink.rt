@@ -14,8 +14,8 @@ use crate::stream::Stream;
 pub trait Sink: Stream {
     /// Takes a prefix of the bytes, and says how many: at least one, where there are any.
     fn write(&mut self, bytes: &[u8]) -> Result<usize, Failed>
-        ensures bound { IfOk result (λ n. n ≤ length bytes.now) }
-        ensures some { IfOk result (λ n. 0 < length bytes.now → 0 < n) }
+        ensures within { IfOk result (λ n. n ≤ length bytes.now) }
+        ensures positive { IfOk result (λ n. 0 < length bytes.now → 0 < n) }
         ensures did { Writes (use_of Self.told self.old self.new) result bytes.now };
 }
 

@@ -12,6 +12,6 @@ pub trait Source: Stream {
     /// Moves bytes into the first places of the buffer, and says how many. None are moved only at the
     /// end, or where the buffer is empty.
     fn read(&mut self, buf: &mut [u8]) -> Result<usize, Failed>
-        ensures bound { IfOk result (λ n. n ≤ length buf.new) }
+        ensures within { IfOk result (λ n. n ≤ length buf.new) }
         ensures did { Reads (use_of Self.told self.old self.new) result buf.new };
 }

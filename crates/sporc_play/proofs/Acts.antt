@@ -11,7 +11,7 @@ use Rattle.sporc_delta.specs.Typed.{IsTypedDelta}
 use Rattle.sporc_delta.proofs.Typing.{inserted, inserted-insertion, inserted-removal, typed_delta}
 use Rattle.sporc_delta.specs.declared.limits.TheConstants.{MAX_COUNT}
 use Rattle.sporc_client.specs.declared.limits.TheConstants.{MAX_EVENTS}
-use Rattle.sporc_client.specs.Allowed.{allows}
+use Rattle.sporc_client.specs.Allowed.{can_log}
 use Rattle.sporc_client.specs.Answers.{change_fault, discard_fault, edit_fault}
 use Rattle.sporc_client.specs.Log.{Logged, Change, Discard, Edit}
 use Rattle.sporc_client.specs.PlainClient.{PlainClient, shown_after}
@@ -66,25 +66,25 @@ client_at s moves scene who c come at =
     ap (λ (ms : List Move). (after_all s start ms).clients who) (take_all (length moves) moves (omega arith)) ∙ ap (λ (w : World). w.clients who) (sym come.world) ∙ at
 
 -- one event, unless there is a fault
-pub event_acts : {F : Type 0} (s : Setup) (scene : Scene) (who : Device) (c : PlainClient) (fault : Option F) (event : Logged) → scene.world.clients who ≡ Some c → (fault ≡ None → allows c event ≡ true) → (fault ≡ None → IsTypedEvent event) → IsByteEvent event → MayAct s scene (adds who (logged_unless fault event))
+pub event_acts : {F : Type 0} (s : Setup) (scene : Scene) (who : Device) (c : PlainClient) (fault : Option F) (event : Logged) → scene.world.clients who ≡ Some c → (fault ≡ None → can_log c event ≡ true) → (fault ≡ None → IsTypedEvent event) → IsByteEvent event → MayAct s scene (adds who (logged_unless fault event))
 event_acts s scene who c None event at may typed bytes = record {
-  run = (subst (λ (o : Option PlainClient). IsSomeAnd o (λ c. allows c event ≡ true)) (sym at) (may refl), tt);
+  run = (subst (λ (o : Option PlainClient). IsSomeAnd o (λ c. can_log c event ≡ true)) (sym at) (may refl), tt);
   typed = (typed refl, tt);
   bytes = (bytes, tt);
   entries = tt;
 }
 event_acts s scene who c (Some fault) event at may typed bytes = no_act s scene
 
-discard_may : (c : PlainClient) → discard_fault c ≡ None → allows c (Discard 0) ≡ true
-unfolding allows
+discard_may : (c : PlainClient) → discard_fault c ≡ None → can_log c (Discard 0) ≡ true
+unfolding can_log
 discard_may c none = ap is_none none
 
 pub discard_acts : (s : Setup) (who : Device) → MayBe s (λ scene. commands.Discard who)
 discard_acts s who moves scene come =
     open_acts s scene who (λ c. adds who (discard_events c)) (λ c at. event_acts s scene who c (discard_fault c) (Discard 0) at (discard_may c) (λ none. tt) tt)
 
-change_may : (c : PlainClient) (change : MemberChange) → change_fault c ≡ None → allows c (Change 0 change) ≡ true
-unfolding allows
+change_may : (c : PlainClient) (change : MemberChange) → change_fault c ≡ None → can_log c (Change 0 change) ≡ true
+unfolding can_log
 change_may c change none = ap is_none none
 
 typed_change : (script : List PlayLine) (change : RosterChange) → RosterChangeInRange change → IsTypedChange (member_change (setup_of script) change)
@@ -203,8 +203,8 @@ short_text s who c seen reached sound low few =
     ap_le : {a b : ℕ} → a ≡ b → a ≤ MAX_COUNT → b ≤ MAX_COUNT
     ap_le same low = omega (arith, same, low)
 
-edit_may : (c : PlainClient) (seen : ℕ) (marks : List Mark) → edit_fault c seen marks ≡ None → allows c (Edit 0 seen marks) ≡ true
-unfolding allows
+edit_may : (c : PlainClient) (seen : ℕ) (marks : List Mark) → edit_fault c seen marks ≡ None → can_log c (Edit 0 seen marks) ≡ true
+unfolding can_log
 edit_may c seen marks none = ap is_none none
 
 pub edit_acts : (s : Setup) (e : ScriptEdit) → TextEditInRange e.change → MayBe s (λ scene. commands.Edit e)

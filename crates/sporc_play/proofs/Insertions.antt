@@ -4,15 +4,15 @@ use Rattle.std.specs.Int.{w64, to_be_bytes}
 use Rattle.std.specs.Char.{encode_utf8}
 use Rattle.std.specs.Str.{encode_utf8_all}
 use Rattle.sporc_delta.specs.declared.part.Part.{Part}
-use Rattle.sporc_delta.specs.declared.part.Part.TheVariants.{Keep, Insert as InsertText, Remove}
+use Rattle.sporc_delta.specs.declared.part.Part.TheVariants.{Keep as KeepRun, Insert as InsertText, Remove as RemoveRun}
 use Rattle.sporc_delta.specs.Format.{delta_bytes, parts_bytes}
-use Rattle.sporc_delta.specs.Marks.{Mark, Retain, Insert, insertion, inserts, retains}
+use Rattle.sporc_delta.specs.Marks.{Mark, Keep, Insert, insertion, insert_marks, keep_marks}
 use Rattle.sporc_delta.specs.Parts.{runs, with_mark}
 
 abbrev size : List Part → ℕ
 size ps = length (parts_bytes ps)
 
-size-keep : (n : ℕ) (ps : List Part) → size (Keep n ∷ ps) ≡ 9 + size ps
+size-keep : (n : ℕ) (ps : List Part) → size (KeepRun n ∷ ps) ≡ 9 + size ps
 size-keep n ps = omega (arith, length-append (to_be_bytes w64 n) (parts_bytes ps))
 
 size-insert : (t : List ℕ) (ps : List Part) → size (InsertText t ∷ ps) ≡ 9 + (length (encode_utf8_all t) + size ps)
@@ -28,25 +28,25 @@ size-insert t ps =
 record Kept (ps : List Part) (n : ℕ) : Type 0 where
   count : ℕ
   rest : List Part
-  is : ps ≡ Keep count ∷ rest
+  is : ps ≡ KeepRun count ∷ rest
   short : size rest ≤ n
 
-first_kept : (ps : List Part) → Kept (with_mark Retain ps) (size ps)
+first_kept : (ps : List Part) → Kept (with_mark Keep ps) (size ps)
 first_kept [] = record { count = 1; rest = []; is = refl; short = omega arith }
-first_kept (Keep n ∷ ps) = record { count = suc n; rest = ps; is = refl; short = omega (arith, size-keep n ps) }
+first_kept (KeepRun n ∷ ps) = record { count = suc n; rest = ps; is = refl; short = omega (arith, size-keep n ps) }
 first_kept (InsertText t ∷ ps) = record { count = 1; rest = InsertText t ∷ ps; is = refl; short = omega arith }
-first_kept (Remove n ∷ ps) = record { count = 1; rest = Remove n ∷ ps; is = refl; short = omega arith }
+first_kept (RemoveRun n ∷ ps) = record { count = 1; rest = RemoveRun n ∷ ps; is = refl; short = omega arith }
 
-more_kept : (ps : List Part) (n : ℕ) → Kept ps n → Kept (with_mark Retain ps) n
-more_kept ps n k = record { count = suc k.count; rest = k.rest; is = ap (with_mark Retain) k.is; short = k.short }
+more_kept : (ps : List Part) (n : ℕ) → Kept ps n → Kept (with_mark Keep ps) n
+more_kept ps n k = record { count = suc k.count; rest = k.rest; is = ap (with_mark Keep) k.is; short = k.short }
 
-kept_run : (n : ℕ) (ms : List Mark) → Kept (runs (retains (suc n) ++ ms)) (size (runs ms))
+kept_run : (n : ℕ) (ms : List Mark) → Kept (runs (keep_marks (suc n) ++ ms)) (size (runs ms))
 kept_run zero ms = first_kept (runs ms)
-kept_run (suc n) ms = more_kept (runs (retains (suc n) ++ ms)) (size (runs ms)) (kept_run n ms)
+kept_run (suc n) ms = more_kept (runs (keep_marks (suc n) ++ ms)) (size (runs ms)) (kept_run n ms)
 
-size-retains : (n : ℕ) (ms : List Mark) → size (runs (retains n ++ ms)) ≤ 9 + size (runs ms)
-size-retains zero ms = omega arith
-size-retains (suc n) ms = let k = kept_run n ms in omega (arith, ap size k.is, size-keep k.count k.rest, k.short)
+size-keep_marks : (n : ℕ) (ms : List Mark) → size (runs (keep_marks n ++ ms)) ≤ 9 + size (runs ms)
+size-keep_marks zero ms = omega arith
+size-keep_marks (suc n) ms = let k = kept_run n ms in omega (arith, ap size k.is, size-keep k.count k.rest, k.short)
 
 -- ---- parts that begin with one that inserts, and have so many bytes of text and behind it
 
@@ -61,8 +61,8 @@ length-encode c t = length-append (encode_utf8 c) (encode_utf8_all t)
 
 first_inserted : (c : ℕ) (ps : List Part) → Inserted (with_mark (Insert c) ps) (length (encode_utf8_all (c ∷ [])) + size ps)
 first_inserted c [] = record { text = c ∷ []; rest = []; is = refl; short = omega arith }
-first_inserted c (Keep n ∷ ps) = record { text = c ∷ []; rest = Keep n ∷ ps; is = refl; short = omega arith }
-first_inserted c (Remove n ∷ ps) = record { text = c ∷ []; rest = Remove n ∷ ps; is = refl; short = omega arith }
+first_inserted c (KeepRun n ∷ ps) = record { text = c ∷ []; rest = KeepRun n ∷ ps; is = refl; short = omega arith }
+first_inserted c (RemoveRun n ∷ ps) = record { text = c ∷ []; rest = RemoveRun n ∷ ps; is = refl; short = omega arith }
 first_inserted c (InsertText t ∷ ps) = record {
   text = c ∷ t;
   rest = ps;
@@ -78,28 +78,28 @@ more_inserted c ps n k = record {
   short = omega (arith, length-encode c k.text, k.short);
 }
 
-inserted_run : (c : ℕ) (t : List ℕ) (ms : List Mark) → Inserted (runs (inserts (c ∷ t) ++ ms)) (length (encode_utf8_all (c ∷ t)) + size (runs ms))
+inserted_run : (c : ℕ) (t : List ℕ) (ms : List Mark) → Inserted (runs (insert_marks (c ∷ t) ++ ms)) (length (encode_utf8_all (c ∷ t)) + size (runs ms))
 inserted_run c [] ms = first_inserted c (runs ms)
 inserted_run c (d ∷ t) ms =
-    let more = more_inserted c (runs (inserts (d ∷ t) ++ ms)) (length (encode_utf8_all (d ∷ t)) + size (runs ms)) (inserted_run d t ms) in
-    let P : ℕ → Type 0 = λ n. Inserted (runs (inserts (c ∷ d ∷ t) ++ ms)) n in
+    let more = more_inserted c (runs (insert_marks (d ∷ t) ++ ms)) (length (encode_utf8_all (d ∷ t)) + size (runs ms)) (inserted_run d t ms) in
+    let P : ℕ → Type 0 = λ n. Inserted (runs (insert_marks (c ∷ d ∷ t) ++ ms)) n in
     subst P (omega (arith, length-encode c (d ∷ t))) more
 
-size-inserts : (t : List ℕ) (ms : List Mark) → size (runs (inserts t ++ ms)) ≤ 9 + (length (encode_utf8_all t) + size (runs ms))
-size-inserts [] ms = omega arith
-size-inserts (c ∷ t) ms = let k = inserted_run c t ms in omega (arith, ap size k.is, size-insert k.text k.rest, k.short)
+size-insert_marks : (t : List ℕ) (ms : List Mark) → size (runs (insert_marks t ++ ms)) ≤ 9 + (length (encode_utf8_all t) + size (runs ms))
+size-insert_marks [] ms = omega arith
+size-insert_marks (c ∷ t) ms = let k = inserted_run c t ms in omega (arith, ap size k.is, size-insert k.text k.rest, k.short)
 
 -- ---- the insertion
 
 pub insertion_short : (len at : ℕ) (text : List ℕ) → length (delta_bytes (insertion len at text)) ≤ 27 + length (encode_utf8_all text)
 insertion_short len at text =
-    let end = retains (len - at) in
-    let nothing : size (runs (end ++ [])) ≤ 9 + 0 = size-retains (len - at) [] in
+    let end = keep_marks (len - at) in
+    let nothing : size (runs (end ++ [])) ≤ 9 + 0 = size-keep_marks (len - at) [] in
     omega (
       arith,
-      ap (λ (ms : List Mark). size (runs ms)) (append_assoc (retains at) (inserts text) end),
-      size-retains at (inserts text ++ end),
-      size-inserts text end,
+      ap (λ (ms : List Mark). size (runs ms)) (append_assoc (keep_marks at) (insert_marks text) end),
+      size-keep_marks at (insert_marks text ++ end),
+      size-insert_marks text end,
       ap (λ (ms : List Mark). size (runs ms)) (append-nil end),
       nothing,
     )

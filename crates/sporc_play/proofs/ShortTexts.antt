@@ -8,8 +8,8 @@ use Rattle.std.proofs.lemmas.List.Sums.{fold-append}
 use Rattle.sporc_hash.proofs.Lists.{from_end}
 use Rattle.sporc_base.specs.FirstFault.{first_of}
 use Rattle.sporc_delta.specs.declared.limits.TheConstants.{MAX_COUNT}
-use Rattle.sporc_delta.specs.Marks.{Mark, apply, base_len, deletes, inserted_len, inserts, out_len, replacement, retains}
-use Rattle.sporc_delta.proofs.Lengths.{inserted_len-retains, out_len-append, out_len-deletes, out_len-inserts}
+use Rattle.sporc_delta.specs.Marks.{Mark, apply, base_len, remove_marks, inserted_len, insert_marks, out_len, replacement, keep_marks}
+use Rattle.sporc_delta.proofs.Lengths.{inserted_len-keep_marks, out_len-append, out_len-remove_marks, out_len-insert_marks}
 use Rattle.sporc_suffix.specs.Forms.{Follow, all_inserted}
 use Rattle.sporc_suffix.proofs.Following.{all_inserted-append}
 use Rattle.sporc_xform.proofs.LengthLemmas.{out_len-le}
@@ -18,13 +18,13 @@ use Rattle.sporc_head.specs.declared.limits.TheConstants.{MAX_ENTRIES}
 use Rattle.sporc_head.specs.History.{change_in}
 use Rattle.sporc_line.specs.Document.{forms_of, next_form, text_after}
 use Rattle.sporc_line.specs.Good.{Good, Meets}
-use Rattle.sporc_line.specs.Keys.{key_of}
+use Rattle.sporc_line.specs.Keys.{epoch_key}
 use Rattle.sporc_line.specs.Kit.{Kit}
 use Rattle.sporc_line.proofs.FormLengths.{inserted_len-over, length-apply, length-text}
 use Rattle.sporc_line.proofs.Goods.{first_key, good_none, good_push, last_passes}
 use Rattle.sporc_line.proofs.MoreForms.{forms_push}
 use Rattle.sporc_client.specs.declared.limits.TheConstants.{MAX_EDIT_BYTES, MAX_EVENTS}
-use Rattle.sporc_client.specs.Allowed.{allows, allows_all, is_allowed}
+use Rattle.sporc_client.specs.Allowed.{can_log, can_log_all, is_allowed}
 use Rattle.sporc_client.specs.Answers.{edit_checks, edit_fault}
 use Rattle.sporc_client.specs.ClientModel.{ClientModel, state_of}
 use Rattle.sporc_client.specs.Log.{Logged, Edit, Change, Submit, Dropped, Accept, Discard}
@@ -78,9 +78,9 @@ edit_short : (c : PlainClient) (f : List Mark) → IsShort c → Follow 0 (c.sho
     → length (text_after (c.shown ++ f ∷ [])) ≤ 2 ^ 34 + MAX_EDIT_BYTES * length (c.shown ++ f ∷ []) + all_inserted (forms_of c.opening.genesis c.opening.kit c.entries)
 edit_short c f short follow few = omega (arith, more_text c.shown f follow, short.text, length-append c.shown (f ∷ []), few)
 
-kept_short : (c : PlainClient) (n : ℕ) → IsShort c → Follow 0 (c.shown ++ retains n ∷ [])
-    → length (text_after (c.shown ++ retains n ∷ [])) ≤ 2 ^ 34 + MAX_EDIT_BYTES * length (c.shown ++ retains n ∷ []) + all_inserted (forms_of c.opening.genesis c.opening.kit c.entries)
-kept_short c n short follow = edit_short c (retains n) short follow (omega (arith, inserted_len-retains n))
+kept_short : (c : PlainClient) (n : ℕ) → IsShort c → Follow 0 (c.shown ++ keep_marks n ∷ [])
+    → length (text_after (c.shown ++ keep_marks n ∷ [])) ≤ 2 ^ 34 + MAX_EDIT_BYTES * length (c.shown ++ keep_marks n ∷ []) + all_inserted (forms_of c.opening.genesis c.opening.kit c.entries)
+kept_short c n short follow = edit_short c (keep_marks n) short follow (omega (arith, inserted_len-keep_marks n))
 
 -- one that adds an entry
 entry_short : (c : PlainClient) (b : List ℕ) (f : List Mark) → IsShort c → Good c.opening.genesis c.opening.kit (c.entries ++ b ∷ []) → Follow 0 (c.shown ++ f ∷ []) → inserted_len f ≤ inserted_len (form_coming c b)
@@ -98,8 +98,8 @@ entry_short c b f short good follow few =
       all_inserted-append (forms_of g kit c.entries) (next_form g kit c.entries b ∷ []),
     )
 
-no_fault : (c : PlainClient) (by seen : ℕ) (marks : List Mark) → allows c (Edit by seen marks) ≡ true → first_of (edit_checks c seen marks) ≡ None
-unfolding allows
+no_fault : (c : PlainClient) (by seen : ℕ) (marks : List Mark) → can_log c (Edit by seen marks) ≡ true → first_of (edit_checks c seen marks) ≡ None
+unfolding can_log
 no_fault c by seen marks may = sym (edit_fault_is c seen marks) ∙ none_of (edit_fault c seen marks) may
   where
     none_of : {F : Type 0} (o : Option F) → is_none o ≡ true → o ≡ None
@@ -113,14 +113,14 @@ discard_short c short n follow =
     omega (
       arith,
       last_text c.shown (replacement n text) follow,
-      out_len-append (deletes n) (inserts text),
-      out_len-deletes n,
-      out_len-inserts text,
+      out_len-append (remove_marks n) (insert_marks text),
+      out_len-remove_marks n,
+      out_len-insert_marks text,
       length-text_of c.opening.genesis c.opening.kit c.entries short.good,
       few_entries c.opening.genesis c.opening.kit c.entries short.good,
     )
 
-step_short : (c : PlainClient) (event : Logged) → IsShort c → allows c event ≡ true → Follow 0 (step c event).shown → IsShort (step c event)
+step_short : (c : PlainClient) (event : Logged) → IsShort c → can_log c event ≡ true → Follow 0 (step c event).shown → IsShort (step c event)
 step_short c (Edit by seen marks) short may follow =
     let passed = edit_passed c seen marks (no_fault c by seen marks may) in
     let few : inserted_len (restated c seen marks) ≤ MAX_EDIT_BYTES = omega (arith, inserted_len-over marks (drop seen c.shown), inserted_len-bytes marks, passed.bytes) in
@@ -134,7 +134,7 @@ step_short c (Accept by bytes) short may follow = go (is_flight c bytes) (is_som
     good = good_push c.opening.genesis c.opening.kit c.entries bytes short.good (accept_passes c by bytes may)
 
     none : inserted_len (keeps c) ≤ inserted_len (form_coming c bytes)
-    none = omega (arith, inserted_len-retains (length (shown_of c)))
+    none = omega (arith, inserted_len-keep_marks (length (shown_of c)))
 
     go : (own change : Bool) → Follow 0 (cond own (own_comes c bytes) (cond change (change_comes c bytes) (edit_comes c bytes))).shown → IsShort (cond own (own_comes c bytes) (cond change (change_comes c bytes) (edit_comes c bytes)))
     go true change follow = record { good = good; text = entry_short c bytes (keeps c) short good follow none }
@@ -157,12 +157,12 @@ short_now c log short =
     let entries = few_entries c.opening.genesis c.opening.kit c.entries short.good in
     omega (arith, ap (λ (forms : List (List Mark)). length (text_after forms)) here, short.text, few, entries)
 
-short_from : (c : PlainClient) (log : List Logged) (n : ℕ) → IsShort c → allows_all c log ≡ true → Follow 0 (replay_from c log).shown → n ≤ length log → IsBelow (replay_from c log).shown (length c.shown + n)
+short_from : (c : PlainClient) (log : List Logged) (n : ℕ) → IsShort c → can_log_all c log ≡ true → Follow 0 (replay_from c log).shown → n ≤ length log → IsBelow (replay_from c log).shown (length c.shown + n)
 short_from c log zero short may follow within = subst (IsBelow (replay_from c log).shown) (sym (add-zero (length c.shown))) (short_now c log short)
 short_from c [] (suc n) short may follow within = absurd (omega (arith, within))
 short_from c (event ∷ log) (suc n) short may follow within =
     let d = step c event in
-    let p = and_parts (allows c event) (allows_all d log) may in
+    let p = and_parts (can_log c event) (can_log_all d log) may in
     let rest = log_grows d log in
     let here : Follow 0 d.shown = follow_front 0 d.shown rest.0 (subst (Follow 0) rest.1 follow) in
     let one = log_grows c (event ∷ []) in
@@ -180,7 +180,7 @@ unfolding replay is_allowed IsBelow
 short_texts_of o log may sound few seen low =
     let c = replay o log in
     let begin : Good o.genesis o.kit [] = good_none o.genesis o.kit
-    (subst (λ (p : Opening). Meets p.genesis 0 (key_of p.genesis p.kit [] 0) p.genesis.commitment) (replay_opening o log)
+    (subst (λ (p : Opening). Meets p.genesis 0 (epoch_key p.genesis p.kit [] 0) p.genesis.commitment) (replay_opening o log)
     (subst (λ (k : Option (List ℕ)). Meets c.opening.genesis 0 k c.opening.genesis.commitment) (first_key c.opening.genesis c.opening.kit c.entries []) sound.good.opens)) in
     let below : length (text_after (take (0 + seen) (replay_from (opened o) log).shown)) ≤ 2 ^ 35 + MAX_EDIT_BYTES * (0 + seen) = short_from (opened o) log seen (opened_short o begin) may sound.follow low in
     omega (arith, below, ap (λ (n : ℕ). length (text_after (take n (replay_from (opened o) log).shown))) (zero-add seen), few, low)

@@ -74,7 +74,7 @@ holds_more s scene answer who c c' was key is =
     subst (λ (n : ℕ). IsReady (s.private who) n c') (ap (λ (n : ℕ). n + length (entries_in answer)) was.leaves.next ∙ sym (more_own scene.leaves who (length (entries_in answer))))
     (subst (λ (k : LmsPrivate). IsReady k (c.leaves.next + length (entries_in answer)) c') key is)
 
--- the same in the words of the scene
+-- what it does in the words of the scene
 answer_is : (s : Setup) (scene : Scene) (seat : Seat) (c : ClientModel MemoryDiskModel) → IsSeatOf s scene (with_client seat (Some c)) → answer_of seat c ≡ submission_in s scene seat.device (state_of c)
 answer_is s scene seat c is =
     ap₂ (λ (n : ℕ) (leaf : Result ℕ LeafFault). submission (state_of c) (random_of seat.device (n + 1)) leaf) is.asked

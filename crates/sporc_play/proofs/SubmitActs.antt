@@ -15,7 +15,7 @@ use Rattle.sporc_client.specs.declared.fault.SubmitFault.{SubmitFault}
 use Rattle.sporc_client.specs.declared.pending.Pending.{Pending}
 use Rattle.sporc_client.specs.declared.submitted.Submitted.{Submitted}
 use Rattle.sporc_client.specs.declared.submitted.Submitted.TheVariants as submitted
-use Rattle.sporc_client.specs.Allowed.{allows, is_drop}
+use Rattle.sporc_client.specs.Allowed.{can_log, is_drop}
 use Rattle.sporc_client.specs.Entries.{Chosen, bytes_made}
 use Rattle.sporc_client.specs.Log.{Dropped, Submit}
 use Rattle.sporc_client.specs.PlainClient.{Opening, PlainClient, me_of}
@@ -82,8 +82,8 @@ drop_due c random leaf fault is = go (due c) refl is
     go (Refuse f) at is = absurd cc
     go (Sign item) at is = by_leaf item leaf is
 
-drop_may : (c : PlainClient) (fault : ChangeFault) → due c ≡ Drop fault → allows c (Dropped 0 fault) ≡ true
-unfolding allows
+drop_may : (c : PlainClient) (fault : ChangeFault) → due c ≡ Drop fault → can_log c (Dropped 0 fault) ≡ true
+unfolding can_log
 drop_may c fault is = ap (is_drop fault) is ∙ eq-eqb (change_fault_code_of fault) (change_fault_code_of fault) refl
 
 leaf_is : (key : LmsPrivate) (n q : ℕ) → leaf_after key n ≡ Ok q → q < 2 ^ height_of key.lms
@@ -136,7 +136,7 @@ submit_acts script who moves scene come =
         made_are c (chosen_by sign.number random) sign.item written number document (bytes_take 32 random (random_are who (scene.asked who + 1))) (bytes_drop 32 random (random_are who (scene.asked who + 1)))
         (current_bytes c (come.clients who c at).ring known.bytes) in
         let all : AreBytes bytes = subst AreBytes (sym sign.made) made in
-        let may : allows c (Submit 0 bytes) ≡ true = made_allowed s moves (length moves) 0 who c bytes come.run there (record {
+        let may : can_log c (Submit 0 bytes) ≡ true = made_allowed s moves (length moves) 0 who c bytes come.run there (record {
           leaf = sign.number;
           within = subst (λ (k : LmsPrivate). sign.number < 2 ^ height_of k.lms) (sym (ap (λ (o : Opening). o.key) reached.opening)) (leaf_is (s.private who) (scene.leaves who) sign.number sign.drawn);
           random = random;
@@ -144,7 +144,7 @@ submit_acts script who moves scene come =
           answer = sym (ap (submission c random) sign.drawn) ∙ is;
         }) in
         record {
-          run = (subst (λ (o : Option PlainClient). IsSomeAnd o (λ c. allows c (Submit 0 bytes) ≡ true)) (sym at) may, tt);
+          run = (subst (λ (o : Option PlainClient). IsSomeAnd o (λ c. can_log c (Submit 0 bytes) ≡ true)) (sym at) may, tt);
           typed = (is_bytes bytes all, tt);
           bytes = (tt, tt);
           entries = (all, tt);
@@ -152,7 +152,7 @@ submit_acts script who moves scene come =
 
     dropped : (c : PlainClient) → scene.world.clients who ≡ Some c → (fault : ChangeFault) → submission_in (setup_of script) scene who c ≡ Ok (submitted.Dropped fault) → MayAct (setup_of script) scene (submits who (Ok (submitted.Dropped fault)))
     dropped c at fault is = record {
-      run = (subst (λ (o : Option PlainClient). IsSomeAnd o (λ c. allows c (Dropped 0 fault) ≡ true)) (sym at) (drop_may c fault (drop_due c _ _ fault is)), tt);
+      run = (subst (λ (o : Option PlainClient). IsSomeAnd o (λ c. can_log c (Dropped 0 fault) ≡ true)) (sym at) (drop_may c fault (drop_due c _ _ fault is)), tt);
       typed = (tt, tt);
       bytes = (tt, tt);
       entries = tt;

@@ -241,7 +241,7 @@ module _ {D : Type 0} (disk_told : D → DiskTold) where
       asks : {b : Bool} → is_signing (due (state_of old)) ≡ b → asks_draw old ≡ b
       asks is = ap (λ (t : Option ℕ). is_none t && is_signing (due (state_of old))) ready.no_ticket ∙ is
 
--- ---- the same, once the answer was told
+-- ---- a submission, once its answer was told
 
 pub told_line : {X F : Type 0} (r : Result X F) (out new : List ℕ) (who : Device) (next last : ℕ) (result answer : Result Submitted SubmitFault)
     → OnOk r (new ≡ out ++ submit_line who next last result) → OnOk r (answer ≡ result) → OnOk r (new ≡ out ++ submit_line who next last answer)

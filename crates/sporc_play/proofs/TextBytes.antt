@@ -11,7 +11,7 @@ use Rattle.sporc_delta.specs.Format.{delta_bytes, part_bytes, parts_bytes}
 use Rattle.sporc_delta.specs.Marks.{Mark}
 use Rattle.sporc_delta.specs.Parts.{marks_of, part_marks, runs}
 use Rattle.sporc_delta.proofs.Runs.{marks_of-runs}
-use Rattle.sporc_delta.proofs.Typing.{inserted, inserted-append, inserted-inserts, scalars_append}
+use Rattle.sporc_delta.proofs.Typing.{inserted, inserted-append, inserted-insert_marks, scalars_append}
 use Rattle.sporc_play.proofs.ByteFacts.{AreBytes, bytes_64, bytes_append}
 
 char_are : (c : ℕ) → c < 1114112 → AreBytes (encode_utf8 c)
@@ -45,7 +45,7 @@ part_are (Remove n) is = (omega arith, bytes_64 n)
 part_are (Insert text) is = (
   omega arith,
   bytes_append (to_be_bytes w64 (length (encode_utf8_all text))) (encode_utf8_all text) (bytes_64 (length (encode_utf8_all text)))
-      (text_are text (ap all_scalars (sym (inserted-inserts text)) ∙ is)),
+      (text_are text (ap all_scalars (sym (inserted-insert_marks text)) ∙ is)),
 )
 
 parts_are : (ps : List Part) → all_scalars (inserted (marks_of ps)) ≡ true → AreBytes (parts_bytes ps)

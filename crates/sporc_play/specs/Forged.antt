@@ -25,7 +25,7 @@ use Rattle.sporc_epoch.specs.Keys.{Keys}
 use Rattle.sporc_epoch.specs.Sealing.{Sealing, body_sealed}
 use Rattle.sporc_epoch.specs.Streams.{stream_of}
 use Rattle.sporc_head.specs.History.{count_of, epoch_of, hash_of, roster_of}
-use Rattle.sporc_line.specs.Keys.{key_of}
+use Rattle.sporc_line.specs.Keys.{epoch_key}
 use Rattle.sporc_client.specs.PlainClient.{PlainClient, committed_of}
 use Rattle.sporc_client.specs.Run.{Setup}
 use Rattle.sporc_script.specs.declared.sign.Forgery.{Forgery}
@@ -94,7 +94,7 @@ forged_header c f leaf =
 
 -- the key of the history's epoch, or zeros if it removes the client's member
 abbrev pub key_there : PlainClient → List ℕ
-key_there c = unwrap_or (key_of c.opening.genesis c.opening.kit c.entries (epoch_of c.entries)) (replicate 32 0)
+key_there c = unwrap_or (epoch_key c.opening.genesis c.opening.kit c.entries (epoch_of c.entries)) (replicate 32 0)
 
 -- the members after a change, or those before it if they refuse it
 abbrev pub unless_refused : Option ChangeFault → Roster → Roster → Roster

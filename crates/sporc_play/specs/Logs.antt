@@ -36,7 +36,7 @@ accepted_event bytes room refusal = []
 abbrev pub given_events : PlainClient → ℕ → List ℕ → List Logged
 given_events c position bytes = accepted_event bytes (journal_has_room c) (refusal_of c position bytes)
 
--- the same of an entry, if there is one
+-- what an entry that is handed to a client adds to its log, if there is one
 abbrev pub given_by : ℕ → Option (List ℕ) → PlainClient → List Logged
 given_by position None c = []
 given_by position (Some bytes) c = given_events c position bytes

@@ -86,7 +86,7 @@ pub record IsSubmitted {D : Type 0} (old : ClientModel D) (answer : Result Submi
   pub log : new.log ≡ old.log ++ submission_added 0 answer
   pub ready : IsReady old.opening.key (old.leaves.next + length (entries_in answer)) new
 
--- the same of the client of a seat, if there is one: it made this entry, if it made any
+-- the client of a seat after a submission, if there is one: it made this entry, if it made any
 abbrev pub ClientSubmitted : {D : Type 0} → Seat → Option (ClientModel D) → Option (List ℕ) → Option (ClientModel D) → Type 0
 ClientSubmitted seat None made new = (new ≡ None) × (made ≡ None)
 ClientSubmitted {D = D} seat (Some c) made new =

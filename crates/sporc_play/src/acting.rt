@@ -118,8 +118,8 @@ fn edit_by(
 
 // The delta of an edit of a text of this length; none, if the edit lies outside it.
 fn delta_of(alloc: Global, edit: &TextEdit, len: u64) -> Result<Option<Delta>, Memory>
-    requires small { len ≤ MAX_COUNT }
-    requires short { edit_size edit.now ≤ MAX_COUNT }
+    requires limit { len ≤ MAX_COUNT }
+    requires edit_limit { edit_size edit.now ≤ MAX_COUNT }
     ensures { IfOk result (λ found. found ≡ marks_of edit.now len) }
 {
     match edit {
@@ -201,8 +201,8 @@ pub fn discard(seat: &mut Seat, device: Device, out: &mut String) -> Result<(), 
 
 /// Submits the first pending item of a client. The entry that is made gets the number `next`.
 pub fn submit(seat: &mut Seat, next: u64, out: &mut String) -> Result<Option<Vec<u8>>, Memory>
-    requires asked { seat.old.asked + 1 < 2 ^ 24 }
-    requires ready { IfSome seat.old.client (λ c. IsReady c.opening.key c.leaves.next c) }
+    requires limit { seat.old.asked + 1 < 2 ^ 24 }
+    requires client { IfSome seat.old.client (λ c. IsReady c.opening.key c.leaves.next c) }
     ensures line { OnOk result (string_bytes out.new ≡ string_bytes out.old ++ submission_line next seat.old seat.old.client) }
     ensures seat { IfOk result (λ made. HasSubmitted next seat.old (option_map (λ v. v.items) made) seat.new) }
 {
@@ -232,7 +232,7 @@ fn submit_client(
     last: u64,
     out: &mut String,
 ) -> Result<Option<Vec<u8>>, Memory>
-    requires ready { IsReady client.old.opening.key client.old.leaves.next client.old }
+    requires client { IsReady client.old.opening.key client.old.leaves.next client.old }
     ensures line { OnOk result (string_bytes out.new ≡ string_bytes out.old ++ submit_line device next last (submission (state_of client.old) random.now (leaf_next client.old))) }
     ensures made { IfOk result (λ made. option_to_list (option_map (λ v. v.items) made) ≡ entries_in (submission (state_of client.old) random.now (leaf_next client.old))) }
     ensures client { OnOk result (IsSubmitted client.old (submission (state_of client.old) random.now (leaf_next client.old)) client.new) }
@@ -401,7 +401,7 @@ fn push_ahead(out: &mut String, restart: &Restart, len: u32) -> Result<(), Memor
     writeln!(out, " restart {k} ahead {len}")
 }
 
-// The same for numbers that no history reaches.
+// Goes back to the first entries, also by a number that no history reaches.
 fn restart_to(client: &mut PlayClient, k: u64) -> Result<(), RestartFault>
     ensures fault { AnswersUnless RestartFault.Memory result (restart_fault (state_of client.old) k) }
     ensures ok { OnOk result (client.new ≡ record client.old { log = log_of_entries (take k (state_of client.old).entries) }) }

@@ -120,7 +120,7 @@ impl Cast {
     /// A change of the members. The key of a new one, and of a further device, is its own.
     pub fn member_change(&self, alloc: Global, change: &RosterChange) -> Result<Change, Memory>
         ensures value { IfOk result (λ asked. (s : Setup) → IsCastOf s self.now → asked ≡ member_change s change.now) }
-        ensures sized { IfOk result IsSmallChange }
+        ensures within { IfOk result IsSmallChange }
     {
         match change {
             RosterChange::Add(added) => {
@@ -218,7 +218,7 @@ fn ots_type_of(width: Width) -> OtsType
 fn blank_leaves(alloc: Global, height: u32) -> Result<Leaves<MemoryDisk>, Memory>
     requires { IsLeafHeight height }
     ensures next { IfOk result (λ leaves. leaves.next ≡ 0) }
-    ensures count { IfOk result (λ leaves. leaves.leaf_count ≡ 2 ^ height) }
+    ensures leaf_count { IfOk result (λ leaves. leaves.leaf_count ≡ 2 ^ height) }
     ensures works { IfOk result (λ leaves. leaves.faulty ≡ false) }
 {
     let bytes = blank(alloc, height)?;

@@ -69,7 +69,7 @@ pub fn document_number() -> [u8; 16]
 /// The random bytes of what a device signs or submits for the t-th time, from 1: 32 for the signature, and 32 for a new
 /// key.
 pub fn random_of(device: Device, t: u32) -> [u8; 64]
-    requires few { t < 2 ^ 24 }
+    requires limit { t < 2 ^ 24 }
     ensures value { result ≡ random_of device t }
 {
     let number = u32::from(device.number) * (1 << 24) + t;

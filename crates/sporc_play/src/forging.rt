@@ -49,8 +49,8 @@ pub fn forge(
     forgery: &Forgery,
     t: u32,
 ) -> Result<Option<Vec<u8>>, Memory>
-    requires few { t < 2 ^ 24 }
-    requires short { what_size forgery.now.signed.what ≤ MAX_SCRIPT }
+    requires limit { t < 2 ^ 24 }
+    requires size_limit { what_size forgery.now.signed.what ≤ MAX_SCRIPT }
     requires leaves { AreDrawn signer.old.key signer.old.leaves.next signer.old.leaves }
     ensures entry { IfOk result (λ made. (s : Setup) → signer.old.key ≡ s.private (first_device forgery.now.member) → IsCastOf s cast.now
         → option_map (λ v. v.items) made
@@ -79,8 +79,8 @@ fn sign_with(
     forgery: &Forgery,
     random: &[u8; 64],
 ) -> Result<Vec<u8>, Memory>
-    requires short { what_size forgery.now.signed.what ≤ MAX_SCRIPT }
-    requires can_sign { ticket < 2 ^ height_of signer.old.key.lms }
+    requires limit { what_size forgery.now.signed.what ≤ MAX_SCRIPT }
+    requires ticket_limit { ticket < 2 ^ height_of signer.old.key.lms }
     ensures entry { IfOk result (λ bytes. (s : Setup) → signer.old.key ≡ s.private (first_device forgery.now.member) → IsCastOf s cast.now
         → bytes.items ≡ signed_by s (state_of client.now) forgery.now random.now ticket) }
     ensures unchanged { signer.new ≡ signer.old }
@@ -117,7 +117,7 @@ fn unsigned_by(
     ensures entry { IfOk result (λ draft. (s : Setup) → IsCastOf s cast.now → draft.0 ≡ unsigned_by s (state_of client.now) forgery.now random.now leaf) }
     ensures message { IfOk result (λ draft. draft.1.items ≡ signed_string draft.0) }
     ensures version { IfOk result (λ draft. fits_version draft.0.header.version draft.0.header.device ≡ true) }
-    ensures short { IfOk result (λ draft. length draft.0.body < 2 ^ 32) }
+    ensures within { IfOk result (λ draft. length draft.0.body < 2 ^ 32) }
 {
     let header = forged_header(client, forgery, leaf);
     let new_key = second_half(random);
@@ -134,8 +134,8 @@ fn unsigned_by(
 // The bytes of an entry with this signature.
 fn with_signature(alloc: Global, mut entry: Entry, signature: Vec<u8>) -> Result<Vec<u8>, Memory>
     requires version { fits_version entry.header.version entry.header.device ≡ true }
-    requires body { length entry.body < 2 ^ 32 }
-    requires signature { length signature.items < 2 ^ 32 }
+    requires body_limit { length entry.body < 2 ^ 32 }
+    requires signature_limit { length signature.items < 2 ^ 32 }
     ensures { IfOk result (λ bytes. bytes.items ≡ entry_bytes (record entry { signature = signature.items })) }
 {
     entry.signature = Bytes::new(signature);
@@ -255,7 +255,7 @@ fn forged_body(
     requires { what_size forgery.now.signed.what ≤ MAX_SCRIPT }
     ensures value { IfOk result (λ body. (s : Setup) → IsCastOf s cast.now
         → body.items ≡ forged_body s (state_of client.now) forgery.now.signed.suffix header.now new_key.now forgery.now.signed.what) }
-    ensures short { IfOk result (λ body. length body.items < 2 ^ 32) }
+    ensures within { IfOk result (λ body. length body.items < 2 ^ 32) }
 {
     match &forgery.signed.what {
         What::Insert(insertion) => insertion_body(alloc, client, header, insertion),
@@ -307,7 +307,7 @@ fn insertion_body(
     requires { what_size (whats.Insert insertion.now) ≤ MAX_SCRIPT }
     ensures value { IfOk result (λ body. (s : Setup) (suffix : Option Suffix) (new : List ℕ)
         → body.items ≡ forged_body s (state_of client.now) suffix header.now new (whats.Insert insertion.now)) }
-    ensures short { IfOk result (λ body. length body.items < 2 ^ 32) }
+    ensures within { IfOk result (λ body. length body.items < 2 ^ 32) }
 {
     let len = client.committed_len();
     let at = insertion.at.min(len);
@@ -327,7 +327,7 @@ fn change_body(
 ) -> Result<Vec<u8>, Memory>
     requires { IsSmallChange change.now }
     ensures value { IfOk result (λ body. body.items ≡ change_body_bytes (spoiled suffix (forged_change (state_of client.now) header.now change.now new_key.now))) }
-    ensures short { IfOk result (λ body. length body.items < 2 ^ 32) }
+    ensures within { IfOk result (λ body. length body.items < 2 ^ 32) }
 {
     let body = sealed(alloc, client, header, change, &key_there(client), new_key)?;
     let body = spoiled(alloc, suffix, body)?;
@@ -373,7 +373,7 @@ fn sealed(
 // The members after a change, or those before it if they refuse it.
 fn sealed_for(alloc: Global, client: &PlayClient, change: &Change) -> Result<Vec<u16>, Memory>
     ensures value { IfOk result (λ members. members.items ≡ sealed_for (roster_of client.now.opening.genesis (state_of client.now).entries) change.now) }
-    ensures few { IfOk result (λ members. length members.items ≤ MAX_MEMBERS) }
+    ensures within { IfOk result (λ members. length members.items ≤ MAX_MEMBERS) }
 {
     let _events = client.journal();
     let _genesis = client.heads().genesis();
@@ -445,7 +445,7 @@ fn flipped_wraps(alloc: Global, wraps: &[Wrap], member: u16) -> Result<Wraps, Me
     Ok(Wraps::new(kept))
 }
 
-// The same wrap, or if it is this member's with a bit changed.
+// The wrap, with a bit changed if it is this member's.
 fn flipped_wrap(wrap: &Wrap, member: u16) -> Wrap
     ensures { result ≡ wrap_flipped member wrap.now }
 {

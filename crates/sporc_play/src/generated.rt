@@ -107,8 +107,8 @@ fn perform_batch(
     done: u32,
     authors: u32,
 ) -> Result<(), Memory>
-    requires authors { authors ≤ MEMBERS }
-    requires done { done ≤ MAX_GENERATED }
+    requires authors_limit { authors ≤ MEMBERS }
+    requires done_limit { done ≤ MAX_GENERATED }
     requires room { HasRoom 20 state.old }
     ensures { OnOk result (Performs state.old (batch done authors) state.new) }
 {
@@ -119,8 +119,8 @@ fn perform_batch(
 
 // All authors edit.
 fn edit_all(alloc: Global, state: &mut PlayState, batch: u32, authors: u32) -> Result<(), Memory>
-    requires authors { authors ≤ MEMBERS }
-    requires batch { batch ≤ MAX_GENERATED }
+    requires authors_limit { authors ≤ MEMBERS }
+    requires batch_limit { batch ≤ MAX_GENERATED }
     requires room { HasRoom 4 state.old }
     ensures { OnOk result (Performs state.old (map (edits batch) (up_to authors)) state.new) }
 {
@@ -133,7 +133,7 @@ fn edit_all(alloc: Global, state: &mut PlayState, batch: u32, authors: u32) -> R
 
 // All authors submit.
 fn submit_all(alloc: Global, state: &mut PlayState, authors: u32) -> Result<(), Memory>
-    requires authors { authors ≤ MEMBERS }
+    requires limit { authors ≤ MEMBERS }
     requires room { HasRoom 4 state.old }
     ensures { OnOk result (Performs state.old (map submits (up_to authors)) state.new) }
 {
@@ -145,8 +145,8 @@ fn submit_all(alloc: Global, state: &mut PlayState, authors: u32) -> Result<(), 
 
 // All members are given the entries behind so many.
 fn accept_all(alloc: Global, state: &mut PlayState, done: u32, authors: u32) -> Result<(), Memory>
-    requires authors { authors ≤ MEMBERS }
-    requires done { done ≤ MAX_GENERATED }
+    requires authors_limit { authors ≤ MEMBERS }
+    requires done_limit { done ≤ MAX_GENERATED }
     requires room { HasRoom 13 state.old }
     ensures { OnOk result (Performs state.old (flat_map (λ a. map (gives (done + a)) (up_to 3)) (up_to authors)) state.new) }
 {
@@ -184,7 +184,7 @@ fn perform(alloc: Global, state: &mut PlayState, command: Command) -> Result<(),
 // The edit of an author in a batch: a removal in each fifth batch, else an insertion of one letter.
 fn edit_of(alloc: Global, state: &PlayState, batch: u32, author: u16) -> Result<Command, Memory>
     requires author { IsAsked author }
-    requires batch { batch ≤ MAX_GENERATED }
+    requires limit { batch ≤ MAX_GENERATED }
     requires room { HasRoom 1 state.now }
     ensures { IfOk result (λ command. (scene : Scene) → StandsFor generated_cast scene state.now → command ≡ edits batch author scene) }
 {
@@ -218,9 +218,9 @@ fn removal(author: u16) -> TextEdit
 
 // The insertion of a letter into a text of `len` characters.
 fn insertion(alloc: Global, batch: u64, author: u64, len: u64) -> Result<TextEdit, Memory>
-    requires batch { batch ≤ MAX_GENERATED }
-    requires author { author ≤ MEMBERS }
-    requires len { len < 2 ^ 63 }
+    requires batch_limit { batch ≤ MAX_GENERATED }
+    requires author_limit { author ≤ MEMBERS }
+    requires len_limit { len < 2 ^ 63 }
     ensures { IfOk result (λ edit. edit ≡ inserts batch author len) }
 {
     let text = letter(alloc, ((3 * batch + author) % 26) as u8)?;
@@ -235,7 +235,7 @@ fn shown_len(state: &PlayState, member: u16) -> u64
     requires member { IsAsked member }
     requires room { HasRoom 1 state.now }
     ensures value { (scene : Scene) → StandsFor generated_cast scene state.now → result ≡ seen_len (scene.world.clients (first_device member)) }
-    ensures small { result < 2 ^ 63 }
+    ensures within { result < 2 ^ 63 }
 {
     match state.client(Device::first(member)) {
         Some(client) => len_of_shown(client),
@@ -246,7 +246,7 @@ fn shown_len(state: &PlayState, member: u16) -> u64
 // How many characters a client shows.
 fn len_of_shown(client: &PlayClient) -> u64
     ensures value { result ≡ length (shown_of (state_of client.now)) }
-    ensures small { result < 2 ^ 63 }
+    ensures within { result < 2 ^ 63 }
 {
     match client.shown_len_at(client.journal().len() as u64) {
         Some(len) => len,

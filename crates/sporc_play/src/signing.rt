@@ -30,9 +30,9 @@ pub fn sign(
     next: u64,
     out: &mut String,
 ) -> Result<Option<Vec<u8>>, Memory>
-    requires asked { rogue.old.asked + 1 < 2 ^ 24 }
+    requires limit { rogue.old.asked + 1 < 2 ^ 24 }
     requires leaves { AreDrawn rogue.old.signer.key rogue.old.signer.leaves.next rogue.old.signer.leaves }
-    requires short { what_size forgery.now.signed.what ≤ MAX_SCRIPT }
+    requires size_limit { what_size forgery.now.signed.what ≤ MAX_SCRIPT }
     ensures entry { IfOk result (λ made. (s : Setup) → rogue.old.signer.key ≡ s.private (first_device forgery.now.member) → IsCastOf s cast.now
         → option_map (λ v. v.items) made ≡ forged_by s forgery.now rogue.old (option_copied client.entry)) }
     ensures line { OnOk result ((s : Setup) → rogue.old.signer.key ≡ s.private (first_device forgery.now.member) → IsCastOf s cast.now

@@ -358,8 +358,8 @@ impl PlayState {
     }
 
     fn compare(&self, pair: &DevicePair, out: &mut String) -> Result<(), Memory>
-        requires first { Contains (seated self.now.seats.items) pair.now.first }
-        requires second { Contains (seated self.now.seats.items) pair.now.second }
+        requires first_seated { Contains (seated self.now.seats.items) pair.now.first }
+        requires second_seated { Contains (seated self.now.seats.items) pair.now.second }
         requires one_document { AreOfOneDocument self.now }
         ensures { OnOk result (AppendsLineOf self.now (Command.Compare pair.now) (string_bytes out.old) (string_bytes out.new)) }
     {

@@ -11,7 +11,7 @@ const MAX_TRIES: u32 = 1000;
 
 // Moves bytes into the first places of the buffer, and says how many.
 pub(crate) fn read_piece<R: Read>(reader: &mut R, buf: &mut [u8]) -> io::Result<usize>
-    ensures bound { IfOk result (λ n. n ≤ length buf.new) }
+    ensures within { IfOk result (λ n. n ≤ length buf.new) }
     ensures bytes { ReadConsumes (R.remaining reader.old) (R.remaining reader.new) result buf.new }
 {
     for _ in 0..MAX_TRIES {
@@ -25,8 +25,8 @@ pub(crate) fn read_piece<R: Read>(reader: &mut R, buf: &mut [u8]) -> io::Result<
 
 // Writes a prefix of the bytes, and says how many: at least one, if there are any.
 pub(crate) fn write_piece<W: Write>(writer: &mut W, bytes: &[u8]) -> io::Result<usize>
-    ensures bound { IfOk result (λ n. n ≤ length bytes.now) }
-    ensures some { IfOk result (λ n. 0 < length bytes.now → 0 < n) }
+    ensures within { IfOk result (λ n. n ≤ length bytes.now) }
+    ensures positive { IfOk result (λ n. 0 < length bytes.now → 0 < n) }
     ensures bytes { WriteAppends (W.contents writer.old) (W.contents writer.new) result bytes.now }
 {
     for _ in 0..MAX_TRIES {

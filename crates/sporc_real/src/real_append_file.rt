@@ -83,7 +83,7 @@ impl AppendFile for RealAppendFile {
     fn read_whole(&mut self, alloc: Global) -> Result<Vec<u8>, FileFault>
         ensures within { IfOk result (λ bytes. length bytes.items ≤ MAX_FILE) }
         ensures err { IfErr result (IsWholeFault None self.old.faults self.new.faults) }
-        ensures count { self.old.faults ≤ self.new.faults }
+        ensures kept { self.old.faults ≤ self.new.faults }
     {
         match read_all(&self.file, alloc) {
             Ok(Ok(bytes)) => Ok(bytes),

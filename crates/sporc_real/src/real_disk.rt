@@ -74,7 +74,7 @@ impl LeafDisk for RealDisk {
     }
 
     fn read(&mut self, at: u64, buf: &mut [u8]) -> Result<(), Failed>
-        ensures bounded { OnOk result (at + length buf.old ≤ self.old.len) }
+        ensures in_bounds { OnOk result (at + length buf.old ≤ self.old.len) }
         ensures len { self.new.len ≡ self.old.len }
         ensures count { CountsFaults self.old.faults self.new.faults result }
     {
@@ -86,7 +86,7 @@ impl LeafDisk for RealDisk {
     }
 
     fn write_at(&mut self, at: u64, bytes: &[u8]) -> Result<(), Failed>
-        ensures bounded { OnOk result (at + length bytes.now ≤ self.old.len) }
+        ensures in_bounds { OnOk result (at + length bytes.now ≤ self.old.len) }
         ensures len { self.new.len ≡ self.old.len }
         ensures count { CountsFaults self.old.faults self.new.faults result }
     {

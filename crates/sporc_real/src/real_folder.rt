@@ -110,7 +110,7 @@ fn open_appended<R: Files<File = File>>(rt: &R, name: &str) -> io::Result<Opened
     Ok(OpenedFile { file, len })
 }
 
-// The same file, as the folder hands it out.
+// The file that was opened, as the folder hands it out.
 fn appended<R: Files<File = File> + AllocGlobal>(
     rt: &R,
     faults: &mut u64,

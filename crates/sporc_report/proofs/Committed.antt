@@ -4,7 +4,7 @@ use Rattle.std.specs.List.{slice_get}
 use Rattle.std.specs.Result.{IsOk}
 use Rattle.std.proofs.lemmas.List.{drop_all, length-map}
 use Rattle.sporc_hash.proofs.Lists.{from_end}
-use Rattle.sporc_delta.specs.Marks.{Mark, apply, retains}
+use Rattle.sporc_delta.specs.Marks.{Mark, apply, keep_marks}
 use Rattle.sporc_entry.specs.declared.entry.Entry.{Entry}
 use Rattle.sporc_entry.specs.declared.change.ChangeBody.{ChangeBody}
 use Rattle.sporc_entry.specs.declared.genesis.Genesis.{Genesis}
@@ -86,7 +86,7 @@ is_read g kit A i b good at = let (e, is, passes) = good_entry g kit A i b good 
 
 -- ---- the text that they tell
 
-all_kept : (s : List ℕ) → apply (retains (length s)) s ≡ s
+all_kept : (s : List ℕ) → apply (keep_marks (length s)) s ≡ s
 all_kept [] = refl
 all_kept (c ∷ s) = ap (λ (t : List ℕ). c ∷ t) (all_kept s)
 

@@ -2,7 +2,7 @@
 use Rattle.std.proofs.Common.{◌≡◌, ℕ, [], ◌∷◌, codes, refl}
 use Rattle.std.specs.Fmt.{digits}
 use Rattle.hex.specs.Hex.{encode_with}
-use Rattle.sporc_delta.specs.Marks.{Delete, Insert, Retain}
+use Rattle.sporc_delta.specs.Marks.{Remove, Insert, Keep}
 use Rattle.sporc_hash.specs.declared.verdict.Verdict.TheVariants.{ForkedAfter, Prefix}
 use Rattle.sporc_member.specs.declared.change.Change.TheVariants as changes
 use Rattle.sporc_member.specs.declared.change.ChangeFault.TheVariants as change_faults
@@ -16,7 +16,7 @@ use Rattle.sporc_report.specs.JournalLines.{delta_text, event_text, journal_line
 -- ---- a journal
 
 -- two characters are kept, one is inserted, and one is removed
-an_edit : event_text (events.Edit 0 12 (Retain ∷ Retain ∷ Insert 34 ∷ Delete ∷ [])) ≡ codes "edit 0 12 k2 i\"\\\"\" r1"
+an_edit : event_text (events.Edit 0 12 (Keep ∷ Keep ∷ Insert 34 ∷ Remove ∷ [])) ≡ codes "edit 0 12 k2 i\"\\\"\" r1"
 unfolding digits
 an_edit = refl
 

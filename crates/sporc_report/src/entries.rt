@@ -33,8 +33,8 @@ pub fn push_entries(alloc: Global, out: &mut String, line: &Line, from: u32) -> 
 
 // Appends the line of the entry at a position: with the lines behind it, all is what it was with those from there on.
 fn push_at(alloc: Global, out: &mut String, line: &Line, position: u32) -> Result<(), Memory>
-    requires first { 1 ≤ position }
-    requires within { position ≤ length line.now.entries }
+    requires positive { 1 ≤ position }
+    requires in_bounds { position ≤ length line.now.entries }
     requires good { Good line.now.genesis line.now.kit line.now.entries }
     ensures ok { OnOk result (
         string_bytes out.new ++ lines_behind position (committed line.now.genesis line.now.kit line.now.entries)

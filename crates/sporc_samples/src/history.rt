@@ -57,7 +57,7 @@ impl History {
         self.header_of(Device::first(author), kind)
     }
 
-    /// The same by any device.
+    /// The header of the next entry of this kind by any device.
     pub fn header_of(&self, device: Device, kind: u8) -> Header {
         let before = self.signers.iter().filter(|d| d.is(device)).count();
         let before = u32::try_from(before).unwrap_or(u32::MAX);
@@ -86,7 +86,7 @@ impl History {
         self.edit_by(alloc, cast.member(author)?, delta)
     }
 
-    /// The same by the device that these keys are of.
+    /// Appends an edit by the device that these keys are of.
     pub fn edit_by(
         &mut self,
         alloc: Global,
@@ -112,7 +112,7 @@ impl History {
         self.change_by(alloc, cast.member(author)?, change, members)
     }
 
-    /// The same by the device that these keys are of.
+    /// Appends a change by the device that these keys are of.
     pub fn change_by(
         &mut self,
         alloc: Global,

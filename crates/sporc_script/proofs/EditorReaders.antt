@@ -19,7 +19,7 @@ use Rattle.sporc_script.specs.declared.editor_line.TheConstants.{KEY_BYTES}
 use Rattle.sporc_script.specs.declared.member_role.MemberRole.{MemberRole}
 use Rattle.sporc_script.specs.declared.text_edit.Insertion.{Insertion}
 use Rattle.sporc_script.specs.declared.text_edit.Removal.{Removal}
-use Rattle.sporc_script.specs.EditorLines.{EditorInRange, IsKey, SpellsEditor, editor_of, editor_spelling, editor_with, editor_word_name, editor_word_of, is_key, key_of, new_device_of, new_device_spelling, newcomer_of, newcomer_spelling}
+use Rattle.sporc_script.specs.EditorLines.{EditorInRange, IsKey, SpellsEditor, editor_of, editor_spelling, editor_with, editor_word_name, editor_word_of, is_key, key_of_word, new_device_of, new_device_spelling, newcomer_of, newcomer_spelling}
 use Rattle.sporc_script.specs.Edits.{insertion_of, removal_of}
 use Rattle.sporc_script.specs.Grammar.{editor_line}
 use Rattle.sporc_script.specs.Hex.{hex_of}
@@ -49,8 +49,8 @@ editor_word_exact = named_exact EditorWord editor_word_name (editor_words.Insert
 editor_word_words : (w : EditorWord) → IsWord (editor_word_name w)
 editor_word_words w = word_from_test (editor_word_name w) (elim w as (λ w. is_bare (editor_word_name w) ≡ true) [ editor_words.Insert ↦ refl | editor_words.Remove ↦ refl | editor_words.Add ↦ refl | editor_words.Drop ↦ refl | editor_words.Role ↦ refl | editor_words.Device ↦ refl | editor_words.DropDevice ↦ refl ])
 
-pub key_exact : IsExact (List ℕ) IsKey encode_lower key_of
-unfolding key_of
+pub key_exact : IsExact (List ℕ) IsKey encode_lower key_of_word
+unfolding key_of_word
 key_exact = range_exact (List ℕ) _ _ encode_lower _ (passing_exact (List ℕ) IsPayload encode_lower hex_of is_key hex_exact)
     (λ key h. (h.0.0, eqb-true (length key) KEY_BYTES h.1))
     (λ key h. ((h.0, omega (arith, h.1)), (Decides-eqb (length key) KEY_BYTES).1 h.1))
@@ -59,8 +59,8 @@ pub newcomer_exact : IsExact Founder (λ f. IsMember f.member × IsKey f.key) ne
 unfolding newcomer_of
 newcomer_exact = range_exact Founder _ _ newcomer_spelling _
     (map_exact (ℕ × (Role × List ℕ)) Founder _ _ _
-    (pair_exact ℕ (Role × List ℕ) _ _ decimal (λ p. role_name p.0 ++ 32 ∷ encode_lower p.1) member_of (pair_of role_of key_of) member_exact member_words
-    (pair_exact Role (List ℕ) _ _ role_name encode_lower role_of key_of role_exact role_words key_exact))
+    (pair_exact ℕ (Role × List ℕ) _ _ decimal (λ p. role_name p.0 ++ 32 ∷ encode_lower p.1) member_of (pair_of role_of key_of_word) member_exact member_words
+    (pair_exact Role (List ℕ) _ _ role_name encode_lower role_of key_of_word role_exact role_words key_exact))
     (λ p. record { member = p.0; role = p.1.0; key = p.1.1 }) (λ f. (f.member, (f.role, f.key))) (λ p. refl) (λ f. refl))
     (λ f h. (h.0, h.1.1)) (λ f h. (h.0, (tt, h.1)))
 
@@ -68,8 +68,8 @@ pub new_device_exact : IsExact LiveDevice (λ d. DeviceInRange d.device × IsKey
 unfolding new_device_of
 new_device_exact = range_exact LiveDevice _ _ new_device_spelling _
     (map_exact (ℕ × (ℕ × List ℕ)) LiveDevice _ _ _
-    (pair_exact ℕ (ℕ × List ℕ) _ _ decimal (λ p. decimal p.0 ++ 32 ∷ encode_lower p.1) member_of (pair_of device_number_of key_of) member_exact member_words
-    (pair_exact ℕ (List ℕ) _ _ decimal encode_lower device_number_of key_of device_number_exact device_number_words key_exact))
+    (pair_exact ℕ (ℕ × List ℕ) _ _ decimal (λ p. decimal p.0 ++ 32 ∷ encode_lower p.1) member_of (pair_of device_number_of key_of_word) member_exact member_words
+    (pair_exact ℕ (List ℕ) _ _ decimal encode_lower device_number_of key_of_word device_number_exact device_number_words key_exact))
     (λ p. record { device = record { member = p.0; number = p.1.0 }; key = p.1.1 }) (λ d. (d.device.member, (d.device.number, d.key))) (λ p. refl) (λ d. refl))
     (λ d h. ((h.0, h.1.0), h.1.1)) (λ d h. (h.0.0, (h.0.1, h.1)))
 

@@ -62,7 +62,7 @@ map_exact A B In spell read exact to from back forth = record {
   complete = λ b range. ap (option_map to) (exact.complete (from b) range) ∙ ap Some (forth b);
 }
 
--- the same values, in other words
+-- a reading that is exact over a range is exact over an equal one
 pub range_exact : (A : Type 0) (In In' : A → Type 0) (spell : A → List ℕ) (read : List ℕ → Option A) → IsExact A In spell read
     → ((a : A) → In a → In' a) → ((a : A) → In' a → In a) → IsExact A In' spell read
 range_exact A In In' spell read exact there back = record {

@@ -65,17 +65,17 @@ SpellsEditor bytes command = EditorInRange command × (bytes ≡ editor_spelling
 abbrev pub is_key : List ℕ → Bool
 is_key bytes = length bytes == KEY_BYTES
 
-unfoldable pub key_of : List ℕ → Option (List ℕ)
-key_of word = passing is_key (hex_of word)
+unfoldable pub key_of_word : List ℕ → Option (List ℕ)
+key_of_word word = passing is_key (hex_of word)
 
 unfoldable pub newcomer_of : List ℕ → Option Founder
 newcomer_of words =
-    option_map (λ p. record { member = p.0; role = p.1.0; key = p.1.1 }) (pair_of member_of (pair_of role_of key_of) words)
+    option_map (λ p. record { member = p.0; role = p.1.0; key = p.1.1 }) (pair_of member_of (pair_of role_of key_of_word) words)
 
 unfoldable pub new_device_of : List ℕ → Option LiveDevice
 new_device_of words =
     option_map (λ p. record { device = record { member = p.0; number = p.1.0 }; key = p.1.1 })
-    (pair_of member_of (pair_of device_number_of key_of) words)
+    (pair_of member_of (pair_of device_number_of key_of_word) words)
 
 unfoldable pub editor_word_of : List ℕ → Option EditorWord
 editor_word_of word =

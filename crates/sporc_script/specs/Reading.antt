@@ -24,7 +24,7 @@ abbrev pub declared_with : Declared → Option PlayLine → Declared
 declared_with declared None = declared
 declared_with declared (Some l) = declared_after declared l.command
 
--- the same of a line of an editor script
+-- what is read of a line of an editor script
 abbrev pub ReadsEditorLine : ℕ → List ℕ → Option EditorLine → Type 0
 ReadsEditorLine n line None = IsSkipped line
 ReadsEditorLine n line (Some l) = (l.number ≡ n) × SpellsEditor line l.command

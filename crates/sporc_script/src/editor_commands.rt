@@ -1,7 +1,7 @@
 //! One line of an editor script, read.
 
 ghost use Rattle.std.specs.Prelude.{◌≡◌, IfOk};
-ghost use Rattle.sporc_script.specs.EditorLines.{editor_of, editor_with, key_of, new_device_of, newcomer_of};
+ghost use Rattle.sporc_script.specs.EditorLines.{editor_of, editor_with, key_of_word, new_device_of, newcomer_of};
 
 use crate::editor_line::{EditorCommand, EditorWord, KEY_BYTES};
 use crate::edits::{read_insertion, read_removal};
@@ -97,9 +97,9 @@ fn read_new_device(alloc: Global, words: &[u8]) -> Result<Option<LiveDevice>, Me
     Ok(Some(LiveDevice { device, key }))
 }
 
-#[tactic(auto, unfolding(crate::specs::EditorLines::key_of))]
+#[tactic(auto, unfolding(crate::specs::EditorLines::key_of_word))]
 fn parse_key(alloc: Global, word: &[u8]) -> Result<Option<[u8; 56]>, Memory>
-    ensures { IfOk result (λ found. found ≡ key_of word.now) }
+    ensures { IfOk result (λ found. found ≡ key_of_word word.now) }
 {
     let Some(bytes) = parse_hex(alloc, word)? else {
         return Ok(None);

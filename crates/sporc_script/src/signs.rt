@@ -76,7 +76,7 @@ fn read_signed(alloc: Global, words: &[u8]) -> Result<Option<Signed>, Memory>
     Ok(None)
 }
 
-// The same, whether or not the suffix may follow.
+// What is signed and what is wrong about it, whether or not the suffix may follow.
 #[tactic(auto, unfolding(crate::specs::Signs::stated_of))]
 fn read_stated(alloc: Global, words: &[u8]) -> Result<Option<Signed>, Memory>
     ensures { IfOk result (λ found. found ≡ stated_of words.now) }

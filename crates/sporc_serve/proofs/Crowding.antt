@@ -16,9 +16,9 @@ use Rattle.sporc_serve.specs.declared.fault.ServeFault.{ServeFault}
 use Rattle.sporc_serve.specs.declared.fault.ServeFault.TheVariants as faults
 use Rattle.sporc_serve.specs.declared.item.Item.{Item}
 use Rattle.sporc_serve.specs.Logs.{by_of, IsLogOf, OfDocument}
-use Rattle.sporc_serve.specs.Courses.{ServerStand, stand_at, IsEnd}
+use Rattle.sporc_serve.specs.Traces.{ServerStand, stand_at, IsEnd}
 use Rattle.sporc_serve.specs.Turns.{HasReadLast}
-use Rattle.sporc_serve.specs.Visits.{Visit, visit, IsServedSession, came, went, AreFrom, AreBehind, NoneUnkept, TellsOf, with_end}
+use Rattle.sporc_serve.specs.Visits.{Visit, visit, IsServedSession, came, handed_back, AreFrom, AreBehind, NoneUnkept, TellsOf, with_end}
 use Rattle.sporc_serve.specs.Crowds.{IsCrowd}
 use Rattle.sporc_serve.proofs.Going.{rose_before}
 
@@ -174,8 +174,8 @@ module _ (g : Genesis) where
           came_open = (is_open, c.came_open);
           coming = from_more old.coming mid.coming new.coming b (came vs) took
               (subst (λ (x : Option (List StreamTold)). AreFrom mid.coming x (came vs)) (sym coming) c.coming);
-          returned = behind_more old.returned low.returned new.returned a (went vs)
-              (subst (λ (x : Option (List StreamTold)). AreBehind x low.returned (went vs)) back c.returned) returned;
+          returned = behind_more old.returned low.returned new.returned a (handed_back vs)
+              (subst (λ (x : Option (List StreamTold)). AreBehind x low.returned (handed_back vs)) back c.returned) returned;
           result_is = subst (λ (z : ℕ × ℕ). TellsOf z.0 old.faults z.1 (record { before = b; after = a; end = end } ∷ vs) (with_end result end))
               (λ i. (sym size i, sym count i))
               (tells_more n old.faults mid.faults low.faults b a end vs result le c.result_is (last_ticket g (stand_at (copied k) b (stream_of []) false)

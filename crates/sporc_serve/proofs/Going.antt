@@ -18,8 +18,8 @@ use Rattle.sporc_serve.specs.declared.item.Item.{Item}
 use Rattle.sporc_serve.specs.Sending.{bytes_of, sent_of}
 use Rattle.sporc_serve.specs.Turns.{IsAnswered, TakesTurn}
 use Rattle.sporc_serve.specs.Endings.{IsSendEnd, Inlet, inlet, IsNextEnd, IsNext}
-use Rattle.sporc_serve.specs.Courses.{Exchange, ServerStand, answers_of, NoneCloses, Did, ServerCourse, Broken, IsEnd, GoesOn}
-use Rattle.sporc_serve.proofs.Coursing.{did_more, answer_more, course_fed, course_unanswered, sent_of-append, none_closes_more}
+use Rattle.sporc_serve.specs.Traces.{Exchange, ServerStand, answers_of, NoneCloses, Did, ServerTrace, Broken, IsEnd, GoesOn}
+use Rattle.sporc_serve.proofs.Tracing.{did_more, answer_more, trace_fed, trace_unanswered, sent_of-append, none_closes_more}
 
 -- a stream that waits for more stays as it is
 pub next_waits : {M : Type 0} (read : List ℕ → Result M ℕ) (s : Unread) → (next read s).answer ≡ Ok None → (next read s).after ≡ s
@@ -41,17 +41,17 @@ next_waits {M = M} read s waits = by_fault s.fault waits
 
 -- a link that was given nothing
 written_as : (g : Genesis) (a b : ServerStand) (bytes : List ℕ) (xs : List Exchange) (written : Option (List ℕ)) → written ≡ b.written
-    → ServerCourse g a b bytes xs → ServerCourse g a (record b { written = written }) bytes xs
-written_as g a b bytes xs written same c = subst (λ (w : Option (List ℕ)). ServerCourse g a (record b { written = w }) bytes xs) (sym same) c
+    → ServerTrace g a b bytes xs → ServerTrace g a (record b { written = written }) bytes xs
+written_as g a b bytes xs written same c = subst (λ (w : Option (List ℕ)). ServerTrace g a (record b { written = w }) bytes xs) (sym same) c
 
 pub rose_before : (x y z : ℕ) → x ≤ y → Rose y z → Rose x z
 rose_before x y z le rose = omega (arith, le, rose)
 
-module _ (g : Genesis) (a b : ServerStand) (bytes : List ℕ) (xs : List Exchange) (c : ServerCourse g a b bytes xs) where
+module _ (g : Genesis) (a b : ServerStand) (bytes : List ℕ) (xs : List Exchange) (c : ServerTrace g a b bytes xs) where
   -- nothing was taken
-  course_kept : (left : Option (List ℕ)) (faults : ℕ) → Consumes b.left left [] → b.faults ≤ faults
-      → ServerCourse g a (record b { left = left; faults = faults }) bytes xs
-  course_kept left faults taken more = record {
+  trace_kept : (left : Option (List ℕ)) (faults : ℕ) → Consumes b.left left [] → b.faults ≤ faults
+      → ServerTrace g a (record b { left = left; faults = faults }) bytes xs
+  trace_kept left faults taken more = record {
     did = record {
       taken = subst (λ (t : List ℕ). Consumes a.left left t) (append-nil bytes) (Consumes-trans a.left b.left left bytes [] c.did.taken taken);
       reads = c.did.reads;
@@ -67,29 +67,29 @@ module _ (g : Genesis) (a b : ServerStand) (bytes : List ℕ) (xs : List Exchang
   }
 
   pub kept : (left : Option (List ℕ)) (faults : ℕ) (written : Option (List ℕ)) → Consumes b.left left [] → b.faults ≤ faults → written ≡ b.written
-      → ServerCourse g a (record b { left = left; written = written; faults = faults }) bytes xs
+      → ServerTrace g a (record b { left = left; written = written; faults = faults }) bytes xs
   kept left faults written taken more same =
-      written_as g a (record b { left = left; faults = faults }) bytes xs written same (course_kept left faults taken more)
+      written_as g a (record b { left = left; faults = faults }) bytes xs written same (trace_kept left faults taken more)
 
   -- a piece more was taken
   pub goes_fed : (d : Inlet) (written : Option (List ℕ)) → IsNext (inlet b.left b.faults b.unread) d (Ok None) → written ≡ b.written → b.faults ≤ d.faults
       → GoesOn g a (record b { left = d.left; written = written; faults = d.faults; unread = d.unread }) None
   goes_fed d written h same more =
-      let went = course_fed g a b bytes h.0 xs d.left d.faults d.unread c h.1.taken more h.1.unread in
+      let went = trace_fed g a b bytes h.0 xs d.left d.faults d.unread c h.1.taken more h.1.unread in
       (bytes ++ h.0, xs, written_as g a (record b { left = d.left; faults = d.faults; unread = d.unread }) (bytes ++ h.0) xs written same went)
 
   -- no message is to follow
   pub goes_no_further : (d : Inlet) (written : Option (List ℕ)) (end : SessionEnd) → IsNextEnd (inlet b.left b.faults b.unread) d end → written ≡ b.written
       → b.faults ≤ d.faults → IsEnd g a (record b { left = d.left; written = written; faults = d.faults; unread = d.unread }) end
   goes_no_further d written LinkEnded h same more =
-      (b.unread, b.greeted, (bytes, xs, record { course = kept d.left d.faults written h.0 more same; none_left = h.2 }, h.1))
+      (b.unread, b.greeted, (bytes, xs, record { trace = kept d.left d.faults written h.0 more same; none_left = h.2 }, h.1))
   goes_no_further d written LinkFault h same more = (
     b.unread,
     b.greeted,
     (
       bytes,
       xs,
-      inl (record { course = kept d.left d.faults written h.0 more same; none_left = h.2 }),
+      inl (record { trace = kept d.left d.faults written h.0 more same; none_left = h.2 }),
       rose_before a.faults b.faults d.faults c.did.faults h.1,
     ),
   )
@@ -103,7 +103,7 @@ module _ (g : Genesis) (a b : ServerStand) (bytes : List ℕ) (xs : List Exchang
           bytes ++ h.0,
           xs,
           inl (written_as g a (record b { left = d.left; faults = d.faults; unread = unread }) (bytes ++ h.0) xs written same
-              (course_fed g a b bytes h.0 xs d.left d.faults unread c h.1 more refl)),
+              (trace_fed g a b bytes h.0 xs d.left d.faults unread c h.1 more refl)),
         ),
       )
   goes_no_further d written Closed h same more = absurd h
@@ -114,11 +114,11 @@ module _ (g : Genesis) (a b : ServerStand) (bytes : List ℕ) (xs : List Exchang
   pub goes_unanswered : (m : ToServer) (known : Known Item) (s : Bool) (end : SessionEnd) (unread : Unread)
       → TakesTurn g b.known known b.greeted s m (Err end) → IsEnd g a (record b { known = known; unread = unread; greeted = s }) end
   goes_unanswered m known s (Worn ticket) unread h =
-      (b.unread, b.greeted, (bytes, xs, course_unanswered g a b bytes xs known s h.0 c h.1, h.2))
+      (b.unread, b.greeted, (bytes, xs, trace_unanswered g a b bytes xs known s h.0 c h.1, h.2))
   goes_unanswered m known s Memory unread h =
-      (b.unread, b.greeted, (bytes, xs, inl (course_unanswered g a b bytes xs known s h.0 c h.1)))
+      (b.unread, b.greeted, (bytes, xs, inl (trace_unanswered g a b bytes xs known s h.0 c h.1)))
   goes_unanswered m known s Unkept unread h =
-      (b.unread, b.greeted, (bytes, xs, course_unanswered g a b bytes xs known s h.0 c h.1))
+      (b.unread, b.greeted, (bytes, xs, trace_unanswered g a b bytes xs known s h.0 c h.1))
   goes_unanswered m known s Closed unread h = absurd h.2
   goes_unanswered m known s LinkEnded unread h = absurd h.2
   goes_unanswered m known s LinkFault unread h = absurd h.2
@@ -140,7 +140,7 @@ module _ (g : Genesis) (a b : ServerStand) (bytes : List ℕ) (xs : List Exchang
     answers = answer_more g b xs m known greeted answer found c.did.greeted h
 
     -- the answer was sent
-    answered : answer ≢ Close → Appends b.written written (bytes_of answer) → ServerCourse g a b' bytes (xs ++ x ∷ [])
+    answered : answer ≢ Close → Appends b.written written (bytes_of answer) → ServerTrace g a b' bytes (xs ++ x ∷ [])
     answered no_close sent = record {
       did = did;
       none_closes = subst NoneCloses (sym answers) (none_closes_more (answers_of g false xs) answer c.none_closes no_close);

@@ -1,6 +1,6 @@
 pub mod Logs
 pub mod Turning
-pub mod Coursing
+pub mod Tracing
 pub mod Looking
 pub mod Going
 pub mod Framed

@@ -10,7 +10,7 @@ use Rattle.sporc_serve.specs.declared.item.Item.{Item}
 use Rattle.sporc_serve.specs.Logs.{order_at, placed_by, added_of, IsLogOf, OfDocument}
 use Rattle.sporc_serve.specs.Turns.{SeesAndAdds, Looks, TakesTurn}
 use Rattle.sporc_serve.proofs.Turning.{starts_log}
-use Rattle.sporc_serve.proofs.Coursing.{starts_then}
+use Rattle.sporc_serve.proofs.Tracing.{starts_then}
 
 module _ (g : Genesis) (k k' k'' : Known Item) {A : Type 0} (look : Result A SessionEnd) (looks : Looks k k' look) where
   later_seen : StartsWith k'.seen k.seen

@@ -17,12 +17,12 @@ use Rattle.sporc_serve.specs.declared.item.Item.{Item}
 use Rattle.sporc_serve.specs.Logs.{by_of, order_at, placed, IsLogOf, OfDocument}
 use Rattle.sporc_serve.specs.declared.fault.ServeFault.{ServeFault}
 use Rattle.sporc_serve.specs.declared.fault.ServeFault.TheVariants as faults'
-use Rattle.sporc_serve.specs.Visits.{Visit, Visits, came, went, AreFrom, AreBehind, TellsOf}
+use Rattle.sporc_serve.specs.Visits.{Visit, Visits, came, handed_back, AreFrom, AreBehind, TellsOf}
 use Rattle.sporc_serve.specs.Crowds.{IsCrowd}
 use Rattle.sporc_serve.specs.Served.{log_at_first, Attended, Served, IsServed}
 use Rattle.sporc_serve.proofs.Logs.{order_is}
 use Rattle.sporc_serve.proofs.Turning.{starts_log}
-use Rattle.sporc_serve.proofs.Coursing.{starts_then, starts_same}
+use Rattle.sporc_serve.proofs.Tracing.{starts_then, starts_same}
 use Rattle.sporc_serve.proofs.Going.{rose_before}
 use Rattle.sporc_serve.proofs.Crowding.{from_none, behind_none}
 
@@ -194,7 +194,7 @@ module _ (o : OrderModel) where
             served = served o after k vs k.seen c.visits_are refl agrees (closes o.genesis of_it);
             came_open = c.came_open;
             coming = subst (λ (x : Option (List StreamTold)). AreFrom x new.coming (came vs)) coming c.coming;
-            returned = subst (λ (x : Option (List StreamTold)). AreBehind x new.returned (went vs)) returned c.returned;
+            returned = subst (λ (x : Option (List StreamTold)). AreBehind x new.returned (handed_back vs)) returned c.returned;
             result_is = tells_before n old.faults mid.faults new.faults vs result le c.result_is;
             kept = c.kept;
             worn = λ ticket w. (let t = worn (c.worn ticket w) in (t.0, ap (λ (x : Known Item). x.seen) (sym t.1), t.2));

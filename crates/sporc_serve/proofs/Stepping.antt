@@ -25,10 +25,10 @@ use Rattle.sporc_serve.specs.Logs.{IsLogOf, OfDocument}
 use Rattle.sporc_serve.specs.Sending.{bytes_of, CanBeSent}
 use Rattle.sporc_serve.specs.Turns.{HasReadLast, TakesTurn, end_of}
 use Rattle.sporc_serve.specs.Endings.{IsSendEnd, Inlet, inlet, TakesMessage, IsNextEnd, IsNext}
-use Rattle.sporc_serve.specs.Courses.{ServerStand, stand, stand_at, GoesOn, Carries, Leads}
+use Rattle.sporc_serve.specs.Traces.{ServerStand, stand, stand_at, GoesOn, Carries, Leads}
 use Rattle.sporc_serve.specs.Visits.{visit, IsServedSession}
 use Rattle.sporc_serve.proofs.Turning.{starts_log}
-use Rattle.sporc_serve.proofs.Coursing.{grows_starts, course_begins}
+use Rattle.sporc_serve.proofs.Tracing.{grows_starts, trace_begins}
 use Rattle.sporc_serve.proofs.Framed.{next_framed}
 use Rattle.sporc_serve.proofs.Going.{next_waits, kept, goes_fed, goes_no_further, goes_unanswered, sent_goes}
 
@@ -150,7 +150,7 @@ pub begun : (g : Genesis) (known : Known Item) (left written : Option (List ℕ)
 begun g known left written faults unread s empty fresh =
     subst (λ (u : Unread). GoesOn g (stand known left written faults (stream_of []) false) (stand known left written faults u s) None) (sym empty)
     (subst (λ (b : Bool). GoesOn g (stand known left written faults (stream_of []) false) (stand known left written faults (stream_of []) b) None) (sym fresh)
-    ([], [], course_begins g known left written faults))
+    ([], [], trace_begins g known left written faults))
 
 -- after some steps one step more
 pub carried : (g : Genesis) (a b b' : ServerStand) (e : Option SessionEnd) → IsLogOf g a.known.seen → GoesOn g a b None → Carries b b' e → GoesOn g a b' e

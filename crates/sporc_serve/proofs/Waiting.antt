@@ -11,8 +11,8 @@ use Rattle.sporc_wire.proofs.Readings.{HandsOut-fed}
 use Rattle.sporc_serve.specs.declared.end.SessionEnd.{SessionEnd}
 use Rattle.sporc_serve.specs.declared.item.Item.{Item}
 use Rattle.sporc_serve.specs.Endings.{Inlet, inlet, IsNext, Waits, IsFirst}
-use Rattle.sporc_serve.specs.Courses.{stand, ServerCourse}
-use Rattle.sporc_serve.proofs.Coursing.{starts_same}
+use Rattle.sporc_serve.specs.Traces.{stand, ServerTrace}
+use Rattle.sporc_serve.proofs.Tracing.{starts_same}
 
 -- nothing was taken yet
 pub waits_none : (left : Option (List ℕ)) (faults : ℕ) (unread : Unread) → unread ≡ stream_of [] → Waits (inlet left faults unread) (inlet left faults unread) []
@@ -45,9 +45,9 @@ module _ (a b c : Inlet) (bytes : List ℕ) (r : Result (Option ToServer) Sessio
   first_ends end is = (b, bytes, waits, more, subst (λ (x : Result (Option ToServer) SessionEnd). IsNext b c x) is found)
 
 -- a session that waited for its first message
-pub course_waits : (g : Genesis) (known : Known Item) (written : Option (List ℕ)) (a b : Inlet) (bytes : List ℕ) → Waits a b bytes
-    → ServerCourse g (stand known a.left written a.faults (stream_of []) false) (stand known b.left written b.faults b.unread false) bytes []
-course_waits g known written a b bytes waits = record {
+pub trace_waits : (g : Genesis) (known : Known Item) (written : Option (List ℕ)) (a b : Inlet) (bytes : List ℕ) → Waits a b bytes
+    → ServerTrace g (stand known a.left written a.faults (stream_of []) false) (stand known b.left written b.faults b.unread false) bytes []
+trace_waits g known written a b bytes waits = record {
   did = record {
     taken = waits.taken;
     reads = waits.reads;

@@ -12,7 +12,7 @@ use Rattle.sporc_serve.specs.declared.desk.Desk.{Desk}
 use Rattle.sporc_serve.specs.declared.fault.ServeFault.{ServeFault}
 use Rattle.sporc_serve.specs.declared.fault.ServeFault.TheVariants.{Unkept}
 use Rattle.sporc_serve.specs.declared.item.Item.{Item}
-use Rattle.sporc_serve.specs.Visits.{Visit, Visits, CameOpen, came, went, AreFrom, AreBehind, SomeWorn, NoneUnkept, TellsOf}
+use Rattle.sporc_serve.specs.Visits.{Visit, Visits, CameOpen, came, handed_back, AreFrom, AreBehind, SomeWorn, NoneUnkept, TellsOf}
 
 -- the sessions that were served, of so many, where the pass that comes back has read this as the next ticket
 pub record Crowd (genesis : Genesis)
@@ -20,7 +20,7 @@ pub record Crowd (genesis : Genesis)
   pub visits_are : Visits genesis before after visits
   pub came_open : CameOpen visits
   pub coming : AreFrom old.coming new.coming (came visits)
-  pub returned : AreBehind old.returned new.returned (went visits)
+  pub returned : AreBehind old.returned new.returned (handed_back visits)
   pub result_is : TellsOf sessions old.faults new.faults visits result
   pub worn : (ticket : ℕ) → SomeWorn ticket visits → MAX_TICKETS ≤ read
   pub kept : result ≢ Err Unkept → NoneUnkept visits

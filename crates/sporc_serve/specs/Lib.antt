@@ -2,7 +2,7 @@ pub mod Logs
 pub mod Turns
 pub mod Sending
 pub mod Endings
-pub mod Courses
+pub mod Traces
 pub mod Visits
 pub mod Crowds
 pub mod Served

@@ -12,7 +12,7 @@ use Rattle.sporc_serve.specs.declared.item.Item.{Item}
 use Rattle.sporc_serve.specs.Logs.{by_of, log_of, order_at}
 use Rattle.sporc_serve.specs.declared.fault.ServeFault.{ServeFault}
 use Rattle.sporc_serve.specs.declared.fault.ServeFault.TheVariants.{Unkept}
-use Rattle.sporc_serve.specs.Visits.{Visit, IsServedSession, IsUnserved, CameOpen, came, went, AreFrom, AreBehind, SomeWorn, NoneUnkept, TellsOf}
+use Rattle.sporc_serve.specs.Visits.{Visit, IsServedSession, IsUnserved, CameOpen, came, handed_back, AreFrom, AreBehind, SomeWorn, NoneUnkept, TellsOf}
 
 -- the log of an order that is handed in
 abbrev pub log_at_first : OrderModel → List Item
@@ -58,7 +58,7 @@ pub record ServesAt (before after : OrderModel)
   pub served : Served before after visits log
   pub came_open : CameOpen visits
   pub coming : AreFrom old.coming new.coming (came visits)
-  pub returned : AreBehind old.returned new.returned (went visits)
+  pub returned : AreBehind old.returned new.returned (handed_back visits)
   pub result_is : TellsOf sessions old.faults new.faults visits result
   pub worn : (ticket : ℕ) → SomeWorn ticket visits → IsWornAt log
   pub kept : result ≢ Err Unkept → NoneUnkept visits

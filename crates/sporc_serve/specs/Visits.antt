@@ -15,7 +15,7 @@ use Rattle.sporc_serve.specs.declared.fault.ServeFault.{ServeFault}
 use Rattle.sporc_serve.specs.declared.fault.ServeFault.TheVariants as faults
 use Rattle.sporc_serve.specs.declared.item.Item.{Item}
 use Rattle.sporc_serve.specs.Logs.{by_of}
-use Rattle.sporc_serve.specs.Courses.{stand_at, IsEnd}
+use Rattle.sporc_serve.specs.Traces.{stand_at, IsEnd}
 
 -- a link as it came and as it was handed back, and how its session ended
 pub record Visit : Type 0 where
@@ -62,9 +62,9 @@ abbrev pub came : List Visit → List StreamTold
 came [] = []
 came (v ∷ vs) = v.before ∷ came vs
 
-abbrev pub went : List Visit → List StreamTold
-went [] = []
-went (v ∷ vs) = went vs ++ v.after ∷ []
+abbrev pub handed_back : List Visit → List StreamTold
+handed_back [] = []
+handed_back (v ∷ vs) = handed_back vs ++ v.after ∷ []
 
 -- told links came from the front of those that were to come
 abbrev pub AreFrom : Option (List StreamTold) → Option (List StreamTold) → List StreamTold → Type 0

@@ -91,7 +91,7 @@ where
     N::Link: Send,
     requires lock { IsPassOf turn.now first }
     requires first { (known_of first).number ≡ 0 }
-    requires room { (known_of first).splits + sessions < 2 ^ 32 }
+    requires limit { (known_of first).splits + sessions < 2 ^ 32 }
     ensures lock { IsPassOf turn.now result.1 }
     ensures first { (known_of result.1).number ≡ 0 }
     ensures crowd { OfDocument (known_of first).seen

@@ -53,7 +53,7 @@ impl<T: Tail> Kept for Desk<T> {
 impl<T: Tail> Desk<T> {
     // The order, whose entries have number 0.
     pub(crate) fn new(alloc: Global, order: Order, tail: T) -> Result<Desk<T>, (Order, T)>
-        requires kept { ∥ T.keeps tail order.entries ∥₁ }
+        requires tail { ∥ T.keeps tail order.entries ∥₁ }
         ensures order { IfOk result (λ desk. desk.order ≡ order) }
         ensures numbers { IfOk result (λ desk. desk.numbers.items ≡ replicate (length order.entries) 0) }
         ensures err { IfErr result (λ e. (e.0 ≡ order) × (e.1 ≡ tail)) }
@@ -112,7 +112,7 @@ impl<T: Tail> Desk<T> {
     pub(crate) fn into_parts(self) -> (Order, T)
         ensures order { result.0 ≡ self.order }
         ensures tail { result.1 ≡ self.tail }
-        ensures kept { ∥ T.keeps result.1 result.0.entries ∥₁ }
+        ensures keeps { ∥ T.keeps result.1 result.0.entries ∥₁ }
     {
         (self.order, self.tail)
     }

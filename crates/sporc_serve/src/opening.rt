@@ -20,11 +20,11 @@ pub fn open_kept<T: Tail>(
     order: Order,
     tail: T,
 ) -> Result<(Turn<Desk<T>>, Pass<Item>), (Order, T)>
-    requires kept { ∥ T.keeps tail order.entries ∥₁ }
+    requires tail { ∥ T.keeps tail order.entries ∥₁ }
     ensures lock { IfOk result (λ t. IsPassOf t.0 t.1) }
     ensures first { IfOk result (λ t. known_of t.1 ≡ first_known (log_at_first order)) }
     ensures returned { IfErr result (λ e. e.0 ≡ order) }
-    ensures still_kept { IfErr result (λ e. ∥ T.keeps e.1 e.0.entries ∥₁) }
+    ensures returned_tail { IfErr result (λ e. ∥ T.keeps e.1 e.0.entries ∥₁) }
 {
     let desk = match Desk::new(alloc, order, tail) {
         Ok(desk) => desk,
@@ -45,7 +45,7 @@ pub fn close_kept<T: Tail>(
     requires first { (known_of first).number ≡ 0 }
     ensures all { OnOk result (out_of first ≡ 0) }
     ensures order { IfOk result (λ both. (genesis : Genesis) → IsLogOf genesis (known_of first).seen → both.0 ≡ order_at genesis (known_of first).seen) }
-    ensures kept { IfOk result (λ both. ∥ T.keeps both.1 both.0.entries ∥₁) }
+    ensures tail { IfOk result (λ both. ∥ T.keeps both.1 both.0.entries ∥₁) }
     ensures agrees { OnOk result (Agrees by_of (known_of first) (known_of first).seen) }
     ensures away { IfErr result (λ e. (e.2.out ≡ out_of first) × (e.2.out ≢ 0)) }
 {

@@ -38,7 +38,7 @@ pub fn serve<R: Threads + Wait + Sync, N: Listen, G: Gate + Sync>(
 where
     N: Send,
     N::Link: Send,
-    requires some { 1 ≤ sessions }
+    requires positive { 1 ≤ sessions }
     requires limit { sessions ≤ MAX_SESSIONS }
     ensures served { IsServed order result.0 (N.told net.old) (N.told net.new) sessions result.1 }
     ensures asked { result.1 ≢ Err ServeFault.ListenFault → AppendsItem (N.told net.old).asked (N.told net.new).asked address.now }
@@ -67,7 +67,7 @@ pub fn serve_kept<R: Threads + Wait + Sync, N: Listen, G: Gate + Sync, T: Tail +
 where
     N: Send,
     N::Link: Send,
-    requires some { 1 ≤ sessions }
+    requires positive { 1 ≤ sessions }
     requires limit { sessions ≤ MAX_SESSIONS }
     requires tail { ∥ T.keeps tail order.entries ∥₁ }
     ensures served { IsServed order result.0 (N.told net.old) (N.told net.new) sessions result.2 }

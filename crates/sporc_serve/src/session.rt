@@ -7,7 +7,7 @@ ghost use Rattle.sporc_wire.specs.Messages.{Unread, next, stream_of};
 ghost use Rattle.sporc_wire.specs.ToServer.{to_server_of};
 ghost use Rattle.sporc_order.specs.Sessions.{IsFramed};
 ghost use Rattle.sporc_serve.specs.Logs.{OfDocument};
-ghost use Rattle.sporc_serve.specs.Courses.{stand_at, Carries, Leads};
+ghost use Rattle.sporc_serve.specs.Traces.{stand_at, Carries, Leads};
 ghost use Rattle.sporc_serve.specs.Endings.{inlet_at, IsNext};
 ghost use Rattle.sporc_serve.specs.Turns.{HasReadLast};
 ghost use Rattle.sporc_serve.specs.Visits.{visit, IsServedSession};

@@ -17,7 +17,7 @@ use Rattle.sporc_client.specs.declared.fault.SubmitFault.{SubmitFault}
 use Rattle.sporc_shared.specs.declared.fault.SessionFault.{SessionFault}
 use Rattle.sporc_shared.specs.declared.fault.SessionFault.TheVariants as faults
 use Rattle.sporc_shared.specs.Acts.{Act, all_of, items_by}
-use Rattle.sporc_shared.specs.Courses.{Course, CountsSame, IsAllowedLog, KnowsMore, Stand, stand}
+use Rattle.sporc_shared.specs.Traces.{Trace, CountsSame, IsAllowedLog, KnowsMore, Stand, stand}
 use Rattle.sporc_shared.specs.Crowds.{CrowdDid, EditorPart, IsCrowd}
 use Rattle.sporc_shared.specs.Editing.{LinesDid}
 use Rattle.sporc_shared.specs.Endings.{AcceptGives, Cause, IsNoMessage, IsWrongAnswer, Stopped, SubmitGives}
@@ -27,7 +27,7 @@ use Rattle.sporc_shared.specs.Points.{IsPoint}
 use Rattle.sporc_shared.specs.Protocol.{Asking, Mode, always}
 use Rattle.sporc_shared.specs.Sessions.{FirstPhase}
 use Rattle.sporc_shared.specs.Wires.{LinkStand}
-use Rattle.sporc_shared.proofs.Coursing.{course_none}
+use Rattle.sporc_shared.proofs.Tracing.{trace_none}
 use Rattle.sporc_shared.proofs.Fitting.{fit_all_later}
 use Rattle.sporc_shared.proofs.Knowing.{client_later, point_later, starts_then}
 use Rattle.sporc_shared.proofs.Lining.{end_later, lines_later}
@@ -48,8 +48,8 @@ module _ (k k1 k' : Known Item) (knows : (items : List Item) → KnowsMore (spli
   abbrev joined : Stand
   joined = stand k' link words g
 
-  course_joined : (acts : List Act) (written : List ℕ) (answers : List ToClient) (drawn : List (List ℕ)) → Course before alone acts written answers drawn → Course first joined acts written answers drawn
-  course_joined acts written answers drawn c = record {
+  trace_joined : (acts : List Act) (written : List ℕ) (answers : List ToClient) (drawn : List (List ℕ)) → Trace before alone acts written answers drawn → Trace first joined acts written answers drawn
+  trace_joined acts written answers drawn c = record {
     knows = knows (all_of items_by acts) c.knows;
     fits = fit_all_later k1.seen k'.seen begins k.start k.mine acts c.fits;
     in_order = c.in_order;
@@ -107,14 +107,14 @@ module _ (k k1 k' : Known Item) (knows : (items : List Item) → KnowsMore (spli
   cause_joined m written answers drawn (faults.EditRefused editor line fault) h = h
 
   phase_joined : (rounds : ℕ) (fault : Option SessionFault) → FirstPhase before alone rounds fault → FirstPhase first joined rounds fault
-  phase_joined rounds None d = record { acts = d.acts; course = course_joined d.acts [] [] [] d.course; leads = d.leads }
+  phase_joined rounds None d = record { acts = d.acts; trace = trace_joined d.acts [] [] [] d.trace; leads = d.leads }
   phase_joined rounds (Some fault) d = record {
     acts = d.acts;
     reached = d.reached;
     written = d.written;
     answers = d.answers;
     words = d.words;
-    course = course_joined d.acts d.written d.answers d.words d.course;
+    trace = trace_joined d.acts d.written d.answers d.words d.trace;
     leads = d.leads;
     within = d.within;
     beside = d.beside;
@@ -163,7 +163,7 @@ nothing_done a rounds = record {
   written = [];
   answers = [];
   words = [];
-  course = course_none a;
+  trace = trace_none a;
   leads = refl;
   within = omega arith;
   beside = record { sent_due = (0, refl); came = inl refl; few = omega arith; drawn = λ _. refl };

@@ -12,7 +12,7 @@ use Rattle.sporc_entry.specs.declared.version.TheConstants.{FIRST_VERSION, DEVIC
 use Rattle.sporc_entry.specs.Entry.{body_limit, body_read, device_at, entry_of, header_at}
 use Rattle.sporc_entry.specs.Version.{names_device}
 use Rattle.sporc_wire.specs.declared.cutter.TheConstants.{MAX_BODY}
-use Rattle.sporc_client.specs.Allowed.{allows, allows_all, is_allowed, is_made}
+use Rattle.sporc_client.specs.Allowed.{can_log, can_log_all, is_allowed, is_made}
 use Rattle.sporc_client.specs.Log.{Logged, Submit}
 use Rattle.sporc_client.specs.PlainClient.{PlainClient, opened}
 use Rattle.sporc_client.specs.Step.{step}
@@ -131,12 +131,12 @@ made_len c bytes made = by (entry_of bytes) refl made
     by (Err at) reads made = absurd cc
 
 -- the last event of a log is allowed
-allows_last : (c : PlainClient) (log : List Logged) (event : Logged) → allows_all c (log ++ event ∷ []) ≡ true → (d : PlainClient) × (allows d event ≡ true)
-allows_last c [] event may = (c, (and_parts (allows c event) true may).0)
-allows_last c (e ∷ log) event may = allows_last (step c e) log event (and_parts (allows c e) (allows_all (step c e) (log ++ event ∷ [])) may).1
+allows_last : (c : PlainClient) (log : List Logged) (event : Logged) → can_log_all c (log ++ event ∷ []) ≡ true → (d : PlainClient) × (can_log d event ≡ true)
+allows_last c [] event may = (c, (and_parts (can_log c event) true may).0)
+allows_last c (e ∷ log) event may = allows_last (step c e) log event (and_parts (can_log c e) (can_log_all (step c e) (log ++ event ∷ [])) may).1
 
 pub submitted_len : (before : Past) (by : ℕ) (entry : List ℕ) → IsAllowed (with_events before (Submit by entry ∷ [])) → length entry < MAX_BODY
-unfolding allows is_allowed
+unfolding can_log is_allowed
 submitted_len before by entry may =
     let last = allows_last (opened before.opening) before.log (Submit by entry) may in
     omega (arith, made_len last.0 entry last.1)

@@ -1,6 +1,6 @@
 -- Worked examples of the definitions: the acts of a round, the message that is due, what a line asks for, and points of a log.
 use Rattle.std.proofs.Common.{◌≡◌, ◌≤◌, ℕ, List, [], ◌∷◌, Ok, refl, arith}
-use Rattle.sporc_delta.specs.Marks.{Mark, Retain, Delete}
+use Rattle.sporc_delta.specs.Marks.{Mark, Keep, Remove}
 use Rattle.sporc_head.specs.declared.refusal.Refusal.{Refusal}
 use Rattle.sporc_script.specs.declared.editor_line.EditorCommand.TheVariants as commands
 use Rattle.sporc_wire.specs.declared.to_server.ToServer.TheVariants as to_server
@@ -42,10 +42,10 @@ marks_on len (Edits edit) = edit len
 marks_on len (Changes change) = []
 
 -- nine characters are to go from the second one on, and there are five
-count_cut_down : marks_on 5 (asked_by (commands.Remove (record { at = 1; count = 9 }))) ≡ Retain ∷ Delete ∷ Delete ∷ Delete ∷ Delete ∷ []
+count_cut_down : marks_on 5 (asked_by (commands.Remove (record { at = 1; count = 9 }))) ≡ Keep ∷ Remove ∷ Remove ∷ Remove ∷ Remove ∷ []
 count_cut_down = refl
 
-place_cut_down : marks_on 2 (asked_by (commands.Remove (record { at = 3; count = 1 }))) ≡ Retain ∷ Retain ∷ []
+place_cut_down : marks_on 2 (asked_by (commands.Remove (record { at = 3; count = 1 }))) ≡ Keep ∷ Keep ∷ []
 place_cut_down = refl
 
 -- ---- points of a log

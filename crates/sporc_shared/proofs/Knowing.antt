@@ -7,7 +7,7 @@ use Rattle.sporc_turn.proofs.Lists.{drop_seen, starts_length, starts_self}
 use Rattle.sporc_client.specs.Log.{Logged}
 use Rattle.sporc_client.specs.PlainClient.{PlainClient}
 use Rattle.sporc_shared.specs.Calls.{IsCall}
-use Rattle.sporc_shared.specs.Courses.{CountsSame, KnowsMore}
+use Rattle.sporc_shared.specs.Traces.{CountsSame, KnowsMore}
 use Rattle.sporc_shared.specs.Items.{Item, Happened, Past, by_of, client_of, items_of, with_events}
 use Rattle.sporc_shared.specs.Points.{IsClientAt, IsPoint}
 use Rattle.sporc_shared.proofs.Calling.{items_more}

@@ -15,7 +15,7 @@ use Rattle.sporc_client.proofs.Calls.{replay_opening}
 use Rattle.sporc_client.proofs.SubmitFaults.{submission_drawn}
 use Rattle.sporc_shared.specs.declared.fault.SessionFault.{SessionFault}
 use Rattle.sporc_shared.specs.declared.fault.SessionFault.TheVariants as faults
-use Rattle.sporc_shared.specs.Courses.{Stand}
+use Rattle.sporc_shared.specs.Traces.{Stand}
 use Rattle.sporc_shared.specs.Endings.{Cause, SubmitGives}
 use Rattle.sporc_shared.specs.Items.{Item, Past, items_of}
 use Rattle.sporc_shared.specs.Lines.{LineCause}

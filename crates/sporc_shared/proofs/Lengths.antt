@@ -8,7 +8,7 @@ use Rattle.sporc_base.specs.FirstFault.{first_of}
 use Rattle.sporc_head.specs.History.{change_in}
 use Rattle.sporc_line.proofs.FormLengths.{inserted_len-over}
 use Rattle.sporc_client.specs.declared.limits.TheConstants.{MAX_EDIT_BYTES, MAX_PENDING}
-use Rattle.sporc_client.specs.Allowed.{allows, allows_all, is_allowed}
+use Rattle.sporc_client.specs.Allowed.{can_log, can_log_all, is_allowed}
 use Rattle.sporc_client.specs.Answers.{edit_checks, edit_fault}
 use Rattle.sporc_client.specs.Log.{Logged, Edit, Change, Submit, Dropped, Accept, Discard}
 use Rattle.sporc_client.specs.PlainClient.{Opening, PlainClient, committed_of, opened, shown_of}
@@ -33,8 +33,8 @@ accepted_short c bytes short =
     ]
 
 -- each event that a client allows leaves its pending edits short
-step_short : (c : PlainClient) (event : Logged) → AreShort c.pending → allows c event ≡ true → AreShort (step c event).pending
-unfolding allows edit_fault
+step_short : (c : PlainClient) (event : Logged) → AreShort c.pending → can_log c event ≡ true → AreShort (step c event).pending
+unfolding can_log edit_fault
 step_short c (Edit by seen marks) short may =
     let passed = edit_passed c seen marks (none_of (first_of (edit_checks c seen marks)) may) in
     short_edit c.pending (restated c seen marks) short (omega (arith, passed.bytes, inserted_len-bytes marks, inserted_len-over marks (drop seen c.shown)))
@@ -44,10 +44,10 @@ step_short c (Dropped by fault) short may = short_drop c.pending short
 step_short c (Accept by bytes) short may = accepted_short c bytes short
 step_short c (Discard by) short may = tt
 
-short_from : (c : PlainClient) (log : List Logged) → AreShort c.pending → allows_all c log ≡ true → AreShort (replay_from c log).pending
+short_from : (c : PlainClient) (log : List Logged) → AreShort c.pending → can_log_all c log ≡ true → AreShort (replay_from c log).pending
 short_from c [] short may = short
 short_from c (event ∷ log) short may =
-    let both = and_parts (allows c event) (allows_all (step c event) log) may in
+    let both = and_parts (can_log c event) (can_log_all (step c event) log) may in
     short_from (step c event) log (step_short c event short both.0) both.1
 
 short_replay : (opening : Opening) (log : List Logged) → is_allowed opening log ≡ true → AreShort (replay opening log).pending

@@ -8,7 +8,7 @@ pub mod EntryLengths
 pub mod Exchanging
 pub mod Inboxes
 pub mod Linking
-pub mod Coursing
+pub mod Tracing
 pub mod Fetching
 pub mod Stepping
 pub mod Positions

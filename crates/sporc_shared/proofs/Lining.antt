@@ -11,7 +11,7 @@ use Rattle.sporc_client.specs.Answers.{change_fault, edit_fault}
 use Rattle.sporc_client.specs.PlainClient.{PlainClient}
 use Rattle.sporc_shared.specs.declared.fault.SessionFault.{SessionFault}
 use Rattle.sporc_shared.specs.declared.fault.SessionFault.TheVariants as faults
-use Rattle.sporc_shared.specs.Courses.{KnowsMore}
+use Rattle.sporc_shared.specs.Traces.{KnowsMore}
 use Rattle.sporc_shared.specs.Editing.{LineDid, LinesDid, LinesDone}
 use Rattle.sporc_shared.specs.Items.{Item}
 use Rattle.sporc_shared.specs.Lines.{AnswersAt, AreLinesDone, Asked, Changes, Edits, IsDone, IsEditAt, LineCause, LineEnd, LineFails, LineGives, asked_by}

@@ -15,7 +15,7 @@ use Rattle.sporc_client.specs.declared.submitted.Submitted.TheVariants as submit
 use Rattle.sporc_client.specs.Submissions.{submission_added}
 use Rattle.sporc_shared.specs.declared.fault.SessionFault.{SessionFault}
 use Rattle.sporc_shared.specs.Acts.{Act, Ask, Greet, Look, Pull, Take, Submit, Send, Check, all_of, items_by}
-use Rattle.sporc_shared.specs.Courses.{Stand}
+use Rattle.sporc_shared.specs.Traces.{Stand}
 use Rattle.sporc_shared.specs.Items.{Item, Happened, by_of}
 use Rattle.sporc_shared.specs.Lines.{AreLinesDone, Asked, Edits, Changes, IsDone, asked_by}
 use Rattle.sporc_shared.specs.Makers.{IsOfItsMaker}
@@ -75,8 +75,8 @@ record Added (a b : Stand) : Type 0 where
   so : All IsOfItsMaker items
 
 first_added : (a b : Stand) (rounds : ℕ) (fault : Option SessionFault) → FirstPhase a b rounds fault → Added a b
-first_added a b rounds None d = record { items = all_of items_by d.acts; mine = d.course.knows.mine; so = acts_so d.acts }
-first_added a b rounds (Some fault) d = record { items = all_of items_by d.acts; mine = d.course.knows.mine; so = acts_so d.acts }
+first_added a b rounds None d = record { items = all_of items_by d.acts; mine = d.trace.knows.mine; so = acts_so d.acts }
+first_added a b rounds (Some fault) d = record { items = all_of items_by d.acts; mine = d.trace.knows.mine; so = acts_so d.acts }
 
 added_then : (a b c : Stand) → Added a b → Added b c → Added a c
 added_then a b c f g = record {
@@ -87,10 +87,10 @@ added_then a b c f g = record {
 
 second_added : (a b : Stand) (rounds until : ℕ) (result : Result ⊤ SessionFault) → SecondPhase a b rounds until result → Added a b
 second_added a b rounds until result (settles low r is) =
-    added_then a r.between b (record { items = all_of items_by r.did.acts; mine = r.did.course.knows.mine; so = acts_so r.did.acts }) (record { items = []; mine = r.last.knows.mine; so = All-nil IsOfItsMaker })
+    added_then a r.between b (record { items = all_of items_by r.did.acts; mine = r.did.trace.knows.mine; so = acts_so r.did.acts }) (record { items = []; mine = r.last.knows.mine; so = All-nil IsOfItsMaker })
 second_added a b rounds until result (doesnt_settle r is) =
-    added_then a r.between b (record { items = all_of items_by r.did.acts; mine = r.did.course.knows.mine; so = acts_so r.did.acts }) (record { items = []; mine = r.last.knows.mine; so = All-nil IsOfItsMaker })
-second_added a b rounds until result (stops s) = record { items = all_of items_by s.acts; mine = s.course.knows.mine; so = acts_so s.acts }
+    added_then a r.between b (record { items = all_of items_by r.did.acts; mine = r.did.trace.knows.mine; so = acts_so r.did.acts }) (record { items = []; mine = r.last.knows.mine; so = All-nil IsOfItsMaker })
+second_added a b rounds until result (stops s) = record { items = all_of items_by s.acts; mine = s.trace.knows.mine; so = acts_so s.acts }
 
 -- ---- the editors'
 

@@ -12,7 +12,7 @@ use Rattle.sporc_shared.specs.declared.fault.SessionFault.TheVariants as faults
 use Rattle.sporc_shared.specs.declared.look.Look.{Look}
 use Rattle.sporc_shared.specs.Acts.{Greet, Looked, Look as LookAct}
 use Rattle.sporc_shared.specs.Asking.{Unsent, unsent}
-use Rattle.sporc_shared.specs.Courses.{Course, Stand, stand}
+use Rattle.sporc_shared.specs.Traces.{Trace, Stand, stand}
 use Rattle.sporc_shared.specs.Endings.{IsSubmitting, Did}
 use Rattle.sporc_shared.specs.Items.{Item, Past, client_of, items_of}
 use Rattle.sporc_shared.specs.Looks.{IsLookAt}
@@ -20,9 +20,9 @@ use Rattle.sporc_shared.specs.Outcomes.{DidOrStopped}
 use Rattle.sporc_shared.specs.Protocol.{Asking, Greeting, Between, Pulling, always, is_unsettled, greets}
 use Rattle.sporc_shared.specs.Sessions.{FirstPhase, SecondPhase, Rounds, settles, doesnt_settle, stops}
 use Rattle.sporc_shared.specs.Wires.{Exchanged, LinkStand, spelled}
-use Rattle.sporc_shared.proofs.Coursing.{words_none, did_then, did_stopped, stopped_within}
+use Rattle.sporc_shared.proofs.Tracing.{words_none, did_then, did_stopped, stopped_within}
 use Rattle.sporc_shared.proofs.Knowing.{knows_none, seen_after}
-use Rattle.sporc_shared.proofs.Stepping.{ask_stopped, look_did, look_course}
+use Rattle.sporc_shared.proofs.Stepping.{ask_stopped, look_did, look_trace}
 use Rattle.sporc_shared.proofs.Telling.{Tells, TellsOr, worn_stopped}
 
 -- ---- Hello
@@ -38,7 +38,7 @@ module _ {words : Option (List (List ℕ))} {g : ℕ} {k : Known Item} {a b : Li
   greeted : {document : List ℕ} {member : ℕ} → Exchanged a b (spelled (to_server.Hello document member ∷ [])) [] → Did always (stand k a words g) (stand k b words g) (Greeting document member) (Between 0)
   greeted {document} {member} x = record {
     acts = Greet document member ∷ [];
-    course = record {
+    trace = record {
       knows = knows_none k;
       fits = (tt, tt);
       in_order = (omega arith, tt);
@@ -49,10 +49,10 @@ module _ {words : Option (List (List ℕ))} {g : ℕ} {k : Known Item} {a b : Li
     leads = (Between 0, greets, refl);
   }
 
-  pub hello_went : {document : List ℕ} {member : ℕ} {message : ToServer} {sent : Result ⊤ SessionFault} → message ≡ to_server.Hello document member
+  pub hello_sent : {document : List ℕ} {member : ℕ} {message : ToServer} {sent : Result ⊤ SessionFault} → message ≡ to_server.Hello document member
       → OnOk sent (Exchanged a b (spelled (message ∷ [])) []) → IfErr sent (Unsent a b message) → DidOrStopped always (stand k a words g) (stand k b words g) (Greeting document member) (Between 0) sent
-  hello_went {sent = Ok x} is ok err = record { ends = greeted (subst (λ (m : ToServer). Exchanged a b (spelled (m ∷ [])) []) is ok) }
-  hello_went {sent = Err fault} is ok err = record { ends = ask_stopped refl not_greeting (unsent (subst (λ (m : ToServer). Unsent a b m fault) is err)) }
+  hello_sent {sent = Ok x} is ok err = record { ends = greeted (subst (λ (m : ToServer). Exchanged a b (spelled (m ∷ [])) []) is ok) }
+  hello_sent {sent = Err fault} is ok err = record { ends = ask_stopped refl not_greeting (unsent (subst (λ (m : ToServer). Unsent a b m fault) is err)) }
 
 -- Hello, and then the rounds
 pub first_then : {a b c : Stand} {rounds : ℕ} {all : Result ⊤ SessionFault}
@@ -80,8 +80,8 @@ module _ {k k' : Known Item} {look : Look} where
       between = stand k link words g;
       did = did;
       last =
-          subst (λ (l : List Item). Course (stand k link words g) (stand k' link words g) (LookAct (length l) look.at look.pending ∷ []) [] [] [])
-          (sym (seen_after k k' t.before [] t.call ∙ append-nil (items_of t.before))) (look_course zero' t.call (looked t));
+          subst (λ (l : List Item). Trace (stand k link words g) (stand k' link words g) (LookAct (length l) look.at look.pending ∷ []) [] [] [])
+          (sym (seen_after k k' t.before [] t.call ∙ append-nil (items_of t.before))) (look_trace zero' t.call (looked t));
     }
 
     pub second_settles : {a : Stand} {done rounds until : ℕ} → done ≤ rounds → Did (is_unsettled until) a (stand k link words g) (Between 0) (Between done) → is_unsettled until look.at look.pending ≡ false

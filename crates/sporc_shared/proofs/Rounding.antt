@@ -16,7 +16,7 @@ use Rattle.sporc_shared.specs.declared.answered.Answered.{Answered}
 use Rattle.sporc_shared.specs.Acts.{Pull, Send, ServerReply, Ordered, Rejected, handed_out, reply_message}
 use Rattle.sporc_shared.specs.Asking.{AskFails, Gathered, IsReply, taking}
 use Rattle.sporc_shared.specs.Calls.{IsCall}
-use Rattle.sporc_shared.specs.Courses.{Stand, stand, KnowsMore, Course}
+use Rattle.sporc_shared.specs.Traces.{Stand, stand, KnowsMore, Trace}
 use Rattle.sporc_shared.specs.Endings.{IsSubmitting, Did, Stopped}
 use Rattle.sporc_shared.specs.Items.{Item, Past, client_of}
 use Rattle.sporc_shared.specs.Outcomes.{TookAll, GatheredAll, SubmittedOne, DidOrStopped}
@@ -24,7 +24,7 @@ use Rattle.sporc_shared.specs.Protocol.{Mode, Between, Pulling, Taking, Sending,
 use Rattle.sporc_shared.specs.Replies.{plain_of, checked_of}
 use Rattle.sporc_shared.specs.Wires.{Exchanged, LinkStand, spelled}
 use Rattle.sporc_shared.proofs.Knowing.{knows_none}
-use Rattle.sporc_shared.proofs.Coursing.{words_none, did_then, did_stopped}
+use Rattle.sporc_shared.proofs.Tracing.{words_none, did_then, did_stopped}
 use Rattle.sporc_shared.proofs.Stepping.{ask_stopped, gathered_did, drained_did, gather_stopped, quiet_did, entry_did, submit_stopped, check_did, check_stopped, known_stopped}
 use Rattle.sporc_shared.proofs.Taking.{WornAs, plain_case}
 
@@ -136,8 +136,8 @@ module _ {ready : ℕ → ℕ → Bool} {n at : ℕ} {link : LinkStand} {w w' : 
 abbrev SentFor : LinkStand → LinkStand → List ℕ → Option Refusal → Type 0
 SentFor a b entry refusal = (reply : ServerReply) × IsReply refusal reply × Exchanged a b (spelled (to_server.Submit entry ∷ [])) (reply_message reply ∷ [])
 
-sent_course : {words : Option (List (List ℕ))} {g : ℕ} {k : Known Item} {a b : LinkStand} {entry : List ℕ} (reply : ServerReply) → Exchanged a b (spelled (to_server.Submit entry ∷ [])) (reply_message reply ∷ []) → Course (stand k a words g) (stand k b words g) (Send entry reply ∷ []) [] [] []
-sent_course {words} {k = k} {a = a} {b = b} {entry = entry} reply x = record {
+sent_trace : {words : Option (List (List ℕ))} {g : ℕ} {k : Known Item} {a b : LinkStand} {entry : List ℕ} (reply : ServerReply) → Exchanged a b (spelled (to_server.Submit entry ∷ [])) (reply_message reply ∷ []) → Trace (stand k a words g) (stand k b words g) (Send entry reply ∷ []) [] [] []
+sent_trace {words} {k = k} {a = a} {b = b} {entry = entry} reply x = record {
   knows = knows_none k;
   fits = (tt, tt);
   in_order = (omega arith, tt);
@@ -153,7 +153,7 @@ module _ {ready : ℕ → ℕ → Bool} {n at : ℕ} {words : Option (List (List
   sent_ordered is ok = by (subst (λ r. IfOk r (SentFor a b entry)) is ok)
     where
       by : SentFor a b entry None → Did ready (stand k a words g) (stand k b words g) (Sending n at entry) (Between (n + 1))
-      by (Ordered place, t, x) = record { acts = Send entry (Ordered place) ∷ []; course = sent_course (Ordered place) x; leads = (Between (n + 1), sends, refl) }
+      by (Ordered place, t, x) = record { acts = Send entry (Ordered place) ∷ []; trace = sent_trace (Ordered place) x; leads = (Between (n + 1), sends, refl) }
       by (Rejected r, t, x) = absurd t
 
   pub sent_rejected : {back : List ℕ} {refusal : Refusal} {answer : Result (Option Refusal) SessionFault} → back ≡ entry → answer ≡ Ok (Some refusal)
@@ -165,7 +165,7 @@ module _ {ready : ℕ → ℕ → Bool} {n at : ℕ} {words : Option (List (List
       by : SentFor a b entry (Some refusal) → Did ready (stand k a words g) (stand k b words g) (Sending n at entry) (Taking n at [] (Drains entry refusal))
       by (Ordered place, t, x) = absurd t
       by (Rejected r, t, x) = subst (λ y. Did ready (stand k a words g) (stand k b words g) (Sending n at entry) (Taking n at [] (Drains entry y))) t
-          (record { acts = Send entry (Rejected r) ∷ []; course = sent_course (Rejected r) x; leads = (Taking n at [] (Drains entry r), rejected, refl) })
+          (record { acts = Send entry (Rejected r) ∷ []; trace = sent_trace (Rejected r) x; leads = (Taking n at [] (Drains entry r), rejected, refl) })
 
   pub sent_stopped : {fault : SessionFault} {answer : Result (Option Refusal) SessionFault} → answer ≡ Err fault → IfErr answer (AskFails a b (to_server.Submit entry))
       → Stopped ready (stand k a words g) (stand k b words g) (Sending n at entry) (n + 1) fault
@@ -173,12 +173,12 @@ module _ {ready : ℕ → ℕ → Bool} {n at : ℕ} {words : Option (List (List
 
 -- ---- it is seen whether an entry is still on its way
 
-pub check_went : {k : Known Item} {entry : List ℕ} {refusal : Refusal} (reply : Result (Answered Bool) (Pass Item × Worn)) {plain : Result Bool ℕ × Pass Item} {result : Result ⊤ SessionFault} → k.number ≡ 0
+pub check_made : {k : Known Item} {entry : List ℕ} {refusal : Refusal} (reply : Result (Answered Bool) (Pass Item × Worn)) {plain : Result Bool ℕ × Pass Item} {result : Result ⊤ SessionFault} → k.number ≡ 0
     → plain ≡ plain_of reply → result ≡ checked_of refusal plain.0
     → IfOk reply (λ r. (before : Past) × IsCall k (known_of r.pass) before [] × (r.answer ≡ is_flight (client_of before) entry)) → WornAs k reply
     → (ready : ℕ → ℕ → Bool) (n : ℕ) (link : LinkStand) (words : Option (List (List ℕ))) (g : ℕ)
     → DidOrStopped ready (stand k link words g) (stand (known_of plain.1) link words g) (Checking n entry refusal) (Between (n + 1)) result
-check_went {k} {entry} {refusal} reply {plain} {result} zero' is is' call err ready n link words g =
+check_made {k} {entry} {refusal} reply {plain} {result} zero' is is' call err ready n link words g =
     subst (P (known_of plain.1)) (sym is') (plain_case reply plain is (λ answer k'. P k' (checked_of refusal answer)) here worn)
   where
     P : Known Item → Result ⊤ SessionFault → Type 0

@@ -8,7 +8,7 @@ use Rattle.sporc_member.specs.Device.{same_device}
 use Rattle.sporc_member.proofs.SameDevice.{one_same, same_one}
 use Rattle.sporc_line.specs.Good.{Meets}
 use Rattle.sporc_script.specs.declared.editor_line.EditorLine.{EditorLine}
-use Rattle.sporc_client.specs.Allowed.{allows, allows_all, is_allowed}
+use Rattle.sporc_client.specs.Allowed.{can_log, can_log_all, is_allowed}
 use Rattle.sporc_client.specs.Calls.{LeadTo, events_of}
 use Rattle.sporc_client.specs.Log.{Logged}
 use Rattle.sporc_client.specs.PlainClient.{Opening, PlainClient, opened}
@@ -18,7 +18,7 @@ use Rattle.sporc_client.proofs.Worlds.{happens_to}
 use Rattle.sporc_client.proofs.Calls.{added_lead, put_other}
 use Rattle.sporc_client.proofs.Reached.{put_same}
 use Rattle.sporc_shared.specs.declared.fault.SessionFault.{SessionFault}
-use Rattle.sporc_shared.specs.Courses.{Stand}
+use Rattle.sporc_shared.specs.Traces.{Stand}
 use Rattle.sporc_shared.specs.Items.{Item, IsAllowed, Past, client_of, items_of, with_events}
 use Rattle.sporc_shared.specs.Runs.{IsJournal, device_of, moves_of}
 use Rattle.sporc_shared.specs.Sessions.{IsSession}
@@ -42,13 +42,13 @@ Goes s who None (Happen device event ∷ moves) = ⊥
 Goes s who None (Give device position bytes ∷ moves) = ⊥
 Goes s who None (Restart device k ∷ moves) = ⊥
 Goes s who (Some c) (Open device ring ∷ moves) = ⊥
-Goes s who (Some c) (Happen device event ∷ moves) = (allows c event ≡ true) × Goes s who (Some (step c event)) moves
+Goes s who (Some c) (Happen device event ∷ moves) = (can_log c event ≡ true) × Goes s who (Some (step c event)) moves
 Goes s who (Some c) (Give device position bytes ∷ moves) = ⊥
 Goes s who (Some c) (Restart device k ∷ moves) = ⊥
 
-events_go : (s : Setup) (who : Device) (c : PlainClient) (log : List Logged) → allows_all c log ≡ true → Goes s who (Some c) (events_of who log)
+events_go : (s : Setup) (who : Device) (c : PlainClient) (log : List Logged) → can_log_all c log ≡ true → Goes s who (Some c) (events_of who log)
 events_go s who c [] may = tt
-events_go s who c (event ∷ log) may = let p = and_parts (allows c event) (allows_all (step c event) log) may in (p.0, events_go s who (step c event) log p.1)
+events_go s who c (event ∷ log) may = let p = and_parts (can_log c event) (can_log_all (step c event) log) may in (p.0, events_go s who (step c event) log p.1)
 
 journal_goes : (s : Setup) (who : Device) (moves : List Move) → IsJournal s who moves → Goes s who None moves
 unfolding is_allowed
@@ -83,7 +83,7 @@ moved s w (Open who ring) rest None at g =
       others = λ other differs. put_other w.clients who c other (λ is. differs (sym is));
     }
 moved s w (Happen who event) rest (Some c) at g = record {
-  may = subst (λ (o : Option PlainClient). IsSomeAnd o (λ c. allows c event ≡ true)) (sym at) g.0;
+  may = subst (λ (o : Option PlainClient). IsSomeAnd o (λ c. can_log c event ≡ true)) (sym at) g.0;
   goes = subst (λ (o : Option PlainClient). Goes s who o rest) (sym (ap (λ (o : Option PlainClient). (happens_to w who event o).clients who) at ∙ put_same w.clients who (step c event))) g.1;
   others = λ other differs. ap (λ (o : Option PlainClient). (happens_to w who event o).clients other) at ∙ put_other w.clients who (step c event) other (λ is. differs (sym is));
 }

@@ -11,7 +11,7 @@ use Rattle.sporc_turn.specs.Log.{Agrees, StartsWith, own}
 use Rattle.sporc_turn.proofs.Extending.{only_first_adds}
 use Rattle.sporc_shared.specs.declared.fault.SessionFault.{SessionFault}
 use Rattle.sporc_shared.specs.Acts.{all_of, items_by}
-use Rattle.sporc_shared.specs.Courses.{CountsSame, IsAllowedLog, KnowsMore, Stand, stand}
+use Rattle.sporc_shared.specs.Traces.{CountsSame, IsAllowedLog, KnowsMore, Stand, stand}
 use Rattle.sporc_shared.specs.Crowds.{CrowdDid, IsCrowd}
 use Rattle.sporc_shared.specs.Items.{Item, by_of}
 use Rattle.sporc_shared.specs.Lines.{AreLinesDone, LineEnd}
@@ -141,13 +141,13 @@ module _ (a middle b : Stand) (rounds until : ℕ) (scripts : List (List EditorL
   }
 
 first_knows : (a b : Stand) (rounds : ℕ) (fault : Option SessionFault) → FirstPhase a b rounds fault → (items : List Item) × KnowsMore a.known b.known items
-first_knows a b rounds None d = (all_of items_by d.acts, d.course.knows)
-first_knows a b rounds (Some fault) d = (all_of items_by d.acts, d.course.knows)
+first_knows a b rounds None d = (all_of items_by d.acts, d.trace.knows)
+first_knows a b rounds (Some fault) d = (all_of items_by d.acts, d.trace.knows)
 
 second_knows : (a b : Stand) (rounds until : ℕ) (result : Result ⊤ SessionFault) → SecondPhase a b rounds until result → (items : List Item) × KnowsMore a.known b.known items
-second_knows a b rounds until result (settles low r settled) = (all_of items_by r.did.acts ++ [], knows_then a.known r.between.known b.known _ _ r.did.course.knows r.last.knows)
-second_knows a b rounds until result (doesnt_settle r unsettled) = (all_of items_by r.did.acts ++ [], knows_then a.known r.between.known b.known _ _ r.did.course.knows r.last.knows)
-second_knows a b rounds until result (stops s) = (all_of items_by s.acts, s.course.knows)
+second_knows a b rounds until result (settles low r settled) = (all_of items_by r.did.acts ++ [], knows_then a.known r.between.known b.known _ _ r.did.trace.knows r.last.knows)
+second_knows a b rounds until result (doesnt_settle r unsettled) = (all_of items_by r.did.acts ++ [], knows_then a.known r.between.known b.known _ _ r.did.trace.knows r.last.knows)
+second_knows a b rounds until result (stops s) = (all_of items_by s.acts, s.trace.knows)
 
 -- nothing was taken off the link before
 pub crowd_from : (known : Known Item) (written left : Option (List ℕ)) (count : ℕ) (words : Option (List (List ℕ))) (count' : ℕ) (inbox : InboxModel) (m : Stand) (rounds : ℕ) (scripts : List (List EditorLine)) (receiver fault : Option SessionFault) → inbox ≡ empty_inbox

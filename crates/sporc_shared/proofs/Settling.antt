@@ -9,7 +9,7 @@ use Rattle.sporc_client.specs.PlainClient.{PlainClient}
 use Rattle.sporc_shared.specs.declared.fault.SessionFault.{SessionFault}
 use Rattle.sporc_shared.specs.declared.fault.SessionFault.TheVariants as faults
 use Rattle.sporc_shared.specs.Acts.{Looked}
-use Rattle.sporc_shared.specs.Courses.{Stand}
+use Rattle.sporc_shared.specs.Traces.{Stand}
 use Rattle.sporc_shared.specs.Endings.{Cause}
 use Rattle.sporc_shared.specs.Items.{Item, Past, client_of, items_of}
 use Rattle.sporc_shared.specs.Lines.{LineCause}

@@ -3,8 +3,8 @@ use Rattle.std.proofs.Common.{◌≡◌, ◌≢◌, ◌⊎◌, ◌≤◌, ◌+�
 use Rattle.std.specs.Prelude.{Result, IfOk, IfErr, MatchResult, ⊤}
 use Rattle.sporc_base.specs.FirstFault.{AnswersUnless, first_of, unless}
 use Rattle.sporc_delta.specs.Format.{delta_bytes}
-use Rattle.sporc_delta.specs.Marks.{Mark, base_len, deletes, insertion, inserts, removal, retains}
-use Rattle.sporc_delta.proofs.Lengths.{base_len-append, base_len-deletes, base_len-inserts, base_len-retains}
+use Rattle.sporc_delta.specs.Marks.{Mark, base_len, remove_marks, insertion, insert_marks, removal, keep_marks}
+use Rattle.sporc_delta.proofs.Lengths.{base_len-append, base_len-remove_marks, base_len-insert_marks, base_len-keep_marks}
 use Rattle.sporc_member.specs.declared.change.Change.{Change as MemberChange}
 use Rattle.sporc_turn.specs.declared.known.Known.{Known}
 use Rattle.sporc_turn.specs.declared.pass.Pass.{Pass}
@@ -23,7 +23,7 @@ use Rattle.sporc_shared.specs.declared.fault.SessionFault.{SessionFault}
 use Rattle.sporc_shared.specs.declared.fault.SessionFault.TheVariants as faults
 use Rattle.sporc_shared.specs.declared.look.Look.{Look}
 use Rattle.sporc_shared.specs.Calls.{IsCall}
-use Rattle.sporc_shared.specs.Courses.{CountsSame, KnowsMore}
+use Rattle.sporc_shared.specs.Traces.{CountsSame, KnowsMore}
 use Rattle.sporc_shared.specs.Editing.{AskedDid, IsAtFront, IsWornFault, StatedDid, seen_of}
 use Rattle.sporc_shared.specs.Items.{Item, Happened, Past, client_of, items_of}
 use Rattle.sporc_shared.specs.Lines.{AnswersAt, Asked, Changes, Edits, IsDone, IsEditAt, IsOfLine, LineFails, LineGives}
@@ -255,15 +255,15 @@ module _ (k k1 : Known Item) (knows : KnowsMore k k1 []) (line events len : ℕ)
 pub inserted_len : (len at : ℕ) (text : List ℕ) → base_len (insertion len (min at len) text) ≡ len
 inserted_len len at text =
     let n = min at len in
-    let kept = retains (len - n) in
-    base_len-append (retains n ++ inserts text) kept ∙ omega (arith, base_len-append (retains n) (inserts text), base_len-retains n, base_len-inserts text, base_len-retains (len - n))
+    let kept = keep_marks (len - n) in
+    base_len-append (keep_marks n ++ insert_marks text) kept ∙ omega (arith, base_len-append (keep_marks n) (insert_marks text), base_len-keep_marks n, base_len-insert_marks text, base_len-keep_marks (len - n))
 
 pub removed_len : (len at count : ℕ) → base_len (removal len (min at len) (min count (len - min at len))) ≡ len
 removed_len len at count =
     let n = min at len in
     let gone = min count (len - n) in
-    let kept = retains (len - (n + gone)) in
-    base_len-append (retains n ++ deletes gone) kept ∙ omega (arith, base_len-append (retains n) (deletes gone), base_len-retains n, base_len-deletes gone, base_len-retains (len - (n + gone)))
+    let kept = keep_marks (len - (n + gone)) in
+    base_len-append (keep_marks n ++ remove_marks gone) kept ∙ omega (arith, base_len-append (keep_marks n) (remove_marks gone), base_len-keep_marks n, base_len-remove_marks gone, base_len-keep_marks (len - (n + gone)))
 
 -- a look found no ticket
 pub asked_worn : (k k1 : Known Item) (line : ℕ) (asked : Asked) (fault : SessionFault) → KnowsMore k k1 [] → IsWornFault fault → AskedDid k k1 line asked (Err fault)

@@ -21,13 +21,13 @@ use Rattle.sporc_shared.specs.declared.fault.SessionFault.TheVariants as faults
 use Rattle.sporc_shared.specs.Acts.{Act, Ask, Look, Pull, Take, Submit, Check, AreInOrder, Fits, FitAll, Looked, all_of, answers_by, handed_out, items_by, messages_by, moment_after, words_by}
 use Rattle.sporc_shared.specs.Asking.{AskFails, Gathered, GatherStopped, SilentFor, UnsentFor, asking, silent, taking, unsent, wrong}
 use Rattle.sporc_shared.specs.Calls.{IsCall}
-use Rattle.sporc_shared.specs.Courses.{Stand, stand, Course, KnowsMore}
+use Rattle.sporc_shared.specs.Traces.{Stand, stand, Trace, KnowsMore}
 use Rattle.sporc_shared.specs.Endings.{Cause, IsAnswer, IsTaking, IsSubmitting, AcceptGives, TakeCause, takes_of, SubmitCause, Submission, Did, Stopped}
 use Rattle.sporc_shared.specs.Items.{Item, Happened, Past, client_of, items_of}
 use Rattle.sporc_shared.specs.Points.{IsPoint}
 use Rattle.sporc_shared.specs.Protocol.{Mode, Asking, Greeting, Between, Pulling, Taking, Sending, Checking, Stuck, Then, Submits, Drains, Leads, Goes, IsQuiet, asks, looks, takes, drained, is_gone, is_there, submits_none, submits_entry, message_due, rounds_begun}
 use Rattle.sporc_shared.specs.Wires.{Exchanged, LinkStand, spelled}
-use Rattle.sporc_shared.proofs.Coursing.{words_none}
+use Rattle.sporc_shared.proofs.Tracing.{words_none}
 use Rattle.sporc_shared.proofs.Exchanging.{exchanged_none}
 use Rattle.sporc_shared.proofs.Knowing.{call_client, call_knows, call_later, call_point, knows_none, seen_after}
 
@@ -46,10 +46,10 @@ point_zero {k} {k'} {before} {events} zero' c =
 
 -- a step that touches neither the link nor the chance
 module _ {link : LinkStand} {words : Option (List (List ℕ))} {g : ℕ} where
-  known_course : {k k' : Known Item} {act : Act} → KnowsMore k k' (items_by act ++ []) → Fits k'.seen k.start k.mine act → length k.seen ≤ moment_after (length k.seen) act
+  known_trace : {k k' : Known Item} {act : Act} → KnowsMore k k' (items_by act ++ []) → Fits k'.seen k.start k.mine act → length k.seen ≤ moment_after (length k.seen) act
       → messages_by act ≡ [] → answers_by act ≡ [] → words_by act ≡ []
-      → Course (stand k link words g) (stand k' link words g) (act ∷ []) [] [] []
-  known_course {act = act} knows fits later no_message no_answer no_word = record {
+      → Trace (stand k link words g) (stand k' link words g) (act ∷ []) [] [] []
+  known_trace {act = act} knows fits later no_message no_answer no_word = record {
     knows = knows;
     fits = (fits, tt);
     in_order = (later, tt);
@@ -69,7 +69,7 @@ module _ {link : LinkStand} {words : Option (List (List ℕ))} {g : ℕ} where
     written = [];
     answers = [];
     words = [];
-    course = record {
+    trace = record {
       knows = knows;
       fits = tt;
       in_order = tt;
@@ -87,33 +87,33 @@ module _ {link : LinkStand} {words : Option (List (List ℕ))} {g : ℕ} where
       → Did ready (stand k link words g) (stand k' link words g) Asking (Greeting before.opening.genesis.document before.opening.kit.me.member)
   ask_did {k = k} {k' = k'} {before = before} c = record {
     acts = Ask before.opening.genesis.document before.opening.kit.me.member ∷ [];
-    course = known_course (call_knows k k' before [] c) (before.opening, before.first_leaf, (map Happened before.log ++ [], seen_after k k' before [] c), refl, refl) (at_most (length k.seen)) refl refl refl;
+    trace = known_trace (call_knows k k' before [] c) (before.opening, before.first_leaf, (map Happened before.log ++ [], seen_after k k' before [] c), refl, refl) (at_most (length k.seen)) refl refl refl;
     leads = (Greeting before.opening.genesis.document before.opening.kit.me.member, asks, refl);
   }
 
-  pub look_course : {k k' : Known Item} {before : Past} {at pending : ℕ} → k.number ≡ 0 → IsCall k k' before [] → Looked (client_of before) at pending
-      → Course (stand k link words g) (stand k' link words g) (Look (length (items_of before)) at pending ∷ []) [] [] []
-  look_course {k} {k'} {before} zero' c looked =
-      known_course (call_knows k k' before [] c) (point_zero zero' c, (client_of before, call_client k k' before [] c, looked)) (call_later k k' before [] c) refl refl refl
+  pub look_trace : {k k' : Known Item} {before : Past} {at pending : ℕ} → k.number ≡ 0 → IsCall k k' before [] → Looked (client_of before) at pending
+      → Trace (stand k link words g) (stand k' link words g) (Look (length (items_of before)) at pending ∷ []) [] [] []
+  look_trace {k} {k'} {before} zero' c looked =
+      known_trace (call_knows k k' before [] c) (point_zero zero' c, (client_of before, call_client k k' before [] c, looked)) (call_later k k' before [] c) refl refl refl
 
   pub look_did : {ready : ℕ → ℕ → Bool} {n : ℕ} {k k' : Known Item} {before : Past} {at pending : ℕ} → k.number ≡ 0 → IsCall k k' before [] → Looked (client_of before) at pending
       → ready at pending ≡ true → Did ready (stand k link words g) (stand k' link words g) (Between n) (Pulling n at)
   look_did {n = n} {before = before} {at = at} {pending = pending} zero' c looked is_ready = record {
     acts = Look (length (items_of before)) at pending ∷ [];
-    course = look_course zero' c looked;
+    trace = look_trace zero' c looked;
     leads = (Pulling n at, looks is_ready, refl);
   }
 
-  check_course : {k k' : Known Item} {before : Past} {entry : List ℕ} {stays : Bool} → k.number ≡ 0 → IsCall k k' before [] → stays ≡ is_flight (client_of before) entry
-      → Course (stand k link words g) (stand k' link words g) (Check (length (items_of before)) entry stays ∷ []) [] [] []
-  check_course {k} {k'} {before} zero' c is =
-      known_course (call_knows k k' before [] c) (point_zero zero' c, (client_of before, call_client k k' before [] c, is)) (call_later k k' before [] c) refl refl refl
+  check_trace : {k k' : Known Item} {before : Past} {entry : List ℕ} {stays : Bool} → k.number ≡ 0 → IsCall k k' before [] → stays ≡ is_flight (client_of before) entry
+      → Trace (stand k link words g) (stand k' link words g) (Check (length (items_of before)) entry stays ∷ []) [] [] []
+  check_trace {k} {k'} {before} zero' c is =
+      known_trace (call_knows k k' before [] c) (point_zero zero' c, (client_of before, call_client k k' before [] c, is)) (call_later k k' before [] c) refl refl refl
 
   pub check_did : {ready : ℕ → ℕ → Bool} {n : ℕ} {r : Refusal} {k k' : Known Item} {before : Past} {entry : List ℕ} → k.number ≡ 0 → IsCall k k' before [] → false ≡ is_flight (client_of before) entry
       → Did ready (stand k link words g) (stand k' link words g) (Checking n entry r) (Between (n + 1))
   check_did {n = n} {before = before} {entry = entry} zero' c is = record {
     acts = Check (length (items_of before)) entry false ∷ [];
-    course = check_course zero' c is;
+    trace = check_trace zero' c is;
     leads = (Between (n + 1), is_gone, refl);
   }
 
@@ -125,7 +125,7 @@ module _ {link : LinkStand} {words : Option (List (List ℕ))} {g : ℕ} where
     written = [];
     answers = [];
     words = [];
-    course = check_course zero' c is;
+    trace = check_trace zero' c is;
     leads = (Stuck n r, is_there, refl);
     within = omega arith;
     beside = record { sent_due = (0, refl); came = inl refl; few = omega arith; drawn = λ _. refl };
@@ -175,7 +175,7 @@ module _ {words : Option (List (List ℕ))} {g : ℕ} {a b : LinkStand} where
         written = written;
         answers = answers;
         words = [];
-        course = record { knows = knows_none k; fits = tt; in_order = tt; link = did; words_are = words_none words; chance = omega arith };
+        trace = record { knows = knows_none k; fits = tt; in_order = tt; link = did; words_are = words_none words; chance = omega arith };
         leads = refl;
         within = omega arith;
         beside = record { sent_due = part; came = came; few = omega arith; drawn = λ _. refl };
@@ -203,7 +203,7 @@ module _ {words : Option (List (List ℕ))} {g : ℕ} {a b : LinkStand} where
     written = spelled (message ∷ []);
     answers = [];
     words = [];
-    course = record { knows = knows_none k; fits = tt; in_order = tt; link = h.did; words_are = words_none words; chance = omega arith };
+    trace = record { knows = knows_none k; fits = tt; in_order = tt; link = h.did; words_are = words_none words; chance = omega arith };
     leads = refl;
     within = omega arith;
     beside = record { sent_due = (length (spelled (message ∷ [])), whole); came = inl refl; few = omega arith; drawn = λ _. refl };
@@ -246,7 +246,7 @@ module _ {words : Option (List (List ℕ))} {g : ℕ} {a b : LinkStand} where
     written = spelled (message ∷ []);
     answers = h.answer ∷ [];
     words = [];
-    course = record { knows = knows_none k; fits = tt; in_order = tt; link = h.did; words_are = words_none words; chance = omega arith };
+    trace = record { knows = knows_none k; fits = tt; in_order = tt; link = h.did; words_are = words_none words; chance = omega arith };
     leads = refl;
     within = omega arith;
     beside = record { sent_due = (length (spelled (message ∷ [])), whole); came = inr (message, h.answer, due, refl, h.wrong); few = omega arith; drawn = λ _. refl };
@@ -258,9 +258,9 @@ module _ {words : Option (List (List ℕ))} {g : ℕ} {a b : LinkStand} where
       whole = sym (take_all (length (spelled (message ∷ []))) (spelled (message ∷ [])) (omega arith)) ∙ ap (λ (ms : List ToServer). take (length (spelled (message ∷ []))) (spelled ms)) (sym due)
 
   -- entries were pulled and accepted
-  gathered_course : {k k' : Known Item} {at : ℕ} (came front : List (List ℕ)) → Exchanged a b (spelled (to_server.Pull at ∷ [])) (handed_out at came ∷ []) → KnowsMore k k' (all_of items_by (takes_of at front))
-      → Course (stand k a words g) (stand k' b words g) (Pull at came ∷ takes_of at front) [] [] []
-  gathered_course {k} {k'} {at} came front link knows = record {
+  gathered_trace : {k k' : Known Item} {at : ℕ} (came front : List (List ℕ)) → Exchanged a b (spelled (to_server.Pull at ∷ [])) (handed_out at came ∷ []) → KnowsMore k k' (all_of items_by (takes_of at front))
+      → Trace (stand k a words g) (stand k' b words g) (Pull at came ∷ takes_of at front) [] [] []
+  gathered_trace {k} {k'} {at} came front link knows = record {
     knows = knows;
     fits = (tt, fits_takes k'.seen k.start (k.mine ++ []) at front);
     in_order = (omega arith, takes_in_order (length k.seen) at front);
@@ -275,7 +275,7 @@ module _ {words : Option (List (List ℕ))} {g : ℕ} {a b : LinkStand} where
       → Did ready (stand k a words g) (stand k' b words g) m (Taking n (at + length came) [] next)
   gathered_did {ready} {n} {at = at} {came = came} {next = next} goes h = record {
     acts = Pull at came ∷ takes_of at came;
-    course = gathered_course came came h.link h.knows;
+    trace = gathered_trace came came h.link h.knows;
     leads = (Taking n at came next, goes, subst (λ l. Leads ready (Taking n at l next) (takes_of at came) (Taking n (at + length came) [] next)) (append-nil came) (leads_takes ready n at came [] next));
   }
 
@@ -284,7 +284,7 @@ module _ {words : Option (List (List ℕ))} {g : ℕ} {a b : LinkStand} where
       → Did ready (stand k a words g) (stand k' b words g) (Taking n at [] (Drains entry r)) (Checking n entry r)
   drained_did {n = n} {at = at} {entry = entry} {r = r} h = record {
     acts = Pull at [] ∷ [];
-    course = gathered_course [] [] h.link h.knows;
+    trace = gathered_trace [] [] h.link h.knows;
     leads = (Checking n entry r, drained, refl);
   }
 
@@ -299,7 +299,7 @@ module _ {words : Option (List (List ℕ))} {g : ℕ} {a b : LinkStand} where
     written = [];
     answers = [];
     words = [];
-    course = gathered_course came h.front link h.knows;
+    trace = gathered_trace came h.front link h.knows;
     leads = subst (λ l. Leads ready m (Pull at l ∷ takes_of at h.front) (Taking n (at + length h.front) (h.entry ∷ h.rest) next)) (sym h.are)
         (Taking n at (h.front ++ h.entry ∷ h.rest) next, starts h.front, leads_takes ready n at h.front (h.entry ∷ h.rest) next);
     within = omega arith;
@@ -335,9 +335,9 @@ module _ {words : Option (List (List ℕ))} {g : ℕ} {a b : LinkStand} where
 
 -- a submission
 module _ {link : LinkStand} {w w' : Option (List (List ℕ))} {c c' : ℕ} (low : c ≤ c') where
-  submission_course : {k k' : Known Item} {drawn : List (List ℕ)} {answer : Result Submitted SubmitFault} (s : Submission k k' drawn answer) → AppendsItems w w' drawn
-      → Course (stand k link w c) (stand k' link w' c') (Submit s.point s.first s.second answer ∷ []) [] [] []
-  submission_course {k} {k'} {answer = answer} s drew = record {
+  submission_trace : {k k' : Known Item} {drawn : List (List ℕ)} {answer : Result Submitted SubmitFault} (s : Submission k k' drawn answer) → AppendsItems w w' drawn
+      → Trace (stand k link w c) (stand k' link w' c') (Submit s.point s.first s.second answer ∷ []) [] [] []
+  submission_trace {k} {k'} {answer = answer} s drew = record {
     knows = subst (KnowsMore k k') (sym (append-nil (map Happened (submission_added 0 answer)))) s.knows;
     fits = (s.fits, tt);
     in_order = (s.later, tt);
@@ -350,7 +350,7 @@ module _ {link : LinkStand} {w w' : Option (List (List ℕ))} {c c' : ℕ} (low 
       → Did ready (stand k link w c) (stand k' link w' c') (Taking n at [] Submits) (Between (n + 1))
   quiet_did {n = n} {answer = answer} s drew quiet = record {
     acts = Submit s.point s.first s.second answer ∷ [];
-    course = submission_course s drew;
+    trace = submission_trace s drew;
     leads = (Between (n + 1), submits_none quiet, refl);
   }
 
@@ -358,7 +358,7 @@ module _ {link : LinkStand} {w w' : Option (List (List ℕ))} {c c' : ℕ} (low 
       → Did ready (stand k link w c) (stand k' link w' c') (Taking n at [] Submits) (Sending n at e)
   entry_did {ready} {n} {at} {answer = answer} {e = e} s drew is = record {
     acts = Submit s.point s.first s.second answer ∷ [];
-    course = submission_course s drew;
+    trace = submission_trace s drew;
     leads = (Sending n at e, subst (λ a. Goes ready (Taking n at [] Submits) (Submit s.point s.first s.second a) (Sending n at e)) (sym is) submits_entry, refl);
   }
 
@@ -370,7 +370,7 @@ module _ {link : LinkStand} {w w' : Option (List (List ℕ))} {c c' : ℕ} (low 
     written = [];
     answers = [];
     words = drawn;
-    course = record { knows = knows; fits = tt; in_order = tt; link = exchanged_none link; words_are = drew; chance = low };
+    trace = record { knows = knows; fits = tt; in_order = tt; link = exchanged_none link; words_are = drew; chance = low };
     leads = refl;
     within = at_most (n + 1);
     beside = record { sent_due = (0, refl); came = inl refl; few = few; drawn = λ no. absurd (no is) };

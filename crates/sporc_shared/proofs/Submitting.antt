@@ -22,13 +22,13 @@ use Rattle.sporc_shared.specs.declared.answered.Answered.{Answered}
 use Rattle.sporc_shared.specs.declared.fault.SessionFault.{SessionFault}
 use Rattle.sporc_shared.specs.declared.fault.SessionFault.TheVariants as faults
 use Rattle.sporc_shared.specs.Calls.{IsCall, SubmitsAt}
-use Rattle.sporc_shared.specs.Courses.{CountsSame, KnowsMore}
+use Rattle.sporc_shared.specs.Traces.{CountsSame, KnowsMore}
 use Rattle.sporc_shared.specs.Endings.{SubmitGives, Submission}
 use Rattle.sporc_shared.specs.Items.{Item, Happened, Past, client_of, items_of}
 use Rattle.sporc_shared.specs.Outcomes.{Drew, DrewFew, SubmittedOne}
 use Rattle.sporc_shared.specs.Points.{IsPoint}
 use Rattle.sporc_shared.specs.Replies.{made_of, plain_of}
-use Rattle.sporc_shared.proofs.Coursing.{words_none}
+use Rattle.sporc_shared.proofs.Tracing.{words_none}
 use Rattle.sporc_shared.proofs.EntryLengths.{submitted_len}
 use Rattle.sporc_shared.proofs.Knowing.{call_client, call_counts, call_drop, call_knows, call_later, call_point, knows_none}
 use Rattle.sporc_shared.proofs.Taking.{WornAs, none_point, plain_case, plain_counts}

@@ -16,7 +16,7 @@ use Rattle.sporc_shared.specs.declared.answered.Answered.{Answered}
 use Rattle.sporc_shared.specs.declared.fault.SessionFault.{SessionFault}
 use Rattle.sporc_shared.specs.Acts.{all_of, items_by}
 use Rattle.sporc_shared.specs.Calls.{IsCall}
-use Rattle.sporc_shared.specs.Courses.{CountsSame, KnowsMore}
+use Rattle.sporc_shared.specs.Traces.{CountsSame, KnowsMore}
 use Rattle.sporc_shared.specs.Endings.{AcceptGives, TakeCause, TakingStopped, takes_of}
 use Rattle.sporc_shared.specs.Items.{Item, Happened, Past, client_of, items_of}
 use Rattle.sporc_shared.specs.Outcomes.{TookAll, TookOne}

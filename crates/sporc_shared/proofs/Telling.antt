@@ -10,7 +10,7 @@ use Rattle.sporc_shared.specs.declared.answered.Answered.{Answered}
 use Rattle.sporc_shared.specs.declared.fault.SessionFault.{SessionFault}
 use Rattle.sporc_shared.specs.declared.fault.SessionFault.TheVariants as faults
 use Rattle.sporc_shared.specs.Calls.{IsCall}
-use Rattle.sporc_shared.specs.Courses.{CountsSame, KnowsMore, stand}
+use Rattle.sporc_shared.specs.Traces.{CountsSame, KnowsMore, stand}
 use Rattle.sporc_shared.specs.Endings.{Stopped}
 use Rattle.sporc_shared.specs.Items.{Item, Past}
 use Rattle.sporc_shared.specs.Protocol.{Mode, rounds_begun}

@@ -11,7 +11,7 @@ use Rattle.sporc_wire.specs.declared.to_server.ToServer.TheVariants as to_server
 use Rattle.sporc_shared.specs.declared.fault.SessionFault.{SessionFault}
 use Rattle.sporc_shared.specs.declared.fault.SessionFault.TheVariants as faults
 use Rattle.sporc_shared.specs.Acts.{ServerReply, Ordered, Rejected, handed_out, all_of, items_by}
-use Rattle.sporc_shared.specs.Courses.{KnowsMore}
+use Rattle.sporc_shared.specs.Traces.{KnowsMore}
 use Rattle.sporc_shared.specs.Endings.{IsAnswer, TakingStopped, takes_of}
 use Rattle.sporc_shared.specs.Items.{Item}
 use Rattle.sporc_shared.specs.Wires.{IsBadFrame, IsCut, IsLastFrom, LinkStand, Exchanged, more_taken, spelled}

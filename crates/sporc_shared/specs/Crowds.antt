@@ -8,7 +8,7 @@ use Rattle.sporc_turn.specs.Passes.{known_of}
 use Rattle.sporc_shared.specs.declared.fault.SessionFault.{SessionFault}
 use Rattle.sporc_shared.specs.declared.fault.SessionFault.TheVariants as faults
 use Rattle.sporc_shared.specs.declared.shared_client.SharedClient.{SharedClient}
-use Rattle.sporc_shared.specs.Courses.{Stand}
+use Rattle.sporc_shared.specs.Traces.{Stand}
 use Rattle.sporc_shared.specs.Items.{Item}
 use Rattle.sporc_shared.specs.Lines.{AreLinesDone, LineEnd}
 use Rattle.sporc_shared.specs.Passes.{IsPassOf}

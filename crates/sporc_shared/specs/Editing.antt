@@ -14,7 +14,7 @@ use Rattle.sporc_shared.specs.declared.editor.Seen.{Seen}
 use Rattle.sporc_shared.specs.declared.fault.SessionFault.{SessionFault}
 use Rattle.sporc_shared.specs.declared.fault.SessionFault.TheVariants as faults
 use Rattle.sporc_shared.specs.declared.look.Look.{Look}
-use Rattle.sporc_shared.specs.Courses.{KnowsMore}
+use Rattle.sporc_shared.specs.Traces.{KnowsMore}
 use Rattle.sporc_shared.specs.Items.{Item, Happened, Past, client_of, items_of}
 use Rattle.sporc_shared.specs.Lines.{AnswersAt, AreLinesDone, Asked, IsDone, LineEnd, LineFails, LineGives, asked_by}
 use Rattle.sporc_shared.specs.Points.{IsPoint}

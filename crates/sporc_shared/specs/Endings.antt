@@ -21,7 +21,7 @@ use Rattle.sporc_client.specs.Submissions.{submission, submission_added}
 use Rattle.sporc_shared.specs.declared.fault.SessionFault.{SessionFault}
 use Rattle.sporc_shared.specs.declared.fault.SessionFault.TheVariants as faults
 use Rattle.sporc_shared.specs.Acts.{Act, Take, Submit, ServerReply, handed_out, reply_message, all_of, items_by, Fits}
-use Rattle.sporc_shared.specs.Courses.{Stand, Course, KnowsMore}
+use Rattle.sporc_shared.specs.Traces.{Stand, Trace, KnowsMore}
 use Rattle.sporc_shared.specs.Items.{Item, Happened}
 use Rattle.sporc_shared.specs.Points.{IsClientAt, IsPoint}
 use Rattle.sporc_shared.specs.Protocol.{Mode, Taking, Stuck, Then, Submits, Leads, message_due, rounds_begun}
@@ -115,7 +115,7 @@ pub record IsBeside (m : Mode) (written : List ℕ) (answers : List ToClient) (w
 -- The receiver did acts that lead from one mode to another, and so it stands there
 pub record Did (ready : ℕ → ℕ → Bool) (a b : Stand) (m m' : Mode) : Type 0 where
   pub acts : List Act
-  pub course : Course a b acts [] [] []
+  pub trace : Trace a b acts [] [] []
   pub leads : Leads ready m acts m'
 
 -- The receiver did acts, and stopped with this fault in the mode to which they lead, with no more rounds begun than these
@@ -125,7 +125,7 @@ pub record Stopped (ready : ℕ → ℕ → Bool) (a b : Stand) (m : Mode) (roun
   pub written : List ℕ
   pub answers : List ToClient
   pub words : List (List ℕ)
-  pub course : Course a b acts written answers words
+  pub trace : Trace a b acts written answers words
   pub leads : Leads ready m acts reached
   pub within : rounds_begun reached ≤ rounds
   pub beside : IsBeside reached written answers words

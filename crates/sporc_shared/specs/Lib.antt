@@ -7,7 +7,7 @@ pub mod Acts
 pub mod Protocol
 pub mod Flows
 pub mod Wires
-pub mod Courses
+pub mod Traces
 pub mod Endings
 pub mod Lines
 pub mod Makers

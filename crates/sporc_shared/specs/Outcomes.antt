@@ -11,7 +11,7 @@ use Rattle.sporc_shared.specs.declared.fault.SessionFault.{SessionFault}
 use Rattle.sporc_shared.specs.declared.fault.SessionFault.TheVariants as faults
 use Rattle.sporc_shared.specs.Acts.{all_of, items_by}
 use Rattle.sporc_shared.specs.Asking.{Gathered, GatherStopped}
-use Rattle.sporc_shared.specs.Courses.{Stand, KnowsMore}
+use Rattle.sporc_shared.specs.Traces.{Stand, KnowsMore}
 use Rattle.sporc_shared.specs.Endings.{TakeCause, TakingStopped, takes_of, SubmitCause, Submission, Did, Stopped}
 use Rattle.sporc_shared.specs.Items.{Item, Happened}
 use Rattle.sporc_shared.specs.Protocol.{Mode, IsQuiet, rounds_begun}

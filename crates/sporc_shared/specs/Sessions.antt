@@ -7,7 +7,7 @@ use Rattle.sporc_shared.specs.declared.fault.SessionFault.{SessionFault}
 use Rattle.sporc_shared.specs.declared.fault.SessionFault.TheVariants as faults
 use Rattle.sporc_shared.specs.Acts.{Look}
 use Rattle.sporc_shared.specs.Calls.{IsLegal}
-use Rattle.sporc_shared.specs.Courses.{Stand, Course}
+use Rattle.sporc_shared.specs.Traces.{Stand, Trace}
 use Rattle.sporc_shared.specs.Endings.{Did, Stopped}
 use Rattle.sporc_shared.specs.Items.{Item, Past, by_of, items_of}
 use Rattle.sporc_shared.specs.Lines.{EditorDid}
@@ -22,7 +22,7 @@ FirstPhase a b rounds (Some fault) = Stopped always a b Asking rounds fault
 pub record Rounds (a b : Stand) (until done at pending : ℕ) : Type 0 where
   pub between : Stand
   pub did : Did (is_unsettled until) a between (Between 0) (Between done)
-  pub last : Course between b (Look (length b.known.seen) at pending ∷ []) [] [] []
+  pub last : Trace between b (Look (length b.known.seen) at pending ∷ []) [] [] []
 
 -- The second phase. It ends when the client is settled, if it isn't after all rounds, or with a fault in a round
 pub data SecondPhase (a b : Stand) (rounds until : ℕ) : Result ⊤ SessionFault → Type 0 where

@@ -4,7 +4,7 @@ ghost use Rattle.std.specs.Prelude.{◌≡◌, ◌+◌, ◌<◌, ◌^◌, length
 ghost use Rattle.std.specs.Result.{result_and, result_err};
 ghost use Rattle.std.specs.Thread.{IsSend, IsSync};
 ghost use Rattle.sporc_turn.specs.Passes.{known_of};
-ghost use Rattle.sporc_shared.specs.Courses.{CountsSame, stand_at};
+ghost use Rattle.sporc_shared.specs.Traces.{CountsSame, stand_at};
 ghost use Rattle.sporc_shared.specs.Crowds.{IsCrowd, IsFirst, IsOther};
 ghost use Rattle.sporc_shared.specs.Editing.{LinesDid};
 ghost use Rattle.sporc_shared.specs.Passes.{IsPassOf, IsWornFor};
@@ -14,7 +14,7 @@ use crate::fault::SessionFault;
 use crate::inbox::Inbox;
 use crate::item::Pass;
 use crate::phase::first_phase;
-use crate::receiver::Went;
+use crate::receiver::WithPass;
 use crate::shared_client::SharedClient;
 use sporc_outside::{Chance, Gate, LeafDisk, Link};
 use sporc_script::EditorScript;
@@ -50,7 +50,7 @@ pub(crate) fn crowd<
 ) -> (Ends, Pass)
     requires lock { IsPassOf shared.now first }
     requires first { (known_of first).number ≡ 0 }
-    requires room { (known_of first).splits + length scripts.now < 2 ^ 32 }
+    requires limit { (known_of first).splits + length scripts.now < 2 ^ 32 }
     ensures lock { IsPassOf shared.now result.1 }
     ensures first { (known_of result.1).number ≡ 0 }
     ensures crowd { IsCrowd
@@ -107,7 +107,7 @@ pub(crate) fn crowd<
                 others,
             )
         },
-        &mut || -> Went<()>
+        &mut || -> WithPass<()>
             requires { IsOther shared.now second }
             ensures { IfSome second.entry (λ p. IsPassOf shared.entry.now result.1 × CountsSame (known_of p) (known_of result.1) × LinesDid (known_of p) (known_of result.1) script.entry.now (result_err result.0)
                 × IfErr result.0 (IsWornFor result.1)) }

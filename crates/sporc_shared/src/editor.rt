@@ -6,7 +6,7 @@ ghost use Rattle.sporc_member.specs.declared.change.Change.TheVariants.{Add, Set
 ghost use Rattle.sporc_script.specs.declared.editor_line.EditorCommand.TheVariants as commands;
 ghost use Rattle.sporc_turn.specs.Passes.{known_of};
 ghost use Rattle.sporc_delta.specs.Marks.{base_len, insertion, removal};
-ghost use Rattle.sporc_shared.specs.Courses.{CountsSame, KnowsMore};
+ghost use Rattle.sporc_shared.specs.Traces.{CountsSame, KnowsMore};
 ghost use Rattle.sporc_shared.specs.Editing.{AskedDid, IsAtFront, IsWornFault, LineDid, LinesDid, StatedDid, seen_of};
 ghost use Rattle.sporc_shared.specs.Lines.{Changes, asked_by};
 ghost use Rattle.sporc_shared.specs.Passes.{IsPassOf, IsWornFor};
@@ -17,7 +17,7 @@ use crate::fault::SessionFault;
 use crate::front::Front;
 use crate::item::Pass;
 use crate::look::Look;
-use crate::receiver::{Went, plain, worn};
+use crate::receiver::{WithPass, plain, worn};
 use crate::shared_client::SharedClient;
 use sporc_base::Memory;
 use sporc_client::EditFault;
@@ -73,7 +73,7 @@ fn looked(reply: Reply<Look>) -> (Result<Seen, u64>, Pass)
 }
 
 // Sees the client.
-fn see<R: Wait, D: LeafDisk>(rt: &R, shared: &SharedClient<D>, pass: Pass) -> Went<Seen>
+fn see<R: Wait, D: LeafDisk>(rt: &R, shared: &SharedClient<D>, pass: Pass) -> WithPass<Seen>
     requires lock { IsPassOf shared.now pass }
     ensures lock { IsPassOf shared.now result.1 }
     ensures counts { CountsSame (known_of pass) (known_of result.1) }
@@ -94,7 +94,7 @@ fn edit_at<R: Wait, D: LeafDisk>(
     line: u32,
     seen: Seen,
     delta: &Delta,
-) -> Went<()>
+) -> WithPass<()>
     requires lock { IsPassOf shared.now pass }
     requires last { IsAtFront (known_of pass) seen.front.events seen.len }
     requires stated { base_len delta.now ≡ seen.len }
@@ -141,7 +141,7 @@ fn insert<R: Wait, D: LeafDisk>(
     pass: Pass,
     line: u32,
     asked: &Insertion,
-) -> Went<()>
+) -> WithPass<()>
     requires lock { IsPassOf shared.now pass }
     ensures lock { IsPassOf shared.now result.1 }
     ensures counts { CountsSame (known_of pass) (known_of result.1) }
@@ -167,7 +167,7 @@ fn remove<R: Wait, D: LeafDisk>(
     pass: Pass,
     line: u32,
     asked: &Removal,
-) -> Went<()>
+) -> WithPass<()>
     requires lock { IsPassOf shared.now pass }
     ensures lock { IsPassOf shared.now result.1 }
     ensures counts { CountsSame (known_of pass) (known_of result.1) }
@@ -192,7 +192,7 @@ fn change<R: Wait, D: LeafDisk>(
     pass: Pass,
     line: u32,
     change: Change,
-) -> Went<()>
+) -> WithPass<()>
     requires lock { IsPassOf shared.now pass }
     ensures lock { IsPassOf shared.now result.1 }
     ensures counts { CountsSame (known_of pass) (known_of result.1) }
@@ -212,7 +212,7 @@ fn do_line<R: Wait, D: LeafDisk, G: Gate>(
     gate: &G,
     pass: Pass,
     line: &EditorLine,
-) -> Went<()>
+) -> WithPass<()>
     requires lock { IsPassOf shared.now pass }
     ensures lock { IsPassOf shared.now result.1 }
     ensures counts { CountsSame (known_of pass) (known_of result.1) }
@@ -284,7 +284,7 @@ pub(crate) fn do_lines<R: Wait, D: LeafDisk, G: Gate>(
     gate: &G,
     pass: Pass,
     lines: &[EditorLine],
-) -> Went<()>
+) -> WithPass<()>
     requires lock { IsPassOf shared.now pass }
     ensures lock { IsPassOf shared.now result.1 }
     ensures counts { CountsSame (known_of pass) (known_of result.1) }

@@ -182,7 +182,7 @@ fn has_on_its_way<D: LeafDisk>(client: &Client<D>, entry: &[u8]) -> bool
 pub(crate) fn hello<D: LeafDisk>(held: &mut Held<Desk<D>>) -> (ToServer, u64)
     ensures unchanged { held.new ≡ held.old }
     ensures hello { let opening = (past_of (value_of held.old).client.value).opening in result.0 ≡ ToServer.Hello opening.genesis.document opening.kit.me.member }
-    ensures short { length (to_server_bytes result.0) ≤ MAX_BODY }
+    ensures within { length (to_server_bytes result.0) ≤ MAX_BODY }
     ensures allowed { IsAllowed (past_of (value_of held.old).client.value) }
     ensures events { result.1 ≡ length (past_of (value_of held.old).client.value).log }
 {
@@ -194,7 +194,7 @@ pub(crate) fn hello<D: LeafDisk>(held: &mut Held<Desk<D>>) -> (ToServer, u64)
 
 pub(crate) fn hello_of(document: &[u8; 16], member: u16) -> ToServer
     ensures value { result ≡ ToServer.Hello document.now member }
-    ensures short { length (to_server_bytes result) ≤ MAX_BODY }
+    ensures within { length (to_server_bytes result) ≤ MAX_BODY }
 {
     ToServer::Hello {
         document: *document,

@@ -13,7 +13,7 @@ use sporc_outside::LeafDisk;
 #[tactic(auto, using(crate::proofs::Journals::length_journal))]
 pub(crate) fn count_events<D: LeafDisk>(client: &Client<D>) -> u64
     ensures value { result ≡ length client.now.log }
-    ensures few { result ≤ MAX_EVENTS }
+    ensures within { result ≤ MAX_EVENTS }
     ensures allowed { is_allowed client.now.opening client.now.log ≡ true }
     ensures sound { IsSound (state_of client.now) }
     ensures leaves { Rise (first_leaf_of client.now) client.now.leaves.next (leaves_of client.now.log) }

@@ -13,7 +13,7 @@ ghost use Rattle.sporc_client.specs.Run.{IsRun, Move, Setup, World, start};
 ghost use Rattle.sporc_shared.specs.declared.fault.SessionFault.{SessionFault};
 ghost use Rattle.sporc_shared.specs.declared.fault.SessionFault.TheVariants as faults;
 ghost use Rattle.sporc_shared.specs.Acts.{Act, all_of};
-ghost use Rattle.sporc_shared.specs.Courses.{Stand};
+ghost use Rattle.sporc_shared.specs.Traces.{Stand};
 ghost use Rattle.sporc_shared.specs.Flows.{came_by, taken_by, waiting, submitted_by, sent_by, unsent};
 ghost use Rattle.sporc_shared.specs.Items.{Past, by_of, client_of, items_of, with_events};
 ghost use Rattle.sporc_shared.specs.Makers.{IsOfItsMaker};

@@ -45,7 +45,7 @@ pub(crate) fn look_at<D: LeafDisk>(client: &Client<D>) -> Look
 fn shown_len<D: LeafDisk>(client: &Client<D>) -> u64
     ensures value { result ≡ length (shown_of (state_of client.now)) }
     ensures front { result ≡ length (shown_after (length client.now.log) (state_of client.now)) }
-    ensures short { result ≤ 2 ^ 36 }
+    ensures within { result ≤ 2 ^ 36 }
 {
     let _committed = client.committed_len();
     let _pending = client.pending();

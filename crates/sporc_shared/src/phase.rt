@@ -3,7 +3,7 @@
 ghost use Rattle.std.specs.Prelude.{◌≡◌, ◌+◌, ℕ, List, Option, IfErr};
 ghost use Rattle.std.specs.Result.{result_err};
 ghost use Rattle.sporc_turn.specs.Passes.{known_of};
-ghost use Rattle.sporc_shared.specs.Courses.{CountsSame, stand, stand_at};
+ghost use Rattle.sporc_shared.specs.Traces.{CountsSame, stand, stand_at};
 ghost use Rattle.sporc_shared.specs.Outcomes.{DidOrStopped};
 ghost use Rattle.sporc_shared.specs.Passes.{IsPassOf, IsWornFor};
 ghost use Rattle.sporc_shared.specs.Protocol.{Asking, Between, always, is_unsettled};
@@ -15,7 +15,7 @@ use crate::fault::SessionFault;
 use crate::inbox::Inbox;
 use crate::item::Pass;
 use crate::look::Look;
-use crate::receiver::{Went, plain, worn};
+use crate::receiver::{WithPass, plain, worn};
 use crate::round::round;
 use crate::shared_client::SharedClient;
 use sporc_outside::{Chance, Gate, LeafDisk, Link};
@@ -30,7 +30,7 @@ fn greet<R: Wait, D: LeafDisk, L: Link>(
     link: &mut L,
     inbox: &Inbox,
     pass: Pass,
-) -> Went<()>
+) -> WithPass<()>
     requires lock { IsPassOf shared.now pass }
     requires first { (known_of pass).number ≡ 0 }
     ensures lock { IsPassOf shared.now result.1 }
@@ -60,7 +60,7 @@ fn look_and_round<R: Wait, D: LeafDisk, L: Link, C: Chance, G: Gate>(
     inbox: &mut Inbox,
     chance: &mut C,
     pass: Pass,
-) -> Went<()>
+) -> WithPass<()>
     requires lock { IsPassOf shared.now pass }
     requires first { (known_of pass).number ≡ 0 }
     ensures lock { IsPassOf shared.now result.1 }
@@ -91,7 +91,7 @@ fn rounds_of<R: Wait, D: LeafDisk, L: Link, C: Chance, G: Gate>(
     chance: &mut C,
     pass: Pass,
     rounds: u32,
-) -> Went<()>
+) -> WithPass<()>
     requires lock { IsPassOf shared.now pass }
     requires first { (known_of pass).number ≡ 0 }
     ensures lock { IsPassOf shared.now result.1 }
@@ -127,7 +127,7 @@ pub(crate) fn first_phase<R: Wait, D: LeafDisk, L: Link, C: Chance, G: Gate>(
     chance: &mut C,
     pass: Pass,
     rounds: u32,
-) -> Went<()>
+) -> WithPass<()>
     requires lock { IsPassOf shared.now pass }
     requires first { (known_of pass).number ≡ 0 }
     ensures lock { IsPassOf shared.now result.1 }
@@ -165,7 +165,7 @@ pub(crate) fn second_phase<R: Wait, D: LeafDisk, L: Link, C: Chance, G: Gate>(
     pass: Pass,
     rounds: u32,
     until: u32,
-) -> Went<()>
+) -> WithPass<()>
     requires lock { IsPassOf shared.now pass }
     requires first { (known_of pass).number ≡ 0 }
     ensures lock { IsPassOf shared.now result.1 }

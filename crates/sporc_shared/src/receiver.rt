@@ -10,7 +10,7 @@ ghost use Rattle.sporc_wire.specs.declared.cutter.TheConstants.{MAX_BODY};
 ghost use Rattle.sporc_head.specs.declared.limits.TheConstants.{MAX_ENTRIES};
 ghost use Rattle.sporc_turn.specs.Passes.{known_of};
 ghost use Rattle.sporc_shared.specs.Calls.{IsCall};
-ghost use Rattle.sporc_shared.specs.Courses.{CountsSame};
+ghost use Rattle.sporc_shared.specs.Traces.{CountsSame};
 ghost use Rattle.sporc_shared.specs.Items.{Past, client_of};
 ghost use Rattle.sporc_shared.specs.Outcomes.{Drew, DrewFew, SubmittedOne, TookAll, TookOne};
 ghost use Rattle.sporc_shared.specs.Passes.{IsPassOf, IsReplyOf, IsWornFor, IsWornOnErr};
@@ -30,7 +30,7 @@ use std::sync::Wait;
 use std::vec::IntoIter;
 
 // A step's answer or the fault of the session, and the pass.
-pub(crate) type Went<T> = (Result<T, SessionFault>, Pass);
+pub(crate) type WithPass<T> = (Result<T, SessionFault>, Pass);
 
 // The answer, or the ticket that wasn't drawn, and the pass.
 pub(crate) fn plain<A>(reply: Reply<A>) -> (Result<A, u64>, Pass)
@@ -130,10 +130,10 @@ fn take_under<R: Wait, D: LeafDisk, G: Gate>(
     at: u32,
     entry: Bytes,
     key: Option<[u8; 56]>,
-) -> Went<()>
+) -> WithPass<()>
     requires lock { IsPassOf shared.now pass }
     requires first { (known_of pass).number ≡ 0 }
-    requires small { at ≤ MAX_ENTRIES }
+    requires limit { at ≤ MAX_ENTRIES }
     ensures lock { IsPassOf shared.now result.1 }
     ensures counts { CountsSame (known_of pass) (known_of result.1) }
     ensures took { TookOne (known_of pass) (known_of result.1) at entry result.0 }
@@ -157,10 +157,10 @@ fn take_one<R: Wait, D: LeafDisk, G: Gate>(
     pass: Pass,
     at: u32,
     entry: Bytes,
-) -> Went<()>
+) -> WithPass<()>
     requires lock { IsPassOf shared.now pass }
     requires first { (known_of pass).number ≡ 0 }
-    requires small { at ≤ MAX_ENTRIES }
+    requires limit { at ≤ MAX_ENTRIES }
     ensures lock { IsPassOf shared.now result.1 }
     ensures counts { CountsSame (known_of pass) (known_of result.1) }
     ensures took { TookOne (known_of pass) (known_of result.1) at entry result.0 }
@@ -181,10 +181,10 @@ pub(crate) fn take_all<R: Wait, D: LeafDisk, G: Gate>(
     pass: Pass,
     at: u32,
     mut entries: IntoIter<Bytes>,
-) -> Went<()>
+) -> WithPass<()>
     requires lock { IsPassOf shared.now pass }
     requires first { (known_of pass).number ≡ 0 }
-    requires small { at ≤ MAX_ENTRIES }
+    requires limit { at ≤ MAX_ENTRIES }
     ensures lock { IsPassOf shared.now result.1 }
     ensures counts { CountsSame (known_of pass) (known_of result.1) }
     ensures took { TookAll (known_of pass) (known_of result.1) at (into_iter_items entries) result.0 }
@@ -231,14 +231,14 @@ pub(crate) fn submit<R: Wait, D: LeafDisk, C: Chance>(
     shared: &SharedClient<D>,
     chance: &mut C,
     pass: Pass,
-) -> Went<Option<Bytes>>
+) -> WithPass<Option<Bytes>>
     requires lock { IsPassOf shared.now pass }
     requires first { (known_of pass).number ≡ 0 }
     ensures lock { IsPassOf shared.now result.1 }
     ensures counts { CountsSame (known_of pass) (known_of result.1) }
     ensures kept { (C.told chance.old).faults ≤ (C.told chance.new).faults }
     ensures submitted { SubmittedOne (known_of pass) (known_of result.1) (C.told chance.old).given (C.told chance.new).given (C.told chance.old).faults (C.told chance.new).faults result.0 }
-    ensures short { IfOk result.0 (λ made. IfSome made (λ entry. length entry < MAX_BODY)) }
+    ensures within { IfOk result.0 (λ made. IfSome made (λ entry. length entry < MAX_BODY)) }
     ensures worn { IfErr result.0 (IsWornFor result.1) }
 {
     match draw(chance) {

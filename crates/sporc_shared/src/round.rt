@@ -5,7 +5,7 @@ ghost use Rattle.sporc_head.specs.declared.refusal.Refusal.{Refusal};
 ghost use Rattle.sporc_head.specs.declared.limits.TheConstants.{MAX_ENTRIES};
 ghost use Rattle.sporc_turn.specs.Passes.{known_of};
 ghost use Rattle.sporc_wire.specs.declared.cutter.TheConstants.{MAX_BODY};
-ghost use Rattle.sporc_shared.specs.Courses.{CountsSame, stand, stand_at};
+ghost use Rattle.sporc_shared.specs.Traces.{CountsSame, stand, stand_at};
 ghost use Rattle.sporc_shared.specs.Outcomes.{DidOrStopped, GatheredAll};
 ghost use Rattle.sporc_shared.specs.Passes.{IsPassOf, IsWornFor};
 ghost use Rattle.sporc_shared.specs.Protocol.{Between, Pulling, Taking, Sending, Checking, Submits, Drains};
@@ -16,7 +16,7 @@ use crate::exchange::{pull, send_entry};
 use crate::fault::SessionFault;
 use crate::inbox::Inbox;
 use crate::item::Pass;
-use crate::receiver::{Went, plain, submit, take_all};
+use crate::receiver::{WithPass, plain, submit, take_all};
 use crate::shared_client::SharedClient;
 use sporc_base::Bytes;
 use sporc_head::Refusal;
@@ -34,10 +34,10 @@ fn gather<R: Wait, D: LeafDisk, L: Link, G: Gate>(
     inbox: &mut Inbox,
     pass: Pass,
     at: u32,
-) -> Went<u32>
+) -> WithPass<u32>
     requires lock { IsPassOf shared.now pass }
     requires first { (known_of pass).number ≡ 0 }
-    requires small { at ≤ MAX_ENTRIES }
+    requires limit { at ≤ MAX_ENTRIES }
     ensures lock { IsPassOf shared.now result.1 }
     ensures counts { CountsSame (known_of pass) (known_of result.1) }
     ensures gathered { GatheredAll (known_of pass) (known_of result.1)
@@ -71,10 +71,10 @@ fn drain<R: Wait, D: LeafDisk, L: Link, G: Gate>(
     inbox: &mut Inbox,
     pass: Pass,
     at: u32,
-) -> Went<()>
+) -> WithPass<()>
     requires lock { IsPassOf shared.now pass }
     requires first { (known_of pass).number ≡ 0 }
-    requires small { at ≤ MAX_ENTRIES }
+    requires limit { at ≤ MAX_ENTRIES }
     ensures lock { IsPassOf shared.now result.1 }
     ensures counts { CountsSame (known_of pass) (known_of result.1) }
     ensures did { (ready : ℕ → ℕ → Bool) (n : ℕ) (words : Option (List (List ℕ))) (count : ℕ) (entry : List ℕ) (refusal : Refusal)
@@ -120,7 +120,7 @@ fn check<R: Wait, D: LeafDisk>(
     pass: Pass,
     entry: &[u8],
     refusal: Refusal,
-) -> Went<()>
+) -> WithPass<()>
     requires lock { IsPassOf shared.now pass }
     requires first { (known_of pass).number ≡ 0 }
     ensures lock { IsPassOf shared.now result.1 }
@@ -148,10 +148,10 @@ fn settle<R: Wait, D: LeafDisk, L: Link, G: Gate>(
     at: u32,
     entry: &[u8],
     refusal: Refusal,
-) -> Went<()>
+) -> WithPass<()>
     requires lock { IsPassOf shared.now pass }
     requires first { (known_of pass).number ≡ 0 }
-    requires small { at ≤ MAX_ENTRIES }
+    requires limit { at ≤ MAX_ENTRIES }
     ensures lock { IsPassOf shared.now result.1 }
     ensures counts { CountsSame (known_of pass) (known_of result.1) }
     ensures did { (ready : ℕ → ℕ → Bool) (n : ℕ) (words : Option (List (List ℕ))) (count : ℕ)
@@ -180,11 +180,11 @@ fn offer<R: Wait, D: LeafDisk, L: Link, G: Gate>(
     pass: Pass,
     at: u32,
     entry: Bytes,
-) -> Went<()>
+) -> WithPass<()>
     requires lock { IsPassOf shared.now pass }
     requires first { (known_of pass).number ≡ 0 }
-    requires small { at ≤ MAX_ENTRIES }
-    requires short { length entry < MAX_BODY }
+    requires limit { at ≤ MAX_ENTRIES }
+    requires entry_limit { length entry < MAX_BODY }
     ensures lock { IsPassOf shared.now result.1 }
     ensures counts { CountsSame (known_of pass) (known_of result.1) }
     ensures did { (ready : ℕ → ℕ → Bool) (n : ℕ) (words : Option (List (List ℕ))) (count : ℕ)
@@ -227,10 +227,10 @@ fn give<R: Wait, D: LeafDisk, L: Link, C: Chance, G: Gate>(
     chance: &mut C,
     pass: Pass,
     at: u32,
-) -> Went<()>
+) -> WithPass<()>
     requires lock { IsPassOf shared.now pass }
     requires first { (known_of pass).number ≡ 0 }
-    requires small { at ≤ MAX_ENTRIES }
+    requires limit { at ≤ MAX_ENTRIES }
     ensures lock { IsPassOf shared.now result.1 }
     ensures counts { CountsSame (known_of pass) (known_of result.1) }
     ensures did { (ready : ℕ → ℕ → Bool) (n : ℕ)
@@ -262,10 +262,10 @@ pub(crate) fn round<R: Wait, D: LeafDisk, L: Link, C: Chance, G: Gate>(
     chance: &mut C,
     pass: Pass,
     at: u32,
-) -> Went<()>
+) -> WithPass<()>
     requires lock { IsPassOf shared.now pass }
     requires first { (known_of pass).number ≡ 0 }
-    requires small { at ≤ MAX_ENTRIES }
+    requires limit { at ≤ MAX_ENTRIES }
     ensures lock { IsPassOf shared.now result.1 }
     ensures counts { CountsSame (known_of pass) (known_of result.1) }
     ensures did { (ready : ℕ → ℕ → Bool) (n : ℕ)

@@ -4,7 +4,7 @@ ghost use Rattle.std.specs.Prelude.{◌≡◌, ◌≤◌, [], length, IfErr};
 ghost use Rattle.sporc_script.specs.declared.limits.TheConstants.{MAX_EDITORS};
 ghost use Rattle.sporc_turn.specs.Passes.{known_of, out_of};
 ghost use Rattle.sporc_turn.specs.Log.{Agrees};
-ghost use Rattle.sporc_shared.specs.Courses.{IsAllowedLog, stand_at};
+ghost use Rattle.sporc_shared.specs.Traces.{IsAllowedLog, stand_at};
 ghost use Rattle.sporc_shared.specs.Items.{by_of};
 ghost use Rattle.sporc_shared.specs.Passes.{IsPassOf, IsWornFor};
 ghost use Rattle.sporc_shared.specs.Sessions.{IsSession};
@@ -60,7 +60,7 @@ pub fn session<
     requires alone { ((known_of pass).splits ≡ 0) × ((known_of pass).joined ≡ []) }
     requires allowed { IsAllowedLog (known_of pass).seen }
     requires agrees { Agrees by_of (known_of pass) (known_of pass).seen }
-    requires few { length editors.now ≤ MAX_EDITORS }
+    requires limit { length editors.now ≤ MAX_EDITORS }
     ensures lock { IsPassOf shared.now result.1 }
     ensures back { ((known_of result.1).number ≡ 0) × (out_of result.1 ≡ 0) }
     ensures session { (inbox : InboxModel) × IsSession

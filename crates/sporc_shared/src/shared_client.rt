@@ -236,7 +236,7 @@ impl<D: LeafDisk> SharedClient<D> {
         ensures call { IfOk result (λ r. (before : Past)
             × IsCall (known_of pass) (known_of r.pass) before []
             × (r.answer ≡ ToServer.Hello before.opening.genesis.document before.opening.kit.me.member)) }
-        ensures short { IfOk result (λ r. length (to_server_bytes r.answer) ≤ MAX_BODY) }
+        ensures within { IfOk result (λ r. length (to_server_bytes r.answer) ≤ MAX_BODY) }
         ensures worn { IsWornOnErr pass result }
     {
         let mut held = self.turn.take(rt, pass)?;
@@ -266,7 +266,7 @@ impl<D: LeafDisk> SharedClient<D> {
     pub fn split(&self, pass: Pass) -> Result<(Pass, Pass), (Pass, Memory)>
         requires lock { IsPassOf self.now pass }
         requires first { (known_of pass).number ≡ 0 }
-        requires room { (known_of pass).splits + 1 < 2 ^ 32 }
+        requires limit { (known_of pass).splits + 1 < 2 ^ 32 }
         ensures lock { IfOk result (λ r. IsPassOf self.now r.0 × IsPassOf self.now r.1) }
         ensures old { IfOk result (λ r. known_of r.0 ≡ splitting (known_of pass)) }
         ensures new { IfOk result (λ r. known_of r.1 ≡ copied (known_of pass)) }

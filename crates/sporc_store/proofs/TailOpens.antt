@@ -55,7 +55,7 @@ pub too_long : (stored : Option (List ℕ)) (before after len : ℕ) → IsWhole
 too_long None before after len h = let long = some_long MAX_FILE in (long.0, tt, long.1)
 too_long (Some bytes) before after len h = (bytes, refl, omega (arith, h.0, h.1))
 
--- the same after a call that failed less often, where the bytes told are the same
+-- such a fault of reading, after a call that failed less often, where the bytes told are the same
 pub reading_later : (old stored : Option (List ℕ)) (before mid after : ℕ) (fault : TailFault) → stored ≡ old → before ≤ mid → IsReadingFault stored mid after fault
     → IsReadingFault old before after fault
 reading_later old stored before mid after Failed same le h = omega (arith, le, h)

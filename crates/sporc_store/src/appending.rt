@@ -42,7 +42,7 @@ pub(crate) fn append_saved<H: History>(
     append_entries(alloc, history, entries.as_slice(), stop)
 }
 
-// The same, with the signatures of the file's entries examined by so many workers: while entries are appended, they examine
+// Appends such entries with their signatures examined by so many workers: while entries are appended, they examine
 // those behind.
 pub(crate) fn append_examined<R: Threads + Wait + Sync, G: Gate + Sync, H: DocumentHistory>(
     rt: &R,
@@ -53,7 +53,7 @@ pub(crate) fn append_examined<R: Threads + Wait + Sync, G: Gate + Sync, H: Docum
     gate: &G,
 ) -> Result<Stop, Memory>
     requires empty { H.entries history.old ≡ [] }
-    requires some { 1 ≤ workers }
+    requires positive { 1 ≤ workers }
     requires limit { workers ≤ MAX_WORKERS }
     ensures ok { IfOk result (λ stop. read_to (H.entries history.new) stop ≡ loaded (H.checker history.old) (H.genesis history.old).document bytes.now) }
     ensures named { IfOk result NamesCheck }
@@ -82,7 +82,7 @@ fn foretold_entries<'a>(
 ) -> Result<(Vec<SavedEntry<'a>>, Stop), Memory>
     requires is_genesis { IsGenesis genesis.now }
     ensures ok { IfOk result (λ read. read_to read.0.items read.1 ≡ saved_in genesis.now.document bytes.entry.now) }
-    ensures room { IfOk result (λ read. vec_len read.0 < 2 ^ 32) }
+    ensures within { IfOk result (λ read. vec_len read.0 < 2 ^ 32) }
     ensures named { IfOk result (λ read. NamesCheck read.1) }
 {
     let roster = Roster::found(alloc, genesis.founders.as_slice())?;
@@ -104,10 +104,10 @@ fn append_blocks<R: Threads + Wait + Sync, G: Gate + Sync, H: History>(
     workers: u32,
     gate: &G,
 ) -> Result<Stop, Memory>
-    requires count { length (H.entries history.old) ≡ before }
-    requires room { before + length entries.old < 2 ^ 32 }
-    requires known { known ≤ length entries.old }
-    requires some { 1 ≤ workers }
+    requires before { length (H.entries history.old) ≡ before }
+    requires entries_limit { before + length entries.old < 2 ^ 32 }
+    requires in_bounds { known ≤ length entries.old }
+    requires positive { 1 ≤ workers }
     requires limit { workers ≤ MAX_WORKERS }
     requires named { NamesCheck stop }
     ensures ok { IfOk result (λ end. read_to (H.entries history.new) end ≡ accepted_from (H.checker history.old) (H.entries history.old) entries.old stop) }
@@ -143,10 +143,10 @@ fn append_beside<R: Threads + Wait + Sync, G: Gate + Sync, H: History>(
     workers: u32,
     gate: &G,
 ) -> Result<Option<Stop>, Memory>
-    requires taken { length (H.entries history.old) ≡ before }
-    requires room { before + length block.now + length rest.old < 2 ^ 32 }
-    requires within { count ≤ length rest.old }
-    requires some { 1 ≤ workers }
+    requires before { length (H.entries history.old) ≡ before }
+    requires entries_limit { before + length block.now + length rest.old < 2 ^ 32 }
+    requires in_bounds { count ≤ length rest.old }
+    requires positive { 1 ≤ workers }
     requires limit { workers ≤ MAX_WORKERS }
     ensures ok { IfOk result (λ refused. AppendsPart (H.checker history.old) (H.entries history.old) block.now refused (H.entries history.new)) }
     ensures memory { OnErr result (AppendsSome (H.checker history.old) (H.entries history.old) block.now (H.entries history.new)) }
@@ -191,8 +191,8 @@ fn append_beside<R: Threads + Wait + Sync, G: Gate + Sync, H: History>(
 
 // How many of the entries to examine the first worker takes, while it appends so many: its part of all that is to be done.
 fn first_share(appended: usize, count: usize, workers: u32) -> usize
-    requires some { 1 ≤ workers }
-    requires room { appended + count < 2 ^ 32 }
+    requires positive { 1 ≤ workers }
+    requires limit { appended + count < 2 ^ 32 }
     ensures within { result ≤ count }
 {
     let appending = appended / APPENDING;
@@ -218,8 +218,8 @@ fn append_and_examine<R: Wait, G: Gate, H: History>(
     block: &[SavedEntry<'_>],
     next: &[SavedEntry<'_>],
 ) -> Result<Appended, Memory>
-    requires count { length (H.entries history.old) ≡ before }
-    requires room { before + length block.now + length next.now < 2 ^ 32 }
+    requires before { length (H.entries history.old) ≡ before }
+    requires limit { before + length block.now + length next.now < 2 ^ 32 }
     ensures ok { IfOk result (λ appended. AppendsPart (H.checker history.old) (H.entries history.old) block.now appended.refused (H.entries history.new)) }
     ensures exact { IfOk result (λ appended. IfNone appended.refused (AreExact appended.verdicts.items next.now)) }
     ensures memory { OnErr result (AppendsSome (H.checker history.old) (H.entries history.old) block.now (H.entries history.new)) }
@@ -244,7 +244,7 @@ fn append_entries<H: History>(
     stop: Stop,
 ) -> Result<Stop, Memory>
     requires empty { H.entries history.old ≡ [] }
-    requires room { length entries.now < 2 ^ 32 }
+    requires limit { length entries.now < 2 ^ 32 }
     requires named { NamesCheck stop }
     ensures ok { IfOk result (λ end. read_to (H.entries history.new) end ≡ accepted (H.checker history.old) (read_to entries.now stop)) }
     ensures named { IfOk result NamesCheck }
@@ -265,8 +265,8 @@ pub(crate) fn append_part<H: History>(
     before: usize,
     entries: &[SavedEntry<'_>],
 ) -> Result<Option<Stop>, Memory>
-    requires count { length (H.entries history.old) ≡ before }
-    requires room { before + length entries.now < 2 ^ 32 }
+    requires before { length (H.entries history.old) ≡ before }
+    requires limit { before + length entries.now < 2 ^ 32 }
     ensures ok { IfOk result (λ refused. AppendsPart (H.checker history.old) (H.entries history.old) entries.now refused (H.entries history.new)) }
     ensures refused { IfOk result (λ refused. IfSome refused IsRefused) }
     ensures memory { OnErr result (AppendsSome (H.checker history.old) (H.entries history.old) entries.now (H.entries history.new)) }

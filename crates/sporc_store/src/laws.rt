@@ -71,7 +71,7 @@ pub fn tails_are_read_again()
 /// The tail is on a file that tells its bytes, and behaves as [`AppendFile`] says. Of a file that tells none, as a real one, this
 /// says nothing.
 pub fn nothing_ordered_is_lost<A: AppendFile>()
-    ensures kept { (genesis : Genesis) → NothingIsLost A.told genesis }
+    ensures nothing_lost { (genesis : Genesis) → NothingIsLost A.told genesis }
     ensures found { (genesis : Genesis) → IsFoundAgain A.told genesis }
     ensures begins_again { (genesis : Genesis) → BeginsAgain A.told genesis }
 {}

@@ -75,7 +75,7 @@ pub fn load_many<R: Threads + Wait + Sync, G: Gate + Sync>(
     workers: u32,
     gate: &G,
 ) -> Result<(Line, Stop), (Line, Memory)>
-    requires some { 1 ≤ workers }
+    requires positive { 1 ≤ workers }
     requires limit { workers ≤ MAX_WORKERS }
     requires empty { line.entries ≡ [] }
     ensures ok { IfOk result (λ done. read_to done.0.entries done.1
@@ -94,7 +94,7 @@ pub fn load_many<R: Threads + Wait + Sync, G: Gate + Sync>(
     }
 }
 
-/// The same over the empty order of the document, which makes the checks that need no key.
+/// Loads a saved history into the empty order of the document, which makes the checks that need no key.
 pub fn load_order(
     alloc: Global,
     bytes: &[u8],
@@ -126,7 +126,7 @@ pub fn load_order_many<R: Threads + Wait + Sync, G: Gate + Sync>(
     workers: u32,
     gate: &G,
 ) -> Result<(Order, Stop), (Order, Memory)>
-    requires some { 1 ≤ workers }
+    requires positive { 1 ≤ workers }
     requires limit { workers ≤ MAX_WORKERS }
     requires empty { order.entries ≡ [] }
     ensures ok { IfOk result (λ done. read_to done.0.entries done.1

@@ -50,7 +50,7 @@ pub(crate) fn saved_entries<'a>(
     bytes: &'a [u8],
 ) -> Result<(Vec<SavedEntry<'a>>, Stop), Memory>
     ensures ok { IfOk result (λ read. read_to read.0.items read.1 ≡ saved_in document.now bytes.entry.now) }
-    ensures room { IfOk result (λ read. vec_len read.0 < 2 ^ 32) }
+    ensures within { IfOk result (λ read. vec_len read.0 < 2 ^ 32) }
     ensures named { IfOk result (λ read. NamesCheck read.1) }
 {
     match open(document, bytes) {
@@ -66,7 +66,7 @@ fn counted_entries<'a>(
     count: u32,
 ) -> Result<(Vec<SavedEntry<'a>>, Stop), Memory>
     ensures ok { IfOk result (λ read. read_to read.0.items read.1 ≡ entries_at count cursor.old) }
-    ensures room { IfOk result (λ read. vec_len read.0 < 2 ^ 32) }
+    ensures within { IfOk result (λ read. vec_len read.0 < 2 ^ 32) }
     ensures named { IfOk result (λ read. NamesCheck read.1) }
 {
     let mut entries = Vec::new(alloc);

@@ -64,8 +64,8 @@ impl<A: AppendFile> TailFile<A> {
         ensures why { IfErr result (λ e. IsFaultOfRead order.old.genesis order.old.entries (A.told file).stored (A.told file).faults (A.told e.1).faults e.0) }
         ensures still_told { IfErr result (λ e. StaysTold order.old.entries order.old.genesis.document (A.told file).stored (A.told e.1).stored) }
         ensures genesis { order.new.genesis ≡ order.old.genesis }
-        ensures count { IfOk result (λ tail. (A.told file).faults ≤ (A.told tail.file).faults) }
-        ensures kept { IfErr result (λ e. (A.told file).faults ≤ (A.told e.1).faults) }
+        ensures kept { IfOk result (λ tail. (A.told file).faults ≤ (A.told tail.file).faults) }
+        ensures returned_kept { IfErr result (λ e. (A.told file).faults ≤ (A.told e.1).faults) }
     {
         let mut file = file;
         let document = *order.document();
@@ -136,7 +136,7 @@ fn begin<A: AppendFile>(alloc: Global, file: &mut A, order: &mut Order) -> Resul
     ensures why { IfErr result (IsFaultOfRead order.old.genesis order.old.entries (A.told file.old).stored (A.told file.old).faults (A.told file.new).faults) }
     ensures still_told { OnErr result (StaysTold order.old.entries order.old.genesis.document (A.told file.old).stored (A.told file.new).stored) }
     ensures genesis { order.new.genesis ≡ order.old.genesis }
-    ensures count { (A.told file.old).faults ≤ (A.told file.new).faults }
+    ensures kept { (A.told file.old).faults ≤ (A.told file.new).faults }
 {
     let bytes = read_synced(alloc, file)?;
     let tail = take_tail(alloc, order, &bytes)?;
@@ -152,7 +152,7 @@ fn read_synced<A: AppendFile>(alloc: Global, file: &mut A) -> Result<Vec<u8>, Ta
     ensures err { IfErr result (IsReadingFault (A.told file.old).stored (A.told file.old).faults (A.told file.new).faults) }
     ensures stored { (A.told file.new).stored ≡ (A.told file.old).stored }
     ensures images { FileSteps (use_of A.told file.old file.new) IsSame }
-    ensures count { (A.told file.old).faults ≤ (A.told file.new).faults }
+    ensures kept { (A.told file.old).faults ≤ (A.told file.new).faults }
 {
     file.sync()?;
     let bytes = read_file(alloc, file)?;
@@ -166,7 +166,7 @@ fn read_file<A: AppendFile>(alloc: Global, file: &mut A) -> Result<Vec<u8>, Tail
     ensures err { IfErr result (IsReadingFault (A.told file.old).stored (A.told file.old).faults (A.told file.new).faults) }
     ensures stored { (A.told file.new).stored ≡ (A.told file.old).stored }
     ensures images { FileSteps (use_of A.told file.old file.new) IsSame }
-    ensures count { (A.told file.old).faults ≤ (A.told file.new).faults }
+    ensures kept { (A.told file.old).faults ≤ (A.told file.new).faults }
 {
     match file.read_whole(alloc) {
         Ok(bytes) => Ok(bytes),
@@ -183,13 +183,13 @@ fn take_tail<'a>(
     order: &mut Order,
     bytes: &'a [u8],
 ) -> Result<TailEntries<'a>, TailFault>
-    requires within { length bytes.now ≤ MAX_FILE }
+    requires limit { length bytes.now ≤ MAX_FILE }
     ensures reads { IfOk result (λ tail. tail_behind order.old.entries order.old.genesis.document bytes.entry.now ≡ Ok (taken_to tail.entries.items tail.whole)) }
     ensures accepted { IfOk result (λ tail. accepted_from (an_order order.old.genesis) order.old.entries tail.entries.items Stop.End ≡ read_to order.new.entries Stop.End) }
     ensures all { IfOk result (λ tail. order.new.entries ≡ order.old.entries ++ tail.entries.items) }
-    ensures whole { IfOk result (λ tail. tail.whole ≤ length bytes.entry.now) }
+    ensures within { IfOk result (λ tail. tail.whole ≤ length bytes.entry.now) }
     ensures fits { IfOk result (λ _. IsBytes bytes.entry.now) }
-    ensures few { IfOk result (λ _. length order.old.entries ≤ MAX_ENTRIES) }
+    ensures entries_within { IfOk result (λ _. length order.old.entries ≤ MAX_ENTRIES) }
     ensures err { IfErr result (IsTakingFault order.old.genesis order.old.entries (tail_behind order.old.entries order.old.genesis.document bytes.entry.now)) }
     ensures genesis { order.new.genesis ≡ order.old.genesis }
 {
@@ -201,7 +201,7 @@ fn take_tail<'a>(
 
 // Takes the entries of a tail through the checks of an order.
 fn take_entries(alloc: Global, order: &mut Order, tail: &TailEntries<'_>) -> Result<(), TailFault>
-    requires room { length order.old.entries + length tail.now.entries.items < 2 ^ 32 }
+    requires limit { length order.old.entries + length tail.now.entries.items < 2 ^ 32 }
     ensures ok { OnOk result (accepted_from (an_order order.old.genesis) order.old.entries tail.now.entries.items Stop.End ≡ read_to order.new.entries Stop.End) }
     ensures all { OnOk result (order.new.entries ≡ order.old.entries ++ tail.now.entries.items) }
     ensures err { IfErr result (IsRefusal (accepted_from (an_order order.old.genesis) order.old.entries tail.now.entries.items Stop.End)) }

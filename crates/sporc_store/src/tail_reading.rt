@@ -40,12 +40,12 @@ pub(crate) fn read_tail<'a>(
     document: &[u8; 16],
     bytes: &'a [u8],
 ) -> Result<TailEntries<'a>, TailFault>
-    requires log { length log.now ≤ MAX_ENTRIES }
-    requires bytes { length bytes.now ≤ MAX_FILE }
+    requires log_limit { length log.now ≤ MAX_ENTRIES }
+    requires bytes_limit { length bytes.now ≤ MAX_FILE }
     ensures ok { IfOk result (λ tail. tail_behind (map (λ e. e.items) log.now) document.now bytes.entry.now ≡ Ok (taken_to tail.entries.items tail.whole)) }
     ensures err { IfErr result (IsUnread (tail_behind (map (λ e. e.items) log.now) document.now bytes.entry.now)) }
     ensures within { IfOk result (λ tail. tail.whole ≤ length bytes.entry.now) }
-    ensures few { IfOk result (λ tail. length tail.entries.items ≤ length bytes.entry.now) }
+    ensures entries_within { IfOk result (λ tail. length tail.entries.items ≤ length bytes.entry.now) }
 {
     let head = tail_head_of(document);
     if bytes.starts_with(&head) {
@@ -66,13 +66,13 @@ fn read_records<'a>(
     log: &[Vec<u8>],
     bytes: &'a [u8],
 ) -> Result<TailEntries<'a>, TailFault>
-    requires log { length log.now ≤ MAX_ENTRIES }
+    requires log_limit { length log.now ≤ MAX_ENTRIES }
     requires head { TAIL_HEAD_LEN ≤ length bytes.now }
-    requires bytes { length bytes.now ≤ MAX_FILE }
+    requires bytes_limit { length bytes.now ≤ MAX_FILE }
     ensures ok { IfOk result (λ tail. records_of (map (λ e. e.items) log.now) (behind_head bytes.entry.now) (number_at w32 (behind_head bytes.entry.now)) ≡ Ok (taken_to tail.entries.items tail.whole)) }
     ensures err { IfErr result (IsUnread (records_of (map (λ e. e.items) log.now) (behind_head bytes.entry.now) (number_at w32 (behind_head bytes.entry.now)))) }
     ensures within { IfOk result (λ tail. tail.whole ≤ length bytes.entry.now) }
-    ensures few { IfOk result (λ tail. length tail.entries.items ≤ length bytes.entry.now) }
+    ensures entries_within { IfOk result (λ tail. length tail.entries.items ≤ length bytes.entry.now) }
 {
     let records = &bytes[TAIL_HEAD_LEN..];
     let mut start = Cursor::within(records, TAIL_HEAD_LEN);
@@ -98,12 +98,12 @@ fn records_from<'a>(
     first: u32,
     cursor: Cursor<'a>,
 ) -> Result<TailEntries<'a>, TailFault>
-    requires first { first ≤ MAX_ENTRIES + 1 }
-    requires bytes { length cursor.rest ≤ MAX_FILE }
+    requires first_limit { first ≤ MAX_ENTRIES + 1 }
+    requires bytes_limit { length cursor.rest ≤ MAX_FILE }
     ensures ok { IfOk result (λ tail. records_behind (length cursor.entry.rest) (map (λ e. e.items) ahead.now) first cursor.entry ≡ Ok (taken_to tail.entries.items tail.whole)) }
     ensures err { IfErr result (IsUnread (records_behind (length cursor.entry.rest) (map (λ e. e.items) ahead.now) first cursor.entry)) }
     ensures within { IfOk result (λ tail. tail.whole ≤ cursor.entry.at + length cursor.entry.rest) }
-    ensures few { IfOk result (λ tail. length tail.entries.items ≤ length cursor.entry.rest) }
+    ensures entries_within { IfOk result (λ tail. length tail.entries.items ≤ length cursor.entry.rest) }
 {
     let mut cursor = cursor;
     let mut ahead = ahead;
@@ -137,7 +137,7 @@ fn take_record<'a, 'b>(
     ensures whole { IfOk result (λ goes. IsTrue goes → tail.new.whole ≡ cursor.new.at) }
     ensures end { IfOk result (λ goes. IsTrue goes → cursor.new.at + length cursor.new.rest ≡ cursor.old.at + length cursor.old.rest) }
     ensures within { OnOk result (tail.new.whole ≤ cursor.old.at + length cursor.old.rest) }
-    ensures few { OnOk result (length tail.new.entries.items ≤ length tail.old.entries.items + 1) }
+    ensures entries_within { OnOk result (length tail.new.entries.items ≤ length tail.old.entries.items + 1) }
 {
     let entry = match read_record(cursor, position) {
         Ok(entry) => entry,

@@ -24,8 +24,8 @@ pub(crate) fn examine_by<R: Threads + Wait + Sync, G: Gate + Sync>(
     before: u32,
     entries: &[SavedEntry<'_>],
 ) -> Result<Vec<Option<Verdict>>, Memory>
-    requires few { worker + workers < 2 ^ 32 }
-    requires room { before + length entries.now < 2 ^ 32 }
+    requires workers_limit { worker + workers < 2 ^ 32 }
+    requires limit { before + length entries.now < 2 ^ 32 }
     ensures { IfOk result (λ verdicts. AreExact verdicts.items entries.now) }
 {
     if workers <= 1 {
@@ -53,7 +53,7 @@ pub(crate) fn examine_by<R: Threads + Wait + Sync, G: Gate + Sync>(
     Ok(verdicts)
 }
 
-// The same by one worker.
+// Examines the signatures of entries by one worker.
 pub(crate) fn examine_part<R: Wait, G: Gate>(
     rt: &R,
     alloc: Global,
@@ -77,7 +77,7 @@ pub(crate) fn examine_part<R: Wait, G: Gate>(
 // Tells each of the first few entries what its examination found.
 #[tactic(auto, using(crate::proofs::Exactly::exact_count))]
 pub(crate) fn tell(entries: &mut [SavedEntry<'_>], count: usize, verdicts: &[Option<Verdict>])
-    requires within { count ≤ length entries.old }
+    requires in_bounds { count ≤ length entries.old }
     requires exact { AreExact verdicts.now (take count entries.old) }
     ensures { entries.new ≡ entries.old }
 {

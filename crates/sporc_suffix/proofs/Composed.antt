@@ -1,6 +1,6 @@
 -- Forms composed two by two.
 use Rattle.std.proofs.Common.{◌≡◌, ℕ, zero, suc, ◌+◌, ◌≤◌, List, [], ◌∷◌, ◌++◌, length, drop, refl, ap, sym, subst, ◌∙◌, arith}
-use Rattle.sporc_delta.specs.Marks.{Mark, Retain, Delete, Insert, base_len, out_len, inserted_len}
+use Rattle.sporc_delta.specs.Marks.{Mark, Keep, Remove, Insert, base_len, out_len, inserted_len}
 use Rattle.sporc_delta.specs.Transforms.{later, compose}
 use Rattle.sporc_xform.proofs.LawLemmas.{composes, passes_both}
 use Rattle.sporc_suffix.specs.Forms.{Follow, Fits, all_inserted, later_over}
@@ -62,31 +62,31 @@ Joined-runs (suc level) fs h = Joined-pairs (runs_of level fs) (Joined-runs leve
 inserted_after : (q : List Mark) → inserted_len (compose [] q) ≤ inserted_len q
 inserted_after [] = omega arith
 inserted_after (Insert c ∷ q) = omega (arith, inserted_after q)
-inserted_after (Retain ∷ q) = omega arith
-inserted_after (Delete ∷ q) = omega arith
+inserted_after (Keep ∷ q) = omega arith
+inserted_after (Remove ∷ q) = omega arith
 
-inserted_delete : (p : List Mark) → ((q : List Mark) → inserted_len (compose p q) ≤ inserted_len p + inserted_len q) → (q : List Mark) → inserted_len (compose (Delete ∷ p) q) ≤ inserted_len p + inserted_len q
-inserted_delete p ih [] = ih []
-inserted_delete p ih (Insert c ∷ q) = omega (arith, inserted_delete p ih q)
-inserted_delete p ih (Retain ∷ q) = ih (Retain ∷ q)
-inserted_delete p ih (Delete ∷ q) = ih (Delete ∷ q)
+inserted_remove : (p : List Mark) → ((q : List Mark) → inserted_len (compose p q) ≤ inserted_len p + inserted_len q) → (q : List Mark) → inserted_len (compose (Remove ∷ p) q) ≤ inserted_len p + inserted_len q
+inserted_remove p ih [] = ih []
+inserted_remove p ih (Insert c ∷ q) = omega (arith, inserted_remove p ih q)
+inserted_remove p ih (Keep ∷ q) = ih (Keep ∷ q)
+inserted_remove p ih (Remove ∷ q) = ih (Remove ∷ q)
 
-inserted_retain : (p : List Mark) → ((q : List Mark) → inserted_len (compose p q) ≤ inserted_len p + inserted_len q) → (q : List Mark) → inserted_len (compose (Retain ∷ p) q) ≤ inserted_len p + inserted_len q
-inserted_retain p ih [] = omega arith
-inserted_retain p ih (Insert c ∷ q) = omega (arith, inserted_retain p ih q)
-inserted_retain p ih (Retain ∷ q) = ih q
-inserted_retain p ih (Delete ∷ q) = ih q
+inserted_keep : (p : List Mark) → ((q : List Mark) → inserted_len (compose p q) ≤ inserted_len p + inserted_len q) → (q : List Mark) → inserted_len (compose (Keep ∷ p) q) ≤ inserted_len p + inserted_len q
+inserted_keep p ih [] = omega arith
+inserted_keep p ih (Insert c ∷ q) = omega (arith, inserted_keep p ih q)
+inserted_keep p ih (Keep ∷ q) = ih q
+inserted_keep p ih (Remove ∷ q) = ih q
 
 inserted_insert : (c : ℕ) (p : List Mark) → ((q : List Mark) → inserted_len (compose p q) ≤ inserted_len p + inserted_len q) → (q : List Mark) → inserted_len (compose (Insert c ∷ p) q) ≤ suc (inserted_len p) + inserted_len q
 inserted_insert c p ih [] = omega arith
 inserted_insert c p ih (Insert d ∷ q) = omega (arith, inserted_insert c p ih q)
-inserted_insert c p ih (Retain ∷ q) = omega (arith, ih q)
-inserted_insert c p ih (Delete ∷ q) = omega (arith, ih q)
+inserted_insert c p ih (Keep ∷ q) = omega (arith, ih q)
+inserted_insert c p ih (Remove ∷ q) = omega (arith, ih q)
 
 pub inserted_len-compose : (p q : List Mark) → inserted_len (compose p q) ≤ inserted_len p + inserted_len q
 inserted_len-compose [] q = omega (arith, inserted_after q)
-inserted_len-compose (Retain ∷ p) q = inserted_retain p (inserted_len-compose p) q
-inserted_len-compose (Delete ∷ p) q = inserted_delete p (inserted_len-compose p) q
+inserted_len-compose (Keep ∷ p) q = inserted_keep p (inserted_len-compose p) q
+inserted_len-compose (Remove ∷ p) q = inserted_remove p (inserted_len-compose p) q
 inserted_len-compose (Insert c ∷ p) q = inserted_insert c p (inserted_len-compose p) q
 
 all_inserted-pairs : (fs : List (List Mark)) → all_inserted (pairs fs) ≤ all_inserted fs

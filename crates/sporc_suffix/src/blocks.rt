@@ -79,10 +79,10 @@ impl Blocks {
         requires limit { length self.old.forms < 2 ^ 32 - 1 }
         ensures ok { IfOk result (λ ready. ready.form ≡ form) }
         ensures made { IfOk result (IsReadyAt self.new.base self.new.forms) }
-        ensures spare { OnOk result (0 < self.new.spare) }
+        ensures room { OnOk result (0 < self.new.spare) }
         ensures returned { IfErr result (λ e. e.0 ≡ form) }
-        ensures unchanged_base { self.new.base ≡ self.old.base }
-        ensures unchanged_forms { self.new.forms ≡ self.old.forms }
+        ensures base_unchanged { self.new.base ≡ self.old.base }
+        ensures forms_unchanged { self.new.forms ≡ self.old.forms }
     {
         match room_and_runs(&mut self.forms, &form) {
             Ok(runs) => Ok(ReadyForm::new(form, runs)),
@@ -94,7 +94,7 @@ impl Blocks {
     pub fn put(&mut self, ready: ReadyForm)
         requires made { IsReadyAt self.old.base self.old.forms ready }
         requires limit { length self.old.forms < 2 ^ 32 - 1 }
-        requires spare { 0 < self.old.spare }
+        requires room { 0 < self.old.spare }
         ensures base { self.new.base ≡ self.old.base }
         ensures forms { self.new.forms ≡ self.old.forms ++ ready.form ∷ [] }
     {
@@ -127,7 +127,7 @@ impl Blocks {
         from: u32,
         steps: &mut Steps<L>,
     ) -> Result<Delta, Memory>
-        requires within { from ≤ length self.now.forms }
+        requires in_bounds { from ≤ length self.now.forms }
         requires base { base_len q.now ≡ reached self.now.base (take from self.now.forms) }
         requires limit { base_len q.now + inserted_len q.now + all_inserted (drop from self.now.forms) ≤ MAX_TEXT_LEN }
         ensures ok { IfOk result (λ d. d ≡ later_over q.now (drop from self.now.forms)) }
@@ -149,11 +149,11 @@ impl Blocks {
 
 // Takes the room of one more form, and composes the runs that it ends.
 fn room_and_runs(forms: &mut Vec<ReadyForm>, form: &Delta) -> Result<Vec<Delta>, Memory>
-    requires kept { KeepRuns forms.old.items }
-    requires few { length forms.old.items < 2 ^ 32 }
+    requires runs { KeepRuns forms.old.items }
+    requires limit { length forms.old.items < 2 ^ 32 }
     requires joined { Joined (forms_in forms.old.items ++ form.now ∷ []) }
     ensures ok { IfOk result (λ runs. EndWith (forms_in forms.old.items ++ form.now ∷ []) (length forms.old.items) runs.items) }
-    ensures spare { OnOk result (0 < vec_capacity forms.new - vec_len forms.new) }
+    ensures room { OnOk result (0 < vec_capacity forms.new - vec_len forms.new) }
     ensures unchanged { forms.new.items ≡ forms.old.items }
 {
     forms.reserve(1)?;

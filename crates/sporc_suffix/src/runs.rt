@@ -27,9 +27,9 @@ fn last_of(level: usize, place: usize) -> usize
 
 // The run at a place, in one delta.
 fn run_at(forms: &[ReadyForm], level: usize, place: usize) -> &Delta
-    requires kept { KeepRuns forms.now }
-    requires few { length forms.now < 2 ^ 32 }
-    requires within { place < length (runs_of level (forms_in forms.now)) }
+    requires runs { KeepRuns forms.now }
+    requires limit { length forms.now < 2 ^ 32 }
+    requires in_bounds { place < length (runs_of level (forms_in forms.now)) }
     ensures value { slice_get (runs_of level (forms_in forms.now)) place ≡ Some result.now }
 {
     let last = &forms[last_of(level, place)];
@@ -46,8 +46,8 @@ pub(crate) fn runs_ended(
     forms: &[ReadyForm],
     form: &Delta,
 ) -> Result<Vec<Delta>, Memory>
-    requires kept { KeepRuns forms.now }
-    requires few { length forms.now < 2 ^ 32 }
+    requires runs { KeepRuns forms.now }
+    requires limit { length forms.now < 2 ^ 32 }
     requires joined { Joined (forms_in forms.now ++ form.now ∷ []) }
     ensures ok { IfOk result (λ runs. EndWith (forms_in forms.now ++ form.now ∷ []) (length forms.now) runs.items) }
 {
@@ -91,11 +91,11 @@ pub(crate) fn over_runs<L: Ledger>(
     count: usize,
     steps: &mut Steps<L>,
 ) -> Result<Delta, Memory>
-    requires kept { KeepRuns forms.now }
-    requires few { length forms.now < 2 ^ 32 }
-    requires level { level + count ≤ length forms.now }
-    requires count { count ≡ length (runs_of level (forms_in forms.now)) }
-    requires within { from ≤ count }
+    requires runs { KeepRuns forms.now }
+    requires limit { length forms.now < 2 ^ 32 }
+    requires level_limit { level + count ≤ length forms.now }
+    requires all_runs { count ≡ length (runs_of level (forms_in forms.now)) }
+    requires in_bounds { from ≤ count }
     requires fits { Fits q (drop from (runs_of level (forms_in forms.now))) }
     ensures ok { IfOk result (λ d. d ≡ later_over q (drop from (runs_of level (forms_in forms.now)))) }
     ensures cost { (steps.old ≤ steps.new) × TwoADigit steps.old steps.new (count - from) }
@@ -121,11 +121,11 @@ fn over_one<L: Ledger>(
     end: usize,
     steps: &mut Steps<L>,
 ) -> Result<Delta, Memory>
-    requires kept { KeepRuns forms.now }
-    requires few { length forms.now < 2 ^ 32 }
+    requires runs { KeepRuns forms.now }
+    requires limit { length forms.now < 2 ^ 32 }
     requires one { end ≤ from + 1 }
     requires from { from ≤ end }
-    requires within { end ≤ length (runs_of level (forms_in forms.now)) }
+    requires in_bounds { end ≤ length (runs_of level (forms_in forms.now)) }
     requires fits { Fits q (take (end - from) (drop from (runs_of level (forms_in forms.now)))) }
     ensures ok { IfOk result (λ d. d ≡ later_over q (take (end - from) (drop from (runs_of level (forms_in forms.now))))) }
     ensures cost { (steps.old ≤ steps.new) × (steps.new ≤ steps.old + 1) }

@@ -2,38 +2,38 @@
 use Rattle.std.proofs.Common.{◌≡◌, ℕ, zero, suc, ◌+◌, ◌<◌, ◌≤◌, List, [], ◌∷◌, ◌++◌, length, take, drop, get_or, refl, ap, sym, ◌∙◌, append_assoc, append-nil, add-one, arith, drop-cons, length-drop}
 use Rattle.std.proofs.lemmas.List.{drop-drop}
 use Rattle.sporc_delta.specs.declared.part.Part.{Part}
-use Rattle.sporc_delta.specs.declared.part.Part.TheVariants.{Keep, Insert as InsertText, Remove}
-use Rattle.sporc_delta.specs.Marks.{Mark, Retain, Delete, Insert, base_len, out_len, apply, retains, deletes, inserts}
+use Rattle.sporc_delta.specs.declared.part.Part.TheVariants.{Keep as KeepRun, Insert as InsertText, Remove as RemoveRun}
+use Rattle.sporc_delta.specs.Marks.{Mark, Keep, Remove, Insert, base_len, out_len, apply, keep_marks, remove_marks, insert_marks}
 use Rattle.sporc_delta.specs.Parts.{part_marks, marks_of}
-use Rattle.sporc_delta.proofs.Lengths.{base_len-append, base_len-retains, base_len-deletes, base_len-inserts, out_len-append, out_len-retains}
+use Rattle.sporc_delta.proofs.Lengths.{base_len-append, base_len-keep_marks, base_len-remove_marks, base_len-insert_marks, out_len-append, out_len-keep_marks}
 use Rattle.sporc_text.specs.Edit.{IsBetween, characters_read, characters_written}
 use Rattle.sporc_text.specs.ReadyTextModel.{replaced}
 
 -- a part in front reads so many characters more
 base_len-part : (p : Part) (ms : List Mark) → base_len (part_marks p ++ ms) ≡ characters_read p + base_len ms
-base_len-part (Keep n) ms = rw (base_len-append, base_len-retains) refl
-base_len-part (InsertText t) ms = rw (base_len-append, base_len-inserts) refl
-base_len-part (Remove n) ms = rw (base_len-append, base_len-deletes) refl
+base_len-part (KeepRun n) ms = rw (base_len-append, base_len-keep_marks) refl
+base_len-part (InsertText t) ms = rw (base_len-append, base_len-insert_marks) refl
+base_len-part (RemoveRun n) ms = rw (base_len-append, base_len-remove_marks) refl
 
-apply-retains : (n : ℕ) (ms : List Mark) (s : List ℕ) → n ≤ length s → apply (retains n ++ ms) s ≡ take n s ++ apply ms (drop n s)
-apply-retains zero ms s h = refl
-apply-retains (suc n) ms [] h = absurd (omega arith)
-apply-retains (suc n) ms (c ∷ s) h = ap (λ l. c ∷ l) (apply-retains n ms s (omega arith))
+apply-keep_marks : (n : ℕ) (ms : List Mark) (s : List ℕ) → n ≤ length s → apply (keep_marks n ++ ms) s ≡ take n s ++ apply ms (drop n s)
+apply-keep_marks zero ms s h = refl
+apply-keep_marks (suc n) ms [] h = absurd (omega arith)
+apply-keep_marks (suc n) ms (c ∷ s) h = ap (λ l. c ∷ l) (apply-keep_marks n ms s (omega arith))
 
-apply-deletes : (n : ℕ) (ms : List Mark) (s : List ℕ) → n ≤ length s → apply (deletes n ++ ms) s ≡ apply ms (drop n s)
-apply-deletes zero ms s h = refl
-apply-deletes (suc n) ms [] h = absurd (omega arith)
-apply-deletes (suc n) ms (c ∷ s) h = apply-deletes n ms s (omega arith)
+apply-remove_marks : (n : ℕ) (ms : List Mark) (s : List ℕ) → n ≤ length s → apply (remove_marks n ++ ms) s ≡ apply ms (drop n s)
+apply-remove_marks zero ms s h = refl
+apply-remove_marks (suc n) ms [] h = absurd (omega arith)
+apply-remove_marks (suc n) ms (c ∷ s) h = apply-remove_marks n ms s (omega arith)
 
-apply-inserts : (t : List ℕ) (ms : List Mark) (s : List ℕ) → apply (inserts t ++ ms) s ≡ t ++ apply ms s
-apply-inserts [] ms s = refl
-apply-inserts (c ∷ t) ms s = ap (λ l. c ∷ l) (apply-inserts t ms s)
+apply-insert_marks : (t : List ℕ) (ms : List Mark) (s : List ℕ) → apply (insert_marks t ++ ms) s ≡ t ++ apply ms s
+apply-insert_marks [] ms s = refl
+apply-insert_marks (c ∷ t) ms s = ap (λ l. c ∷ l) (apply-insert_marks t ms s)
 
 -- a part in front writes its characters, and the others go on behind those that it read
 apply-part : (p : Part) (ms : List Mark) (s : List ℕ) → characters_read p ≤ length s → apply (part_marks p ++ ms) s ≡ characters_written p s ++ apply ms (drop (characters_read p) s)
-apply-part (Keep n) ms s h = apply-retains n ms s h
-apply-part (InsertText t) ms s h = apply-inserts t ms s
-apply-part (Remove n) ms s h = apply-deletes n ms s h
+apply-part (KeepRun n) ms s h = apply-keep_marks n ms s h
+apply-part (InsertText t) ms s h = apply-insert_marks t ms s
+apply-part (RemoveRun n) ms s h = apply-remove_marks n ms s h
 
 -- what the parts from i on read of a text from a place on, and what they write after those before them
 pub record IsEditedTo (parts : List Part) (i : ℕ) (text : List ℕ) (at : ℕ) (out whole : List ℕ) : Type 0 where
@@ -44,28 +44,28 @@ pub edit_begins : (parts : List Part) (text : List ℕ) (at : ℕ) (out : List �
 edit_begins parts text at out fits = record { reads = fits; writes = refl }
 
 -- the characters behind the last change are kept
-apply-last : (ms : List Mark) (n : ℕ) (s : List ℕ) → base_len ms + n ≡ length s → apply (ms ++ retains n) s ≡ apply ms s ++ drop (base_len ms) s
+apply-last : (ms : List Mark) (n : ℕ) (s : List ℕ) → base_len ms + n ≡ length s → apply (ms ++ keep_marks n) s ≡ apply ms s ++ drop (base_len ms) s
 apply-last [] zero [] h = refl
 apply-last [] zero (c ∷ s) h = absurd (omega arith)
 apply-last [] (suc n) [] h = absurd (omega arith)
 apply-last [] (suc n) (c ∷ s) h = ap (λ l. c ∷ l) (apply-last [] n s (omega arith))
 apply-last (Insert c ∷ ms) n s h = ap (λ l. c ∷ l) (apply-last ms n s h)
-apply-last (Retain ∷ ms) n [] h = absurd (omega arith)
-apply-last (Retain ∷ ms) n (c ∷ s) h = ap (λ l. c ∷ l) (apply-last ms n s (omega arith))
-apply-last (Delete ∷ ms) n [] h = absurd (omega arith)
-apply-last (Delete ∷ ms) n (c ∷ s) h = apply-last ms n s (omega arith)
+apply-last (Keep ∷ ms) n [] h = absurd (omega arith)
+apply-last (Keep ∷ ms) n (c ∷ s) h = ap (λ l. c ∷ l) (apply-last ms n s (omega arith))
+apply-last (Remove ∷ ms) n [] h = absurd (omega arith)
+apply-last (Remove ∷ ms) n (c ∷ s) h = apply-last ms n s (omega arith)
 
 -- the marks of parts and of one behind them
-pub marks_of-keep : (ps : List Part) (n : ℕ) → marks_of (ps ++ Keep n ∷ []) ≡ marks_of ps ++ retains n
-marks_of-keep [] n = append-nil (retains n)
-marks_of-keep (p ∷ ps) n = ap (λ (ms : List Mark). part_marks p ++ ms) (marks_of-keep ps n) ∙ sym (append_assoc (part_marks p) (marks_of ps) (retains n))
+pub marks_of-keep : (ps : List Part) (n : ℕ) → marks_of (ps ++ KeepRun n ∷ []) ≡ marks_of ps ++ keep_marks n
+marks_of-keep [] n = append-nil (keep_marks n)
+marks_of-keep (p ∷ ps) n = ap (λ (ms : List Mark). part_marks p ++ ms) (marks_of-keep ps n) ∙ sym (append_assoc (part_marks p) (marks_of ps) (keep_marks n))
 
-pub between : (delta marks others middle : List Mark) (kept left : ℕ) → marks ≡ delta → marks ≡ retains kept ++ others → others ≡ middle ++ retains left → IsBetween delta middle kept left
+pub between : (delta marks others middle : List Mark) (kept left : ℕ) → marks ≡ delta → marks ≡ keep_marks kept ++ others → others ≡ middle ++ keep_marks left → IsBetween delta middle kept left
 between delta marks others middle kept left is front back =
-    let whole : delta ≡ retains kept ++ (middle ++ retains left) = sym is ∙ front ∙ ap (λ (ms : List Mark). retains kept ++ ms) back in
+    let whole : delta ≡ keep_marks kept ++ (middle ++ keep_marks left) = sym is ∙ front ∙ ap (λ (ms : List Mark). keep_marks kept ++ ms) back in
     record {
-      reads = omega (arith, ap base_len whole, base_len-append (retains kept) (middle ++ retains left), base_len-append middle (retains left), base_len-retains kept, base_len-retains left);
-      writes = omega (arith, ap out_len whole, out_len-append (retains kept) (middle ++ retains left), out_len-append middle (retains left), out_len-retains kept, out_len-retains left);
+      reads = omega (arith, ap base_len whole, base_len-append (keep_marks kept) (middle ++ keep_marks left), base_len-append middle (keep_marks left), base_len-keep_marks kept, base_len-keep_marks left);
+      writes = omega (arith, ap out_len whole, out_len-append (keep_marks kept) (middle ++ keep_marks left), out_len-append middle (keep_marks left), out_len-keep_marks kept, out_len-keep_marks left);
       marks_are = whole;
     }
 
@@ -75,7 +75,7 @@ between_writes delta middle kept left removed text written h fits gone is =
     let rest : length (drop kept text) ≡ base_len middle + left = omega (arith, length-drop kept text, h.reads, fits) in
     let behind : drop (base_len middle) (drop kept text) ≡ drop (kept + removed) text = drop-drop (base_len middle) kept text ∙ ap (λ (k : ℕ). drop (kept + k) text) (sym gone) in
     sym (ap (λ (ms : List Mark). apply ms text) h.marks_are
-    ∙ apply-retains kept (middle ++ retains left) text (omega (arith, h.reads, fits))
+    ∙ apply-keep_marks kept (middle ++ keep_marks left) text (omega (arith, h.reads, fits))
     ∙ ap (λ (l : List ℕ). take kept text ++ l) (apply-last middle left (drop kept text) (sym rest))
     ∙ ap (λ (l : List ℕ). take kept text ++ (l ++ drop (base_len middle) (drop kept text))) (sym is)
     ∙ ap (λ (l : List ℕ). take kept text ++ (written ++ l)) behind)

@@ -1,6 +1,6 @@
 -- What a delta and one part of it do to the characters that they stand at.
 use Rattle.std.specs.Prelude.{◌≡◌, ℕ, ◌+◌, List, [], ◌++◌, take}
-use Rattle.sporc_delta.specs.Marks.{Mark, base_len, out_len, retains}
+use Rattle.sporc_delta.specs.Marks.{Mark, base_len, out_len, keep_marks}
 use Rattle.sporc_delta.specs.declared.part.Part.{Part}
 use Rattle.sporc_delta.specs.declared.part.Part.TheVariants.{Keep, Insert, Remove}
 
@@ -20,4 +20,4 @@ characters_written (Remove n) rest = []
 pub record IsBetween (delta middle : List Mark) (kept left : ℕ) : Type 0 where
   pub reads : base_len delta ≡ kept + base_len middle + left
   pub writes : out_len delta ≡ kept + out_len middle + left
-  pub marks_are : delta ≡ retains kept ++ (middle ++ retains left)
+  pub marks_are : delta ≡ keep_marks kept ++ (middle ++ keep_marks left)

@@ -153,7 +153,7 @@ fn push_behind(list: &mut Vec<Chunk>, chunks: IntoIter<Chunk>, skipped: usize)
 fn push_all(list: &mut Vec<Chunk>, characters: &[char], spare: Vec<Chunk>)
     requires chunks { AreChunks list.old.items }
     requires room { HasRoom (vec_capacity list.old) (length (concat list.old.items) + length characters.now) }
-    requires spare { length characters.now ≤ MAX_CHUNK * vec_len spare }
+    requires spare_room { length characters.now ≤ MAX_CHUNK * vec_len spare }
     ensures chunks { AreChunks list.new.items }
     ensures value { concat list.new.items ≡ concat list.old.items ++ characters.now }
     ensures capacity { vec_capacity list.old ≤ vec_capacity list.new }
@@ -219,7 +219,7 @@ fn is_within(chunks: &[Chunk], i: usize, splice: &Splice<'_>) -> bool
 // Writes a chunk anew, from its beginning on.
 fn replace_within(chunks: &mut Vec<Chunk>, i: usize, splice: &Splice<'_>, spare: Chunk)
     requires chunks { AreChunks chunks.old.items }
-    requires within { IsWithin chunks.old.items i splice.now.kept splice.now.removed (length splice.now.middle.now) }
+    requires in_bounds { IsWithin chunks.old.items i splice.now.kept splice.now.removed (length splice.now.middle.now) }
     ensures chunks { AreChunks chunks.new.items }
     ensures value { concat chunks.new.items ≡ concat (take i chunks.old.items) ++ replaced splice.now.kept splice.now.removed splice.now.middle.now (concat (drop i chunks.old.items)) }
 {
@@ -229,7 +229,7 @@ fn replace_within(chunks: &mut Vec<Chunk>, i: usize, splice: &Splice<'_>, spare:
 
 // A chunk of these characters after a splice.
 fn respelled(old: &[char], splice: &Splice<'_>, spare: Chunk) -> Chunk
-    requires within { splice.now.kept + splice.now.removed ≤ length old.now }
+    requires in_bounds { splice.now.kept + splice.now.removed ≤ length old.now }
     requires limit { length old.now - splice.now.removed + length splice.now.middle.now ≤ MAX_CHUNK }
     ensures { result ≡ replaced splice.now.kept splice.now.removed splice.now.middle.now old.now }
 {
@@ -249,13 +249,13 @@ fn rebuild(
     spare: Vec<Chunk>,
 )
     requires chunks { AreChunks chunks.old.items }
-    requires index { i ≤ length chunks.old.items }
-    requires kept { splice.now.kept ≤ length (slice_index_or chunks.old.items i []) }
-    requires within { splice.now.kept + splice.now.removed ≤ length (concat (drop i chunks.old.items)) }
+    requires index_in_bounds { i ≤ length chunks.old.items }
+    requires kept_in_bounds { splice.now.kept ≤ length (slice_index_or chunks.old.items i []) }
+    requires in_bounds { splice.now.kept + splice.now.removed ≤ length (concat (drop i chunks.old.items)) }
     requires limit { splice.now.kept + splice.now.removed < 2 ^ 64 }
     requires empty { list.items ≡ [] }
     requires room { HasRoom (vec_capacity list) (length (concat (take i chunks.old.items)) + length (replaced splice.now.kept splice.now.removed splice.now.middle.now (concat (drop i chunks.old.items)))) }
-    requires spare { length splice.now.middle.now ≤ MAX_CHUNK * vec_len spare }
+    requires spare_room { length splice.now.middle.now ≤ MAX_CHUNK * vec_len spare }
     ensures chunks { AreChunks chunks.new.items }
     ensures value { concat chunks.new.items ≡ concat (take i chunks.old.items) ++ replaced splice.now.kept splice.now.removed splice.now.middle.now (concat (drop i chunks.old.items)) }
 {
@@ -279,13 +279,13 @@ pub(crate) fn rewrite(
     spare: Vec<Chunk>,
 )
     requires chunks { AreChunks chunks.old.items }
-    requires index { i ≤ length chunks.old.items }
-    requires kept { splice.now.kept ≤ length (slice_index_or chunks.old.items i []) }
-    requires within { splice.now.kept + splice.now.removed ≤ length (concat (drop i chunks.old.items)) }
+    requires index_in_bounds { i ≤ length chunks.old.items }
+    requires kept_in_bounds { splice.now.kept ≤ length (slice_index_or chunks.old.items i []) }
+    requires in_bounds { splice.now.kept + splice.now.removed ≤ length (concat (drop i chunks.old.items)) }
     requires limit { splice.now.kept + splice.now.removed < 2 ^ 64 }
     requires empty { list.items ≡ [] }
     requires room { HasRoom (vec_capacity list) (length (concat (take i chunks.old.items)) + length (replaced splice.now.kept splice.now.removed splice.now.middle.now (concat (drop i chunks.old.items)))) }
-    requires spare { length splice.now.middle.now ≤ MAX_CHUNK * vec_len spare }
+    requires spare_room { length splice.now.middle.now ≤ MAX_CHUNK * vec_len spare }
     ensures chunks { AreChunks chunks.new.items }
     ensures value { concat chunks.new.items ≡ concat (take i chunks.old.items) ++ replaced splice.now.kept splice.now.removed splice.now.middle.now (concat (drop i chunks.old.items)) }
 {

@@ -73,7 +73,7 @@ impl Doc {
     #[tactic(auto, using(crate::proofs::Spelled::spelled))]
     pub fn text(&self) -> Result<String, Memory>
         ensures ok { IfOk result (λ t. string_bytes t ≡ encode_utf8_all self.now) }
-        ensures chars { IfOk result (λ t. chars (string_bytes t) ≡ self.now) }
+        ensures characters { IfOk result (λ t. chars (string_bytes t) ≡ self.now) }
     {
         let mut text = String::with_capacity(*self.chunks.allocator(), self.len)?;
         for chunk in &self.chunks {

@@ -3,7 +3,7 @@
 ghost use Rattle.std.specs.Prelude.{◌≡◌, ◌+◌, ◌≤◌, ◌++◌, length, take, drop, OnOk, IfOk};
 ghost use Rattle.std.specs.List.{concat};
 ghost use Rattle.sporc_delta.specs.declared.limits.TheConstants.{MAX_TEXT_LEN};
-ghost use Rattle.sporc_delta.specs.Marks.{base_len, apply, retains};
+ghost use Rattle.sporc_delta.specs.Marks.{base_len, apply, keep_marks};
 ghost use Rattle.sporc_delta.specs.Parts.{marks_of};
 ghost use Rattle.sporc_text.specs.Edit.{IsBetween, characters_read, characters_written};
 
@@ -22,7 +22,7 @@ pub(crate) fn changes(delta: &Delta) -> (u64, &[Part], u64)
 
 // How many characters parts keep before their first change, and the parts from there on.
 fn without_keep(parts: &[Part]) -> (u64, &[Part])
-    ensures marks { marks_of parts.now ≡ retains result.0 ++ marks_of result.1.now }
+    ensures marks { marks_of parts.now ≡ keep_marks result.0 ++ marks_of result.1.now }
 {
     match parts.split_first() {
         Some((Part::Keep(count), others)) => (*count, others),
@@ -32,7 +32,7 @@ fn without_keep(parts: &[Part]) -> (u64, &[Part])
 
 // The parts up to their last change, and how many characters they keep behind it.
 fn without_last_keep(parts: &[Part]) -> (&[Part], u64)
-    ensures marks { marks_of parts.now ≡ marks_of result.0.now ++ retains result.1 }
+    ensures marks { marks_of parts.now ≡ marks_of result.0.now ++ keep_marks result.1 }
 {
     match parts.split_last() {
         Some((Part::Keep(count), others)) => (others, *count),
@@ -47,7 +47,7 @@ pub(crate) fn edited(
     from: usize,
     parts: &[Part],
 ) -> Result<Vec<char>, Memory>
-    requires within { from + base_len (marks_of parts.now) ≤ length (concat chunks.now) }
+    requires in_bounds { from + base_len (marks_of parts.now) ≤ length (concat chunks.now) }
     requires limit { length (concat chunks.now) ≤ MAX_TEXT_LEN }
     ensures ok { IfOk result (λ v. v.items ≡ before.items ++ apply (marks_of parts.now) (drop from (concat chunks.now))) }
 {
@@ -61,7 +61,7 @@ pub(crate) fn edited(
 
 // Appends what one part makes of the characters from a place on, and says where the next part stands.
 fn edit_part(out: &mut Vec<char>, chunks: &[Chunk], at: usize, part: &Part) -> Result<usize, Memory>
-    requires within { at + characters_read part.now ≤ length (concat chunks.now) }
+    requires in_bounds { at + characters_read part.now ≤ length (concat chunks.now) }
     requires limit { length (concat chunks.now) ≤ MAX_TEXT_LEN }
     ensures next { IfOk result (λ n. n ≡ at + characters_read part.now) }
     ensures written { OnOk result (out.new.items ≡ out.old.items ++ characters_written part.now (drop at (concat chunks.now))) }

@@ -51,7 +51,7 @@ pub fn listed_link(
     piece: usize,
     failing: &[u64],
 ) -> MemoryLink
-    requires limit { 0 < piece }
+    requires positive { 0 < piece }
     ensures fresh { result.calls.faults ≡ 0 }
     ensures not_shut { result.is_shut ≡ false }
 {

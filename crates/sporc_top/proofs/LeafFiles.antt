@@ -73,7 +73,7 @@ leaf_names_apart document one other is is_other same =
 -- ---- what stands at a name
 
 module _ (name : List ℕ) where
-  -- the same
+  -- the file with this name is as it was
   abbrev pub Keeps : Option (List NamedFile) → Option (List NamedFile) → Type 0
   Keeps before after = file_at name after ≡ file_at name before
 

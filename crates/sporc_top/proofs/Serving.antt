@@ -31,7 +31,7 @@ served words folder out net names address answer same at outcome asked called sh
   shut = shut;
 }
 
--- the same of several documents
+-- what a server of several documents did, by the names and the address that the words give
 pub all_served : (words : ServeAll) (folder : Use FolderTold) (out : Use StreamTold) (net : Use NetTold) (names : List (List ℕ)) (address : List ℕ) (answer : Result ⊤ Fault)
     → names ≡ words.names → address ≡ words.address
     → ServeAllOutcome names words.sessions words.times folder out net.before net.after answer

@@ -88,9 +88,9 @@ fn serve_document<R: Threads + Wait + Sync, O: Sink, F: Folder, N: Listen + Send
 where
     F::Appended: Drop + Send,
     N::Link: Send,
-    requires some { 1 ≤ words.now.sessions }
+    requires positive { 1 ≤ words.now.sessions }
     requires limit { words.now.sessions ≤ MAX_SESSIONS }
-    requires times { 1 ≤ words.now.times }
+    requires times_positive { 1 ≤ words.now.times }
     ensures outcome { ServesDocument words.now (use_of F.told files.old files.new) (use_of O.told out.old out.new)
         (use_of N.told net.old net.new)
         result }
@@ -130,10 +130,10 @@ fn serve_documents<R: Threads + Wait + Sync, O: Sink, F: Folder, N: Listen + Sen
 where
     F::Appended: Drop + Send,
     N::Link: Send,
-    requires documents { length words.now.names ≤ MAX_DOCUMENTS }
-    requires some { 1 ≤ words.now.sessions }
+    requires documents_limit { length words.now.names ≤ MAX_DOCUMENTS }
+    requires positive { 1 ≤ words.now.sessions }
     requires limit { words.now.sessions ≤ MAX_SESSIONS }
-    requires times { 1 ≤ words.now.times }
+    requires times_positive { 1 ≤ words.now.times }
     ensures outcome { ServesDocuments words.now (use_of F.told files.old files.new) (use_of O.told out.old out.new)
         (use_of N.told net.old net.new)
         result }

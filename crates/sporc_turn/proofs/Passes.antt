@@ -96,7 +96,7 @@ module _ {S E : Type 0} (logs : S → List E) (by : E → ℕ) (start : ℕ) whe
       let x = o.home free in
       (x.0, fin.4 0 (Some x.0) (ap (λ hs. get_elem? hs 0) x.1), x.2 ∙ end.1, subst (Agrees by v.known) (sym x.2) (Logs.agrees by start o.log (map known s.views) id v.known o.shared at' first_idle.2))
 
-  -- the same in what the pass knows
+  -- so it is in what the first pass knows: the value is at home, and its log is what that pass has seen
   pub closes : (id : ℕ) (v w : View E) (ws : List ℕ) (xs : List (std.Option S)) (y : std.Option S) → w ≡ v → IsIdle w → w.known.number ≡ 0 → w.known.splits ≡ length w.known.joined
       → Final (Seen (TurnInvariant by logs start) id v) ws xs → get_elem? xs 0 ≡ some y → (x : S) × (Some x ≡ y) × (logs x ≡ w.known.seen) × Agrees by w.known (logs x)
   closes id v w ws xs y is first_idle zero' all fin got =

@@ -5,7 +5,7 @@ use Rattle.sporc_turn.specs.declared.kept.Kept.{Ghosts}
 use Rattle.sporc_turn.specs.declared.held.Held.{Held}
 use Rattle.sporc_turn.specs.contracts.held.Held.{the_row}
 
--- the same turn with another value
+-- a held turn with another value
 abbrev pub with_value : {S E : Type 0} {g : Ghosts S E} → Held S E g → S → Held S E g
 with_value h w = record h { value = w }
 

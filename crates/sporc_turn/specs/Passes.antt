@@ -45,6 +45,6 @@ module _ {S E : Type 0} {g : Ghosts S E} where
   abbrev pub IsHeldOf : Turn S E → Held S E g → Type 0
   IsHeldOf t h = h.holder.seat.table_id ≡ t.table.shared.table_id
 
-  -- the same turn, whatever became of the value
+  -- it is one turn, whatever became of the value
   abbrev pub IsSameTurn : Held S E g → Held S E g → Type 0
   IsSameTurn old new = new.holder ≡ old.holder

@@ -225,7 +225,7 @@ impl<S: Kept> Turn<S> {
     ) -> Result<(Pass<S::Item>, Pass<S::Item>), (Pass<S::Item>, Memory)>
         requires lock { IsPassOf self.now pass }
         requires first { (known_of pass).number ≡ 0 }
-        requires room { (known_of pass).splits + 1 < 2 ^ 32 }
+        requires limit { (known_of pass).splits + 1 < 2 ^ 32 }
         ensures lock { IfOk result (λ r. IsPassOf self.now r.0 × IsPassOf self.now r.1) }
         ensures old { IfOk result (λ r. known_of r.0 ≡ splitting (known_of pass)) }
         ensures new { IfOk result (λ r. known_of r.1 ≡ copied (known_of pass)) }

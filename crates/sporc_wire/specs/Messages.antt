@@ -21,7 +21,7 @@ pub record Unread : Type 0 where
 abbrev pub stream_of : List ℕ → Unread
 stream_of bytes = record { at = 0; rest = bytes; fault = None }
 
--- the same, and more bytes
+-- a stream that was fed more bytes
 abbrev pub fed : List ℕ → Unread → Unread
 fed more s = record s { rest = s.rest ++ more }
 

@@ -82,7 +82,7 @@ fn counted_len<T: EntryBytes>(entries: &[T]) -> u64
 // Appends the body.
 fn put_body<T: EntryBytes>(out: &mut Out, first: u32, entries: &[T]) -> Result<(), Memory>
     requires limit { length entries.now ≤ MAX_PULLED }
-    requires small { length (to_client_bytes (ToClient.Entries first (map (λ e. T.bytes e) entries.now))) < 2 ^ 32 }
+    requires body_limit { length (to_client_bytes (ToClient.Entries first (map (λ e. T.bytes e) entries.now))) < 2 ^ 32 }
     ensures { OnOk result (out.new ≡ out.old ++ to_client_bytes (ToClient.Entries first (map (λ e. T.bytes e) entries.now))) }
 {
     out.put_u8(ENTRIES)?;

@@ -57,7 +57,7 @@ pub fn any_pieces_to_a_server()
         → (next to_server_of (next to_server_of s).after).answer ≡ Err f }
 {}
 
-/// The same of messages to a client.
+/// Nor do the messages of a stream to a client depend on its pieces.
 pub fn any_pieces_to_a_client()
     ensures fed { (bytes more : List ℕ) (ms : List ToClient) (s : Unread) → HandsOut to_client_of (stream_of bytes) ms s
         → HandsOut to_client_of (stream_of (bytes ++ more)) ms (fed more s) }

@@ -175,7 +175,7 @@ pub fn write_to_client(alloc: Global, message: &ToClient) -> Result<Vec<u8>, Fra
 /// The frame of an Entries whose entries stand elsewhere: each is copied once, into the frame. `TooLong` exactly if its
 /// body is above the limit.
 pub fn write_entries(alloc: Global, first: u32, entries: &[Vec<u8>]) -> Result<Vec<u8>, FrameFault>
-    requires some { 1 ≤ length entries.now }
+    requires positive { 1 ≤ length entries.now }
     requires limit { length entries.now ≤ MAX_PULLED }
     ensures value { GivesUnless FrameFault.Memory (λ v. v.items) result
         (framed (to_client_bytes (ToClient.Entries first (map (λ v. v.items) entries.now)))) }

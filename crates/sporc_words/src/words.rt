@@ -72,7 +72,7 @@ fn read_command(alloc: Global, verb: Verb, words: &[String]) -> Result<Option<Co
     read_by(alloc, verb, words)
 }
 
-// The same: its arguments first, and then what is made of their values.
+// The command of this verb, from the words behind it: its arguments first, and then what is made of their values.
 fn read_by(alloc: Global, verb: Verb, words: &[String]) -> Result<Option<Command>, Memory>
     ensures ok { IfOk result (λ found. found ≡ then_read (taken (app_for verb) (map (λ w. string_bytes w) words.now)) (command_in verb)) }
 {

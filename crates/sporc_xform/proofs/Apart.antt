@@ -7,76 +7,76 @@ use Rattle.std.proofs.lemmas.Bool.{ltb-true, ltb-false}
 use Rattle.sporc_delta.specs.declared.limits.TheConstants.{MAX_TEXT_LEN}
 use Rattle.sporc_delta.specs.declared.shift.Shift.{Shift}
 use Rattle.sporc_delta.specs.declared.shift.Shift.TheVariants.{First, Last}
-use Rattle.sporc_delta.specs.Marks.{Mark, Retain, Delete, Insert, base_len, inserted_len, out_len, retains}
+use Rattle.sporc_delta.specs.Marks.{Mark, Keep, Remove, Insert, base_len, inserted_len, out_len, keep_marks}
 use Rattle.sporc_delta.specs.Parts.{runs}
 use Rattle.sporc_delta.specs.Shifts.{count_of, kept_first, kept_last, kept_there, shifted}
 use Rattle.sporc_delta.specs.Transforms.{Later, earlier, earlier_step, later, later_step, steps}
-use Rattle.sporc_delta.proofs.Lengths.{base_len-append, base_len-retains, out_len-append, out_len-retains}
+use Rattle.sporc_delta.proofs.Lengths.{base_len-append, base_len-keep_marks, out_len-append, out_len-keep_marks}
 use Rattle.sporc_delta.proofs.Shifted.{begins_with, ends_with, shifted_first, shifted_last}
 use Rattle.sporc_xform.specs.Restating.{IsMoved, Meet, ShiftsEarlier, ShiftsLater}
 use Rattle.sporc_xform.proofs.LengthLemmas.{base_len-earlier, base_len-later, inserted_len-earlier, inserted_len-later, out_len-le}
 
 -- ---- a delta and one that keeps all
 
-insert_kept : (n c : ℕ) (q : List Mark) → steps (retains n) (Insert c ∷ q) ≡ Later c ∷ steps (retains n) q
+insert_kept : (n c : ℕ) (q : List Mark) → steps (keep_marks n) (Insert c ∷ q) ≡ Later c ∷ steps (keep_marks n) q
 insert_kept zero c q = refl
 insert_kept (suc n) c q = refl
 
-later_behind_keeps : (q : List Mark) → later q (retains (base_len q)) ≡ q
+later_behind_keeps : (q : List Mark) → later q (keep_marks (base_len q)) ≡ q
 later_behind_keeps [] = refl
 later_behind_keeps (Insert c ∷ q) = ap (flat_map later_step) (insert_kept (base_len q) c q) ∙ ap (λ ms. Insert c ∷ ms) (later_behind_keeps q)
-later_behind_keeps (Retain ∷ q) = ap (λ ms. Retain ∷ ms) (later_behind_keeps q)
-later_behind_keeps (Delete ∷ q) = ap (λ ms. Delete ∷ ms) (later_behind_keeps q)
+later_behind_keeps (Keep ∷ q) = ap (λ ms. Keep ∷ ms) (later_behind_keeps q)
+later_behind_keeps (Remove ∷ q) = ap (λ ms. Remove ∷ ms) (later_behind_keeps q)
 
-keeps_behind_later : (q : List Mark) → earlier (retains (base_len q)) q ≡ retains (out_len q)
+keeps_behind_later : (q : List Mark) → earlier (keep_marks (base_len q)) q ≡ keep_marks (out_len q)
 keeps_behind_later [] = refl
-keeps_behind_later (Insert c ∷ q) = ap (flat_map earlier_step) (insert_kept (base_len q) c q) ∙ ap (λ ms. Retain ∷ ms) (keeps_behind_later q)
-keeps_behind_later (Retain ∷ q) = ap (λ ms. Retain ∷ ms) (keeps_behind_later q)
-keeps_behind_later (Delete ∷ q) = keeps_behind_later q
+keeps_behind_later (Insert c ∷ q) = ap (flat_map earlier_step) (insert_kept (base_len q) c q) ∙ ap (λ ms. Keep ∷ ms) (keeps_behind_later q)
+keeps_behind_later (Keep ∷ q) = ap (λ ms. Keep ∷ ms) (keeps_behind_later q)
+keeps_behind_later (Remove ∷ q) = keeps_behind_later q
 
-earlier_behind_keeps : (p : List Mark) → earlier p (retains (base_len p)) ≡ p
+earlier_behind_keeps : (p : List Mark) → earlier p (keep_marks (base_len p)) ≡ p
 earlier_behind_keeps [] = refl
 earlier_behind_keeps (Insert c ∷ p) = ap (λ ms. Insert c ∷ ms) (earlier_behind_keeps p)
-earlier_behind_keeps (Retain ∷ p) = ap (λ ms. Retain ∷ ms) (earlier_behind_keeps p)
-earlier_behind_keeps (Delete ∷ p) = ap (λ ms. Delete ∷ ms) (earlier_behind_keeps p)
+earlier_behind_keeps (Keep ∷ p) = ap (λ ms. Keep ∷ ms) (earlier_behind_keeps p)
+earlier_behind_keeps (Remove ∷ p) = ap (λ ms. Remove ∷ ms) (earlier_behind_keeps p)
 
-keeps_behind_earlier : (p : List Mark) → later (retains (base_len p)) p ≡ retains (out_len p)
+keeps_behind_earlier : (p : List Mark) → later (keep_marks (base_len p)) p ≡ keep_marks (out_len p)
 keeps_behind_earlier [] = refl
-keeps_behind_earlier (Insert c ∷ p) = ap (λ ms. Retain ∷ ms) (keeps_behind_earlier p)
-keeps_behind_earlier (Retain ∷ p) = ap (λ ms. Retain ∷ ms) (keeps_behind_earlier p)
-keeps_behind_earlier (Delete ∷ p) = keeps_behind_earlier p
+keeps_behind_earlier (Insert c ∷ p) = ap (λ ms. Keep ∷ ms) (keeps_behind_earlier p)
+keeps_behind_earlier (Keep ∷ p) = ap (λ ms. Keep ∷ ms) (keeps_behind_earlier p)
+keeps_behind_earlier (Remove ∷ p) = keeps_behind_earlier p
 
 -- ---- the changes of the earlier one, f, stand first
 
-later_passes : (f p q : List Mark) → later (retains (base_len f) ++ q) (f ++ p) ≡ retains (out_len f) ++ later q p
+later_passes : (f p q : List Mark) → later (keep_marks (base_len f) ++ q) (f ++ p) ≡ keep_marks (out_len f) ++ later q p
 later_passes [] p q = refl
-later_passes (Insert c ∷ f) p q = ap (λ ms. Retain ∷ ms) (later_passes f p q)
-later_passes (Retain ∷ f) p q = ap (λ ms. Retain ∷ ms) (later_passes f p q)
-later_passes (Delete ∷ f) p q = later_passes f p q
+later_passes (Insert c ∷ f) p q = ap (λ ms. Keep ∷ ms) (later_passes f p q)
+later_passes (Keep ∷ f) p q = ap (λ ms. Keep ∷ ms) (later_passes f p q)
+later_passes (Remove ∷ f) p q = later_passes f p q
 
-earlier_stays : (f p q : List Mark) → earlier (f ++ p) (retains (base_len f) ++ q) ≡ f ++ earlier p q
+earlier_stays : (f p q : List Mark) → earlier (f ++ p) (keep_marks (base_len f) ++ q) ≡ f ++ earlier p q
 earlier_stays [] p q = refl
 earlier_stays (Insert c ∷ f) p q = ap (λ ms. Insert c ∷ ms) (earlier_stays f p q)
-earlier_stays (Retain ∷ f) p q = ap (λ ms. Retain ∷ ms) (earlier_stays f p q)
-earlier_stays (Delete ∷ f) p q = ap (λ ms. Delete ∷ ms) (earlier_stays f p q)
+earlier_stays (Keep ∷ f) p q = ap (λ ms. Keep ∷ ms) (earlier_stays f p q)
+earlier_stays (Remove ∷ f) p q = ap (λ ms. Remove ∷ ms) (earlier_stays f p q)
 
 -- ---- the changes of the later one, g, stand first, and behind them the earlier one keeps a character
 
-insert_before : (n c : ℕ) (p q : List Mark) → steps (retains n ++ Retain ∷ p) (Insert c ∷ q) ≡ Later c ∷ steps (retains n ++ Retain ∷ p) q
+insert_before : (n c : ℕ) (p q : List Mark) → steps (keep_marks n ++ Keep ∷ p) (Insert c ∷ q) ≡ Later c ∷ steps (keep_marks n ++ Keep ∷ p) q
 insert_before zero c p q = refl
 insert_before (suc n) c p q = refl
 
-later_stays : (g p q : List Mark) → later (g ++ q) (retains (base_len g) ++ Retain ∷ p) ≡ g ++ later q (Retain ∷ p)
+later_stays : (g p q : List Mark) → later (g ++ q) (keep_marks (base_len g) ++ Keep ∷ p) ≡ g ++ later q (Keep ∷ p)
 later_stays [] p q = refl
 later_stays (Insert c ∷ g) p q = ap (flat_map later_step) (insert_before (base_len g) c p (g ++ q)) ∙ ap (λ ms. Insert c ∷ ms) (later_stays g p q)
-later_stays (Retain ∷ g) p q = ap (λ ms. Retain ∷ ms) (later_stays g p q)
-later_stays (Delete ∷ g) p q = ap (λ ms. Delete ∷ ms) (later_stays g p q)
+later_stays (Keep ∷ g) p q = ap (λ ms. Keep ∷ ms) (later_stays g p q)
+later_stays (Remove ∷ g) p q = ap (λ ms. Remove ∷ ms) (later_stays g p q)
 
-earlier_passes : (g p q : List Mark) → earlier (retains (base_len g) ++ Retain ∷ p) (g ++ q) ≡ retains (out_len g) ++ earlier (Retain ∷ p) q
+earlier_passes : (g p q : List Mark) → earlier (keep_marks (base_len g) ++ Keep ∷ p) (g ++ q) ≡ keep_marks (out_len g) ++ earlier (Keep ∷ p) q
 earlier_passes [] p q = refl
-earlier_passes (Insert c ∷ g) p q = ap (flat_map earlier_step) (insert_before (base_len g) c p (g ++ q)) ∙ ap (λ ms. Retain ∷ ms) (earlier_passes g p q)
-earlier_passes (Retain ∷ g) p q = ap (λ ms. Retain ∷ ms) (earlier_passes g p q)
-earlier_passes (Delete ∷ g) p q = earlier_passes g p q
+earlier_passes (Insert c ∷ g) p q = ap (flat_map earlier_step) (insert_before (base_len g) c p (g ++ q)) ∙ ap (λ ms. Keep ∷ ms) (earlier_passes g p q)
+earlier_passes (Keep ∷ g) p q = ap (λ ms. Keep ∷ ms) (earlier_passes g p q)
+earlier_passes (Remove ∷ g) p q = earlier_passes g p q
 
 -- ---- two deltas whose changes do not meet
 
@@ -85,9 +85,9 @@ pub record Split (a b : List Mark) : Type 0 where
   pub front : List Mark
   pub gap : ℕ
   pub rest : List Mark
-  pub first_is : a ≡ front ++ retains (base_len (retains gap ++ rest))
-  pub second_is : b ≡ retains (base_len front) ++ (retains gap ++ rest)
-  pub first_kept : kept_last a ≡ base_len (retains gap ++ rest)
+  pub first_is : a ≡ front ++ keep_marks (base_len (keep_marks gap ++ rest))
+  pub second_is : b ≡ keep_marks (base_len front) ++ (keep_marks gap ++ rest)
+  pub first_kept : kept_last a ≡ base_len (keep_marks gap ++ rest)
   pub second_kept : kept_first b ≡ base_len front + gap
 
 pub split : (a b : List Mark) → base_len a ≡ base_len b → base_len a ≤ kept_last a + kept_first b → Split a b
@@ -95,17 +95,17 @@ split a b same apart =
     let end = ends_with a in
     let begin = begins_with b in
     let gap = kept_last a + kept_first b - base_len a in
-    let base_a = ap base_len end.is ∙ base_len-append end.front (retains (kept_last a)) in
-    let kept_b : kept_first b ≡ base_len end.front + (kept_last a + kept_first b - base_len a) = omega (arith, apart, base_a, base_len-retains (kept_last a)) in
-    let b_is : b ≡ retains (base_len end.front) ++ (retains gap ++ begin.rest) =
-    begin.is ∙ ap (λ (n : ℕ). retains n ++ begin.rest) kept_b ∙ ap (λ (ms : List Mark). ms ++ begin.rest) (sym (replicate-append-replicate (base_len end.front) gap Retain)) ∙ append_assoc (retains (base_len end.front)) (retains gap) begin.rest in
-    let base_b = ap base_len b_is ∙ base_len-append (retains (base_len end.front)) (retains gap ++ begin.rest) in
-    let kept_a : kept_last a ≡ base_len (retains gap ++ begin.rest) = omega (arith, same, base_a, base_len-retains (kept_last a), base_b, base_len-retains (base_len end.front)) in
+    let base_a = ap base_len end.is ∙ base_len-append end.front (keep_marks (kept_last a)) in
+    let kept_b : kept_first b ≡ base_len end.front + (kept_last a + kept_first b - base_len a) = omega (arith, apart, base_a, base_len-keep_marks (kept_last a)) in
+    let b_is : b ≡ keep_marks (base_len end.front) ++ (keep_marks gap ++ begin.rest) =
+    begin.is ∙ ap (λ (n : ℕ). keep_marks n ++ begin.rest) kept_b ∙ ap (λ (ms : List Mark). ms ++ begin.rest) (sym (replicate-append-replicate (base_len end.front) gap Keep)) ∙ append_assoc (keep_marks (base_len end.front)) (keep_marks gap) begin.rest in
+    let base_b = ap base_len b_is ∙ base_len-append (keep_marks (base_len end.front)) (keep_marks gap ++ begin.rest) in
+    let kept_a : kept_last a ≡ base_len (keep_marks gap ++ begin.rest) = omega (arith, same, base_a, base_len-keep_marks (kept_last a), base_b, base_len-keep_marks (base_len end.front)) in
     record {
       front = end.front;
       gap = gap;
       rest = begin.rest;
-      first_is = end.is ∙ ap (λ (n : ℕ). end.front ++ retains n) kept_a;
+      first_is = end.is ∙ ap (λ (n : ℕ). end.front ++ keep_marks n) kept_a;
       second_is = b_is;
       first_kept = kept_a;
       second_kept = kept_b;
@@ -114,26 +114,26 @@ split a b same apart =
 -- the counts of both, moved
 module _ (a b : List Mark) (s : Split a b) (n : ℕ) where
   rest_of : List Mark
-  rest_of = retains s.gap ++ s.rest
+  rest_of = keep_marks s.gap ++ s.rest
 
-  pub second_shifted : IsMoved (kept_first b) n a → shifted (First n) b ≡ retains (out_len s.front) ++ (retains s.gap ++ s.rest)
+  pub second_shifted : IsMoved (kept_first b) n a → shifted (First n) b ≡ keep_marks (out_len s.front) ++ (keep_marks s.gap ++ s.rest)
   second_shifted m =
-      let b_is : b ≡ retains (kept_first b) ++ s.rest =
-      s.second_is ∙ sym (append_assoc (retains (base_len s.front)) (retains s.gap) s.rest) ∙ ap (λ (ms : List Mark). ms ++ s.rest) (replicate-append-replicate (base_len s.front) s.gap Retain) ∙ ap (λ (k : ℕ). retains k ++ s.rest) (sym s.second_kept) in
-      let base_a = ap base_len s.first_is ∙ base_len-append s.front (retains (base_len (retains s.gap ++ s.rest))) in
-      let out_a = ap out_len s.first_is ∙ out_len-append s.front (retains (base_len (retains s.gap ++ s.rest))) in
+      let b_is : b ≡ keep_marks (kept_first b) ++ s.rest =
+      s.second_is ∙ sym (append_assoc (keep_marks (base_len s.front)) (keep_marks s.gap) s.rest) ∙ ap (λ (ms : List Mark). ms ++ s.rest) (replicate-append-replicate (base_len s.front) s.gap Keep) ∙ ap (λ (k : ℕ). keep_marks k ++ s.rest) (sym s.second_kept) in
+      let base_a = ap base_len s.first_is ∙ base_len-append s.front (keep_marks (base_len (keep_marks s.gap ++ s.rest))) in
+      let out_a = ap out_len s.first_is ∙ out_len-append s.front (keep_marks (base_len (keep_marks s.gap ++ s.rest))) in
       let n_is : n ≡ out_len s.front + s.gap =
-      omega (arith, m.moved, s.second_kept, base_a, out_a, base_len-retains (base_len (retains s.gap ++ s.rest)), out_len-retains (base_len (retains s.gap ++ s.rest))) in
-      shifted_first b s.rest n b_is ∙ ap (λ (k : ℕ). retains k ++ s.rest) n_is ∙ ap (λ (ms : List Mark). ms ++ s.rest) (sym (replicate-append-replicate (out_len s.front) s.gap Retain)) ∙ append_assoc (retains (out_len s.front)) (retains s.gap) s.rest
+      omega (arith, m.moved, s.second_kept, base_a, out_a, base_len-keep_marks (base_len (keep_marks s.gap ++ s.rest)), out_len-keep_marks (base_len (keep_marks s.gap ++ s.rest))) in
+      shifted_first b s.rest n b_is ∙ ap (λ (k : ℕ). keep_marks k ++ s.rest) n_is ∙ ap (λ (ms : List Mark). ms ++ s.rest) (sym (replicate-append-replicate (out_len s.front) s.gap Keep)) ∙ append_assoc (keep_marks (out_len s.front)) (keep_marks s.gap) s.rest
 
-  pub first_shifted : IsMoved (kept_last a) n b → shifted (Last n) a ≡ s.front ++ retains (out_len (retains s.gap ++ s.rest))
+  pub first_shifted : IsMoved (kept_last a) n b → shifted (Last n) a ≡ s.front ++ keep_marks (out_len (keep_marks s.gap ++ s.rest))
   first_shifted m =
-      let a_is : a ≡ s.front ++ retains (kept_last a) = s.first_is ∙ ap (λ (k : ℕ). s.front ++ retains k) (sym s.first_kept) in
-      let base_b = ap base_len s.second_is ∙ base_len-append (retains (base_len s.front)) (retains s.gap ++ s.rest) in
-      let out_b = ap out_len s.second_is ∙ out_len-append (retains (base_len s.front)) (retains s.gap ++ s.rest) in
-      let n_is : n ≡ out_len (retains s.gap ++ s.rest) =
-      omega (arith, m.moved, s.first_kept, base_b, out_b, base_len-retains (base_len s.front), out_len-retains (base_len s.front)) in
-      shifted_last a s.front n a_is ∙ ap (λ (k : ℕ). s.front ++ retains k) n_is
+      let a_is : a ≡ s.front ++ keep_marks (kept_last a) = s.first_is ∙ ap (λ (k : ℕ). s.front ++ keep_marks k) (sym s.first_kept) in
+      let base_b = ap base_len s.second_is ∙ base_len-append (keep_marks (base_len s.front)) (keep_marks s.gap ++ s.rest) in
+      let out_b = ap out_len s.second_is ∙ out_len-append (keep_marks (base_len s.front)) (keep_marks s.gap ++ s.rest) in
+      let n_is : n ≡ out_len (keep_marks s.gap ++ s.rest) =
+      omega (arith, m.moved, s.first_kept, base_b, out_b, base_len-keep_marks (base_len s.front), out_len-keep_marks (base_len s.front)) in
+      shifted_last a s.front n a_is ∙ ap (λ (k : ℕ). s.front ++ keep_marks k) n_is
 
 -- with a character between that both keep, both counts move
 pub record Moves (a b : List Mark) : Type 0 where
@@ -145,20 +145,20 @@ pub record Moves (a b : List Mark) : Type 0 where
 pub moves : (a b : List Mark) → base_len a ≡ base_len b → base_len a < kept_last a + kept_first b → Moves a b
 moves a b same apart =
     let s = split a b same (omega (arith, apart)) in
-    let tail = base_len-append (retains s.gap) s.rest in
-    let out = out_len-append (retains s.gap) s.rest in
-    let base_a = ap base_len s.first_is ∙ base_len-append s.front (retains (base_len (retains s.gap ++ s.rest))) in
-    let out_a = ap out_len s.first_is ∙ out_len-append s.front (retains (base_len (retains s.gap ++ s.rest))) in
-    let base_b = ap base_len s.second_is ∙ base_len-append (retains (base_len s.front)) (retains s.gap ++ s.rest) in
-    let out_b = ap out_len s.second_is ∙ out_len-append (retains (base_len s.front)) (retains s.gap ++ s.rest) in
-    let kept_base = base_len-retains (base_len (retains s.gap ++ s.rest)) in
-    let kept_out = out_len-retains (base_len (retains s.gap ++ s.rest)) in
+    let tail = base_len-append (keep_marks s.gap) s.rest in
+    let out = out_len-append (keep_marks s.gap) s.rest in
+    let base_a = ap base_len s.first_is ∙ base_len-append s.front (keep_marks (base_len (keep_marks s.gap ++ s.rest))) in
+    let out_a = ap out_len s.first_is ∙ out_len-append s.front (keep_marks (base_len (keep_marks s.gap ++ s.rest))) in
+    let base_b = ap base_len s.second_is ∙ base_len-append (keep_marks (base_len s.front)) (keep_marks s.gap ++ s.rest) in
+    let out_b = ap out_len s.second_is ∙ out_len-append (keep_marks (base_len s.front)) (keep_marks s.gap ++ s.rest) in
+    let kept_base = base_len-keep_marks (base_len (keep_marks s.gap ++ s.rest)) in
+    let kept_out = out_len-keep_marks (base_len (keep_marks s.gap ++ s.rest)) in
     let some : 0 < s.gap = omega (arith, apart, s.first_kept, s.second_kept, base_a, kept_base) in
     record {
       second_some = omega (arith, some, s.second_kept);
       second_moves = omega (arith, some, s.second_kept, base_a, out_a, kept_base, kept_out);
-      first_some = omega (arith, some, s.first_kept, tail, base_len-retains s.gap);
-      first_moves = omega (arith, some, s.first_kept, base_b, out_b, out, out_len-retains s.gap, base_len-retains (base_len s.front), out_len-retains (base_len s.front));
+      first_some = omega (arith, some, s.first_kept, tail, base_len-keep_marks s.gap);
+      first_moves = omega (arith, some, s.first_kept, base_b, out_b, out, out_len-keep_marks s.gap, base_len-keep_marks (base_len s.front), out_len-keep_marks (base_len s.front));
     }
 
 -- where no count moves, the changes meet
@@ -227,17 +227,17 @@ module _ (p q : List Mark) (same : base_len p ≡ base_len q) (limit : base_len 
   pub later_moves : base_len p ≤ kept_last p + kept_first q → IsMoved (kept_first q) n p → ShiftsLater (First n) q p
   later_moves apart m =
       let s = split p q same apart in
-      let tail = retains s.gap ++ s.rest in
+      let tail = keep_marks s.gap ++ s.rest in
       later_fits (First n) q p same limit m.some m.kept_some
-      (second_shifted p q s n m ∙ sym (ap (λ (ms : List Mark). retains (out_len s.front) ++ ms) (later_behind_keeps (retains s.gap ++ s.rest)))
-      ∙ sym (later_passes s.front (retains (base_len (retains s.gap ++ s.rest))) (retains s.gap ++ s.rest)) ∙ sym (ap (later q) s.first_is ∙ ap (λ (ms : List Mark). later ms (s.front ++ retains (base_len (retains s.gap ++ s.rest)))) s.second_is))
+      (second_shifted p q s n m ∙ sym (ap (λ (ms : List Mark). keep_marks (out_len s.front) ++ ms) (later_behind_keeps (keep_marks s.gap ++ s.rest)))
+      ∙ sym (later_passes s.front (keep_marks (base_len (keep_marks s.gap ++ s.rest))) (keep_marks s.gap ++ s.rest)) ∙ sym (ap (later q) s.first_is ∙ ap (λ (ms : List Mark). later ms (s.front ++ keep_marks (base_len (keep_marks s.gap ++ s.rest)))) s.second_is))
 
   pub earlier_keeps_more : base_len p ≤ kept_last p + kept_first q → IsMoved (kept_last p) n q → ShiftsEarlier (Last n) p q
   earlier_keeps_more apart m =
       let s = split p q same apart in
       earlier_fits (Last n) p q same limit m.some m.kept_some
-      (first_shifted p q s n m ∙ sym (ap (λ (ms : List Mark). s.front ++ ms) (keeps_behind_later (retains s.gap ++ s.rest)))
-      ∙ sym (earlier_stays s.front (retains (base_len (retains s.gap ++ s.rest))) (retains s.gap ++ s.rest)) ∙ sym (ap (earlier p) s.second_is ∙ ap (λ (ms : List Mark). earlier ms (retains (base_len s.front) ++ (retains s.gap ++ s.rest))) s.first_is))
+      (first_shifted p q s n m ∙ sym (ap (λ (ms : List Mark). s.front ++ ms) (keeps_behind_later (keep_marks s.gap ++ s.rest)))
+      ∙ sym (earlier_stays s.front (keep_marks (base_len (keep_marks s.gap ++ s.rest))) (keep_marks s.gap ++ s.rest)) ∙ sym (ap (earlier p) s.second_is ∙ ap (λ (ms : List Mark). earlier ms (keep_marks (base_len s.front) ++ (keep_marks s.gap ++ s.rest))) s.first_is))
 
   -- the later one's changes stand first, and a character between is kept
   pub later_keeps_more : base_len q < kept_last q + kept_first p → IsMoved (kept_last q) n p → ShiftsLater (Last n) q p
@@ -246,13 +246,13 @@ module _ (p q : List Mark) (same : base_len p ≡ base_len q) (limit : base_len 
       later_fits (Last n) q p same limit m.some m.kept_some (first_shifted q p s n m ∙ behind s.front s.rest s.gap (some s) s.first_is s.second_is)
     where
       some : (s : Split q p) → 0 < s.gap
-      some s = omega (arith, apart, s.first_kept, s.second_kept, ap base_len s.first_is, base_len-append s.front (retains (base_len (retains s.gap ++ s.rest))), base_len-retains (base_len (retains s.gap ++ s.rest)))
+      some s = omega (arith, apart, s.first_kept, s.second_kept, ap base_len s.first_is, base_len-append s.front (keep_marks (base_len (keep_marks s.gap ++ s.rest))), base_len-keep_marks (base_len (keep_marks s.gap ++ s.rest)))
 
-      behind : (front rest : List Mark) (gap : ℕ) → 0 < gap → q ≡ front ++ retains (base_len (retains gap ++ rest)) → p ≡ retains (base_len front) ++ (retains gap ++ rest) → front ++ retains (out_len (retains gap ++ rest)) ≡ later q p
+      behind : (front rest : List Mark) (gap : ℕ) → 0 < gap → q ≡ front ++ keep_marks (base_len (keep_marks gap ++ rest)) → p ≡ keep_marks (base_len front) ++ (keep_marks gap ++ rest) → front ++ keep_marks (out_len (keep_marks gap ++ rest)) ≡ later q p
       behind front rest zero some q_is p_is = absurd (omega arith)
       behind front rest (suc gap) some q_is p_is =
-          sym (ap (λ (ms : List Mark). front ++ ms) (keeps_behind_earlier (retains (suc gap) ++ rest))) ∙ sym (later_stays front (retains gap ++ rest) (retains (base_len (retains (suc gap) ++ rest))))
-          ∙ sym (ap (later q) p_is ∙ ap (λ (ms : List Mark). later ms (retains (base_len front) ++ (retains (suc gap) ++ rest))) q_is)
+          sym (ap (λ (ms : List Mark). front ++ ms) (keeps_behind_earlier (keep_marks (suc gap) ++ rest))) ∙ sym (later_stays front (keep_marks gap ++ rest) (keep_marks (base_len (keep_marks (suc gap) ++ rest))))
+          ∙ sym (ap (later q) p_is ∙ ap (λ (ms : List Mark). later ms (keep_marks (base_len front) ++ (keep_marks (suc gap) ++ rest))) q_is)
 
   pub earlier_moves : base_len q < kept_last q + kept_first p → IsMoved (kept_first p) n q → ShiftsEarlier (First n) p q
   earlier_moves apart m =
@@ -260,10 +260,10 @@ module _ (p q : List Mark) (same : base_len p ≡ base_len q) (limit : base_len 
       earlier_fits (First n) p q same limit m.some m.kept_some (second_shifted q p s n m ∙ behind s.front s.rest s.gap (some s) s.first_is s.second_is)
     where
       some : (s : Split q p) → 0 < s.gap
-      some s = omega (arith, apart, s.first_kept, s.second_kept, ap base_len s.first_is, base_len-append s.front (retains (base_len (retains s.gap ++ s.rest))), base_len-retains (base_len (retains s.gap ++ s.rest)))
+      some s = omega (arith, apart, s.first_kept, s.second_kept, ap base_len s.first_is, base_len-append s.front (keep_marks (base_len (keep_marks s.gap ++ s.rest))), base_len-keep_marks (base_len (keep_marks s.gap ++ s.rest)))
 
-      behind : (front rest : List Mark) (gap : ℕ) → 0 < gap → q ≡ front ++ retains (base_len (retains gap ++ rest)) → p ≡ retains (base_len front) ++ (retains gap ++ rest) → retains (out_len front) ++ (retains gap ++ rest) ≡ earlier p q
+      behind : (front rest : List Mark) (gap : ℕ) → 0 < gap → q ≡ front ++ keep_marks (base_len (keep_marks gap ++ rest)) → p ≡ keep_marks (base_len front) ++ (keep_marks gap ++ rest) → keep_marks (out_len front) ++ (keep_marks gap ++ rest) ≡ earlier p q
       behind front rest zero some q_is p_is = absurd (omega arith)
       behind front rest (suc gap) some q_is p_is =
-          sym (ap (λ (ms : List Mark). retains (out_len front) ++ ms) (earlier_behind_keeps (retains (suc gap) ++ rest))) ∙ sym (earlier_passes front (retains gap ++ rest) (retains (base_len (retains (suc gap) ++ rest))))
-          ∙ sym (ap (earlier p) q_is ∙ ap (λ (ms : List Mark). earlier ms (front ++ retains (base_len (retains (suc gap) ++ rest)))) p_is)
+          sym (ap (λ (ms : List Mark). keep_marks (out_len front) ++ ms) (earlier_behind_keeps (keep_marks (suc gap) ++ rest))) ∙ sym (earlier_passes front (keep_marks gap ++ rest) (keep_marks (base_len (keep_marks (suc gap) ++ rest))))
+          ∙ sym (ap (earlier p) q_is ∙ ap (λ (ms : List Mark). earlier ms (front ++ keep_marks (base_len (keep_marks (suc gap) ++ rest)))) p_is)

@@ -5,11 +5,11 @@ use Rattle.std.proofs.lemmas.List.{take_all, take-append-drop, map-append, lengt
 use Rattle.std.proofs.lemmas.Bool.{eqb-true, eqb-false}
 use Rattle.sporc_delta.specs.declared.limits.TheConstants.{MAX_TEXT_LEN}
 use Rattle.sporc_delta.specs.declared.part.Part.{Part}
-use Rattle.sporc_delta.specs.declared.part.Part.TheVariants.{Keep, Insert as InsertText, Remove}
-use Rattle.sporc_delta.specs.Marks.{Mark, Retain, Delete, Insert, base_len, out_len, retains, deletes, inserts}
+use Rattle.sporc_delta.specs.declared.part.Part.TheVariants.{Keep as KeepRun, Insert as InsertText, Remove as RemoveRun}
+use Rattle.sporc_delta.specs.Marks.{Mark, Keep, Remove, Insert, base_len, out_len, keep_marks, remove_marks, insert_marks}
 use Rattle.sporc_delta.specs.Parts.{marks_of}
 use Rattle.sporc_delta.specs.Transforms.{compose}
-use Rattle.sporc_delta.proofs.Lengths.{base_len-append, base_len-retains, base_len-deletes, base_len-inserts, out_len-append, out_len-retains, out_len-deletes, out_len-inserts}
+use Rattle.sporc_delta.proofs.Lengths.{base_len-append, base_len-keep_marks, base_len-remove_marks, base_len-insert_marks, out_len-append, out_len-keep_marks, out_len-remove_marks, out_len-insert_marks}
 use Rattle.sporc_xform.specs.Left.{cut, without, first_len, first_text, first_inserts, first_removes, NoneEmpty, InARowInvariant}
 use Rattle.sporc_xform.specs.Runs.{base_mark}
 use Rattle.sporc_xform.specs.Chunks.{through_marks}
@@ -19,43 +19,43 @@ use Rattle.sporc_xform.proofs.Steps.{text_first, run_first, no_part, no_base}
 -- ---- over marks
 
 -- an insertion of the second comes first
-second_first : (p : List Mark) (text : List ℕ) (q : List Mark) → compose p (inserts text ++ q) ≡ inserts text ++ compose p q
+second_first : (p : List Mark) (text : List ℕ) (q : List Mark) → compose p (insert_marks text ++ q) ≡ insert_marks text ++ compose p q
 second_first [] [] q = refl
 second_first [] (c ∷ text) q = ap (λ ms. Insert c ∷ ms) (second_first [] text q)
-second_first (Retain ∷ p) [] q = refl
-second_first (Retain ∷ p) (c ∷ text) q = ap (λ ms. Insert c ∷ ms) (second_first (Retain ∷ p) text q)
-second_first (Delete ∷ p) [] q = refl
-second_first (Delete ∷ p) (c ∷ text) q = ap (λ ms. Insert c ∷ ms) (second_first (Delete ∷ p) text q)
+second_first (Keep ∷ p) [] q = refl
+second_first (Keep ∷ p) (c ∷ text) q = ap (λ ms. Insert c ∷ ms) (second_first (Keep ∷ p) text q)
+second_first (Remove ∷ p) [] q = refl
+second_first (Remove ∷ p) (c ∷ text) q = ap (λ ms. Insert c ∷ ms) (second_first (Remove ∷ p) text q)
 second_first (Insert d ∷ p) [] q = refl
 second_first (Insert d ∷ p) (c ∷ text) q = ap (λ ms. Insert c ∷ ms) (second_first (Insert d ∷ p) text q)
 
 -- then a removal of the first
-removal_first : (p : List Mark) (qs : List Part) → NoneEmpty qs → first_inserts qs ≡ false → compose (Delete ∷ p) (marks_of qs) ≡ Delete ∷ compose p (marks_of qs)
+removal_first : (p : List Mark) (qs : List Part) → NoneEmpty qs → first_inserts qs ≡ false → compose (Remove ∷ p) (marks_of qs) ≡ Remove ∷ compose p (marks_of qs)
 removal_first p [] some none = refl
-removal_first p (Keep zero ∷ qs) some none = absurd (omega arith)
-removal_first p (Keep (suc n) ∷ qs) some none = refl
+removal_first p (KeepRun zero ∷ qs) some none = absurd (omega arith)
+removal_first p (KeepRun (suc n) ∷ qs) some none = refl
 removal_first p (InsertText text ∷ qs) some none = absurd cc
-removal_first p (Remove zero ∷ qs) some none = absurd (omega arith)
-removal_first p (Remove (suc n) ∷ qs) some none = refl
+removal_first p (RemoveRun zero ∷ qs) some none = absurd (omega arith)
+removal_first p (RemoveRun (suc n) ∷ qs) some none = refl
 
-removals_first : (n : ℕ) (p : List Mark) (qs : List Part) → NoneEmpty qs → first_inserts qs ≡ false → compose (deletes n ++ p) (marks_of qs) ≡ deletes n ++ compose p (marks_of qs)
+removals_first : (n : ℕ) (p : List Mark) (qs : List Part) → NoneEmpty qs → first_inserts qs ≡ false → compose (remove_marks n ++ p) (marks_of qs) ≡ remove_marks n ++ compose p (marks_of qs)
 removals_first zero p qs some none = refl
-removals_first (suc n) p qs some none = removal_first (deletes n ++ p) qs some none ∙ ap (λ ms. Delete ∷ ms) (removals_first n p qs some none)
+removals_first (suc n) p qs some none = removal_first (remove_marks n ++ p) qs some none ∙ ap (λ ms. Remove ∷ ms) (removals_first n p qs some none)
 
 -- then both marks of each character between them
-kept_kept : (n : ℕ) (p q : List Mark) → compose (retains n ++ p) (retains n ++ q) ≡ retains n ++ compose p q
+kept_kept : (n : ℕ) (p q : List Mark) → compose (keep_marks n ++ p) (keep_marks n ++ q) ≡ keep_marks n ++ compose p q
 kept_kept zero p q = refl
-kept_kept (suc n) p q = ap (λ ms. Retain ∷ ms) (kept_kept n p q)
+kept_kept (suc n) p q = ap (λ ms. Keep ∷ ms) (kept_kept n p q)
 
-kept_removed : (n : ℕ) (p q : List Mark) → compose (retains n ++ p) (deletes n ++ q) ≡ deletes n ++ compose p q
+kept_removed : (n : ℕ) (p q : List Mark) → compose (keep_marks n ++ p) (remove_marks n ++ q) ≡ remove_marks n ++ compose p q
 kept_removed zero p q = refl
-kept_removed (suc n) p q = ap (λ ms. Delete ∷ ms) (kept_removed n p q)
+kept_removed (suc n) p q = ap (λ ms. Remove ∷ ms) (kept_removed n p q)
 
-inserted_kept : (text : List ℕ) (p q : List Mark) → compose (inserts text ++ p) (retains (length text) ++ q) ≡ inserts text ++ compose p q
+inserted_kept : (text : List ℕ) (p q : List Mark) → compose (insert_marks text ++ p) (keep_marks (length text) ++ q) ≡ insert_marks text ++ compose p q
 inserted_kept [] p q = refl
 inserted_kept (c ∷ text) p q = ap (λ ms. Insert c ∷ ms) (inserted_kept text p q)
 
-inserted_removed : (text : List ℕ) (p q : List Mark) → compose (inserts text ++ p) (deletes (length text) ++ q) ≡ compose p q
+inserted_removed : (text : List ℕ) (p q : List Mark) → compose (insert_marks text ++ p) (remove_marks (length text) ++ q) ≡ compose p q
 inserted_removed [] p q = refl
 inserted_removed (c ∷ text) p q = inserted_removed text p q
 
@@ -63,13 +63,13 @@ inserted_removed (c ∷ text) p q = inserted_removed text p q
 
 -- the first characters of a text that comes first
 record TextCut (ps new : List Part) (text : List ℕ) (n : ℕ) : Type 0 where
-  pub marks : marks_of ps ≡ inserts text ++ marks_of new
+  pub marks : marks_of ps ≡ insert_marks text ++ marks_of new
   pub len : length text ≡ n
 
 text_cut : (ps new : List Part) (text : List ℕ) (n : ℕ) → first_inserts ps ≡ true → n ≤ first_len ps → text ≡ take n (first_text ps) → new ≡ without n ps → TextCut ps new text n
 text_cut [] new text n h le t is = absurd cc
-text_cut (Keep m ∷ ps) new text n h le t is = absurd cc
-text_cut (Remove m ∷ ps) new text n h le t is = absurd cc
+text_cut (KeepRun m ∷ ps) new text n h le t is = absurd cc
+text_cut (RemoveRun m ∷ ps) new text n h le t is = absurd cc
 text_cut (InsertText all ∷ ps) new text n h le t is = go (eqb (length all) n) refl
   where
     go : (b : Bool) → eqb (length all) n ≡ b → TextCut (InsertText all ∷ ps) new text n
@@ -81,7 +81,7 @@ text_cut (InsertText all ∷ ps) new text n h le t is = go (eqb (length all) n) 
     go false e =
         let rest : new ≡ InsertText (drop n all) ∷ ps = is ∙ ap (λ b. cond b ps (cut n (InsertText all ∷ ps))) e in
         record {
-          marks = rw (rest, t) (ap (λ ms. ms ++ marks_of ps) (ap inserts (sym (take-append-drop n all)) ∙ map-append Insert (take n all) (drop n all)) ∙ append_assoc (inserts (take n all)) (inserts (drop n all)) (marks_of ps));
+          marks = rw (rest, t) (ap (λ ms. ms ++ marks_of ps) (ap insert_marks (sym (take-append-drop n all)) ∙ map-append Insert (take n all) (drop n all)) ∙ append_assoc (insert_marks (take n all)) (insert_marks (drop n all)) (marks_of ps));
           len = rw t (omega (arith, length-take n all));
         }
 
@@ -95,15 +95,15 @@ pub record Takes (ps qs ps' qs' : List Part) (marks : List Mark) : Type 0 where
 longer : {X : Type 0} (all front rest : List X) → all ≡ front ++ rest → length all ≡ length front + length rest
 longer all front rest is = ap length is ∙ length-append front rest
 
-pub take_second : (ps qs new : List Part) (text : List ℕ) → InARowInvariant ps qs → first_inserts qs ≡ true → text ≡ take (first_len qs) (first_text qs) → new ≡ without (first_len qs) qs → Takes ps qs ps new (inserts text)
+pub take_second : (ps qs new : List Part) (text : List ℕ) → InARowInvariant ps qs → first_inserts qs ≡ true → text ≡ take (first_len qs) (first_text qs) → new ≡ without (first_len qs) qs → Takes ps qs ps new (insert_marks text)
 take_second ps qs new text row h t is =
     let q = (text_first qs new text h t is).marks in
     let some = first_text_some qs row.second_none_empty h in
     let whole : length text ≡ first_len qs = (text_cut qs new text (first_len qs) h (omega arith) t is).len in
     record {
       taken = ap (compose (marks_of ps)) q ∙ second_first (marks_of ps) text (marks_of new);
-      between = omega (arith, row.between, ap base_len q, base_len-append (inserts text) (marks_of new), base_len-inserts text);
-      less = omega (arith, longer (marks_of qs) (inserts text) (marks_of new) q, length-map {A = ℕ} {B = Mark});
+      between = omega (arith, row.between, ap base_len q, base_len-append (insert_marks text) (marks_of new), base_len-insert_marks text);
+      less = omega (arith, longer (marks_of qs) (insert_marks text) (marks_of new) q, length-map {A = ℕ} {B = Mark});
     }
   where
     first_text_some : (qs : List Part) → NoneEmpty qs → first_inserts qs ≡ true → 0 < first_len qs
@@ -113,19 +113,19 @@ take_second ps qs new text row h t is =
 -- a first part that removes does not insert
 removes_alone : (ps : List Part) → first_removes ps ≡ true → first_inserts ps ≡ false
 removes_alone [] h = refl
-removes_alone (Keep n ∷ ps) h = refl
+removes_alone (KeepRun n ∷ ps) h = refl
 removes_alone (InsertText text ∷ ps) h = absurd cc
-removes_alone (Remove n ∷ ps) h = refl
+removes_alone (RemoveRun n ∷ ps) h = refl
 
-pub take_removal : (ps qs new : List Part) → InARowInvariant ps qs → first_inserts qs ≡ false → first_removes ps ≡ true → new ≡ without (first_len ps) ps → Takes ps qs new qs (deletes (first_len ps))
+pub take_removal : (ps qs new : List Part) → InARowInvariant ps qs → first_inserts qs ≡ false → first_removes ps ≡ true → new ≡ without (first_len ps) ps → Takes ps qs new qs (remove_marks (first_len ps))
 take_removal ps qs new row none h is =
     let some = first_removal_some ps row.first_none_empty h in
-    let p : marks_of ps ≡ deletes (first_len ps) ++ marks_of new =
+    let p : marks_of ps ≡ remove_marks (first_len ps) ++ marks_of new =
     run_first ps new (first_len ps) (removes_alone ps h) (omega arith) some is ∙ ap (λ b. replicate (first_len ps) (base_mark b) ++ marks_of new) h in
     record {
       taken = ap (λ ms. compose ms (marks_of qs)) p ∙ removals_first (first_len ps) (marks_of new) qs row.second_none_empty none;
-      between = omega (arith, row.between, ap out_len p, out_len-append (deletes (first_len ps)) (marks_of new), out_len-deletes (first_len ps));
-      less = omega (arith, longer (marks_of ps) (deletes (first_len ps)) (marks_of new) p, length-replicate (first_len ps) Delete);
+      between = omega (arith, row.between, ap out_len p, out_len-append (remove_marks (first_len ps)) (marks_of new), out_len-remove_marks (first_len ps));
+      less = omega (arith, longer (marks_of ps) (remove_marks (first_len ps)) (marks_of new) p, length-replicate (first_len ps) Remove);
     }
   where
     first_removal_some : (ps : List Part) → NoneEmpty ps → first_removes ps ≡ true → 0 < first_len ps
@@ -133,31 +133,31 @@ take_removal ps qs new row none h is =
     first_removal_some (p ∷ ps) some h = some.0
 
 -- the first keeps characters
-take_kept : (removed : Bool) (n : ℕ) (text : List ℕ) (ps qs ps' qs' : List Part) → 0 < n → InARowInvariant ps qs → marks_of ps ≡ retains n ++ marks_of ps' → marks_of qs ≡ replicate n (base_mark removed) ++ marks_of qs'
+take_kept : (removed : Bool) (n : ℕ) (text : List ℕ) (ps qs ps' qs' : List Part) → 0 < n → InARowInvariant ps qs → marks_of ps ≡ keep_marks n ++ marks_of ps' → marks_of qs ≡ replicate n (base_mark removed) ++ marks_of qs'
     → Takes ps qs ps' qs' (through_marks false removed text n)
 take_kept true n text ps qs ps' qs' some row p q = record {
   taken = rw (p, q) (kept_removed n (marks_of ps') (marks_of qs'));
-  between = omega (arith, row.between, ap out_len p, ap base_len q, out_len-append (retains n) (marks_of ps'), out_len-retains n, base_len-append (deletes n) (marks_of qs'), base_len-deletes n);
-  less = omega (arith, longer (marks_of ps) (retains n) (marks_of ps') p, longer (marks_of qs) (deletes n) (marks_of qs') q, length-replicate n Retain, length-replicate n Delete);
+  between = omega (arith, row.between, ap out_len p, ap base_len q, out_len-append (keep_marks n) (marks_of ps'), out_len-keep_marks n, base_len-append (remove_marks n) (marks_of qs'), base_len-remove_marks n);
+  less = omega (arith, longer (marks_of ps) (keep_marks n) (marks_of ps') p, longer (marks_of qs) (remove_marks n) (marks_of qs') q, length-replicate n Keep, length-replicate n Remove);
 }
 take_kept false n text ps qs ps' qs' some row p q = record {
   taken = rw (p, q) (kept_kept n (marks_of ps') (marks_of qs'));
-  between = omega (arith, row.between, ap out_len p, ap base_len q, out_len-append (retains n) (marks_of ps'), out_len-retains n, base_len-append (retains n) (marks_of qs'), base_len-retains n);
-  less = omega (arith, longer (marks_of ps) (retains n) (marks_of ps') p, longer (marks_of qs) (retains n) (marks_of qs') q, length-replicate n Retain);
+  between = omega (arith, row.between, ap out_len p, ap base_len q, out_len-append (keep_marks n) (marks_of ps'), out_len-keep_marks n, base_len-append (keep_marks n) (marks_of qs'), base_len-keep_marks n);
+  less = omega (arith, longer (marks_of ps) (keep_marks n) (marks_of ps') p, longer (marks_of qs) (keep_marks n) (marks_of qs') q, length-replicate n Keep);
 }
 
 -- the first inserts them
-take_inserted : (removed : Bool) (text : List ℕ) (ps qs ps' qs' : List Part) → 0 < length text → InARowInvariant ps qs → marks_of ps ≡ inserts text ++ marks_of ps'
+take_inserted : (removed : Bool) (text : List ℕ) (ps qs ps' qs' : List Part) → 0 < length text → InARowInvariant ps qs → marks_of ps ≡ insert_marks text ++ marks_of ps'
     → marks_of qs ≡ replicate (length text) (base_mark removed) ++ marks_of qs' → Takes ps qs ps' qs' (through_marks true removed text (length text))
 take_inserted true text ps qs ps' qs' some row p q = record {
   taken = rw (p, q) (inserted_removed text (marks_of ps') (marks_of qs'));
-  between = omega (arith, row.between, ap out_len p, ap base_len q, out_len-append (inserts text) (marks_of ps'), out_len-inserts text, base_len-append (deletes (length text)) (marks_of qs'), base_len-deletes (length text));
-  less = omega (arith, longer (marks_of ps) (inserts text) (marks_of ps') p, longer (marks_of qs) (deletes (length text)) (marks_of qs') q, length-map {A = ℕ} {B = Mark}, length-replicate (length text) Delete);
+  between = omega (arith, row.between, ap out_len p, ap base_len q, out_len-append (insert_marks text) (marks_of ps'), out_len-insert_marks text, base_len-append (remove_marks (length text)) (marks_of qs'), base_len-remove_marks (length text));
+  less = omega (arith, longer (marks_of ps) (insert_marks text) (marks_of ps') p, longer (marks_of qs) (remove_marks (length text)) (marks_of qs') q, length-map {A = ℕ} {B = Mark}, length-replicate (length text) Remove);
 }
 take_inserted false text ps qs ps' qs' some row p q = record {
   taken = rw (p, q) (inserted_kept text (marks_of ps') (marks_of qs'));
-  between = omega (arith, row.between, ap out_len p, ap base_len q, out_len-append (inserts text) (marks_of ps'), out_len-inserts text, base_len-append (retains (length text)) (marks_of qs'), base_len-retains (length text));
-  less = omega (arith, longer (marks_of ps) (inserts text) (marks_of ps') p, longer (marks_of qs) (retains (length text)) (marks_of qs') q, length-map {A = ℕ} {B = Mark}, length-replicate (length text) Retain);
+  between = omega (arith, row.between, ap out_len p, ap base_len q, out_len-append (insert_marks text) (marks_of ps'), out_len-insert_marks text, base_len-append (keep_marks (length text)) (marks_of qs'), base_len-keep_marks (length text));
+  less = omega (arith, longer (marks_of ps) (insert_marks text) (marks_of ps') p, longer (marks_of qs) (keep_marks (length text)) (marks_of qs') q, length-map {A = ℕ} {B = Mark}, length-replicate (length text) Keep);
 }
 
 pub take_through : (inserted removed : Bool) (n : ℕ) (text : List ℕ) (ps qs ps' qs' : List Part) → inserted ≡ first_inserts ps → removed ≡ first_removes qs → InARowInvariant ps qs → first_inserts qs ≡ false → first_removes ps ≡ false
@@ -173,9 +173,9 @@ take_through false removed n text ps qs ps' qs' i r row none keeps is some t np 
 
 no_out : (ps : List Part) → NoneEmpty ps → first_removes ps ≡ false → out_len (marks_of ps) ≡ 0 → ps ≡ []
 no_out [] some h b = refl
-no_out (Keep n ∷ ps) some h b = absurd (omega (arith, out_len-append (retains n) (marks_of ps), out_len-retains n))
-no_out (InsertText text ∷ ps) some h b = absurd (omega (arith, out_len-append (inserts text) (marks_of ps), out_len-inserts text))
-no_out (Remove n ∷ ps) some h b = absurd cc
+no_out (KeepRun n ∷ ps) some h b = absurd (omega (arith, out_len-append (keep_marks n) (marks_of ps), out_len-keep_marks n))
+no_out (InsertText text ∷ ps) some h b = absurd (omega (arith, out_len-append (insert_marks text) (marks_of ps), out_len-insert_marks text))
+no_out (RemoveRun n ∷ ps) some h b = absurd cc
 
 pub no_chunk : (ps qs : List Part) → InARowInvariant ps qs → first_inserts qs ≡ false → first_removes ps ≡ false → min (first_len ps) (first_len qs) ≡ 0 → compose (marks_of ps) (marks_of qs) ≡ []
 no_chunk ps qs row hq hp none = go (eqb (first_len ps) 0) refl

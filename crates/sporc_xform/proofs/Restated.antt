@@ -5,16 +5,16 @@ use Rattle.std.specs.List.{flat_map}
 use Rattle.std.proofs.lemmas.List.{length-append}
 use Rattle.std.proofs.lemmas.Grind.{flat_map-append}
 use Rattle.sporc_delta.specs.declared.limits.TheConstants.{MAX_TEXT_LEN}
-use Rattle.sporc_delta.specs.Marks.{Mark, Retain, Delete, Insert, base_len, out_len, inserted_len, retains, inserts}
+use Rattle.sporc_delta.specs.Marks.{Mark, Keep, Remove, Insert, base_len, out_len, inserted_len, keep_marks, insert_marks}
 use Rattle.sporc_delta.specs.Transforms.{Step, Earlier, Later, Both, last_steps, steps_to, steps, later_step, earlier_step}
 use Rattle.sporc_delta.proofs.Lengths.{base_len-append, out_len-append}
 use Rattle.sporc_xform.specs.Runs.{base_mark, base_marks}
 
-pub later-earlier : (text : List ℕ) → flat_map later_step (map Earlier text) ≡ retains (length text)
+pub later-earlier : (text : List ℕ) → flat_map later_step (map Earlier text) ≡ keep_marks (length text)
 later-earlier [] = refl
-later-earlier (c ∷ text) = ap (λ ms. Retain ∷ ms) (later-earlier text)
+later-earlier (c ∷ text) = ap (λ ms. Keep ∷ ms) (later-earlier text)
 
-pub later-later : (text : List ℕ) → flat_map later_step (map Later text) ≡ inserts text
+pub later-later : (text : List ℕ) → flat_map later_step (map Later text) ≡ insert_marks text
 later-later [] = refl
 later-later (c ∷ text) = ap (λ ms. Insert c ∷ ms) (later-later text)
 
@@ -24,13 +24,13 @@ later-both true n (suc k) = later-both true n k
 later-both false n zero = refl
 later-both false n (suc k) = ap (λ ms. base_mark n ∷ ms) (later-both false n k)
 
-pub earlier-earlier : (text : List ℕ) → flat_map earlier_step (map Earlier text) ≡ inserts text
+pub earlier-earlier : (text : List ℕ) → flat_map earlier_step (map Earlier text) ≡ insert_marks text
 earlier-earlier [] = refl
 earlier-earlier (c ∷ text) = ap (λ ms. Insert c ∷ ms) (earlier-earlier text)
 
-pub earlier-later : (text : List ℕ) → flat_map earlier_step (map Later text) ≡ retains (length text)
+pub earlier-later : (text : List ℕ) → flat_map earlier_step (map Later text) ≡ keep_marks (length text)
 earlier-later [] = refl
-earlier-later (c ∷ text) = ap (λ ms. Retain ∷ ms) (earlier-later text)
+earlier-later (c ∷ text) = ap (λ ms. Keep ∷ ms) (earlier-later text)
 
 pub earlier-both : (m n : Bool) (k : ℕ) → flat_map earlier_step (replicate k (Both (base_mark m) (base_mark n))) ≡ base_marks n m k
 earlier-both m n zero = nothing n m
@@ -46,23 +46,23 @@ earlier-both m false (suc k) = ap (λ ms. base_mark m ∷ ms) (earlier-both m fa
 later_one : (s : Step) → (base_len (later_step s) ≤ 1) × (out_len (later_step s) ≤ 1)
 later_one (Earlier c) = (omega arith, omega arith)
 later_one (Later c) = (omega arith, omega arith)
-later_one (Both Delete n) = (omega arith, omega arith)
-later_one (Both Retain Retain) = (omega arith, omega arith)
-later_one (Both Retain Delete) = (omega arith, omega arith)
-later_one (Both Retain (Insert c)) = (omega arith, omega arith)
-later_one (Both (Insert d) Retain) = (omega arith, omega arith)
-later_one (Both (Insert d) Delete) = (omega arith, omega arith)
+later_one (Both Remove n) = (omega arith, omega arith)
+later_one (Both Keep Keep) = (omega arith, omega arith)
+later_one (Both Keep Remove) = (omega arith, omega arith)
+later_one (Both Keep (Insert c)) = (omega arith, omega arith)
+later_one (Both (Insert d) Keep) = (omega arith, omega arith)
+later_one (Both (Insert d) Remove) = (omega arith, omega arith)
 later_one (Both (Insert d) (Insert c)) = (omega arith, omega arith)
 
 earlier_one : (s : Step) → (base_len (earlier_step s) ≤ 1) × (out_len (earlier_step s) ≤ 1)
 earlier_one (Earlier c) = (omega arith, omega arith)
 earlier_one (Later c) = (omega arith, omega arith)
-earlier_one (Both n Delete) = (omega arith, omega arith)
-earlier_one (Both Retain Retain) = (omega arith, omega arith)
-earlier_one (Both Delete Retain) = (omega arith, omega arith)
-earlier_one (Both (Insert c) Retain) = (omega arith, omega arith)
-earlier_one (Both Retain (Insert d)) = (omega arith, omega arith)
-earlier_one (Both Delete (Insert d)) = (omega arith, omega arith)
+earlier_one (Both n Remove) = (omega arith, omega arith)
+earlier_one (Both Keep Keep) = (omega arith, omega arith)
+earlier_one (Both Remove Keep) = (omega arith, omega arith)
+earlier_one (Both (Insert c) Keep) = (omega arith, omega arith)
+earlier_one (Both Keep (Insert d)) = (omega arith, omega arith)
+earlier_one (Both Remove (Insert d)) = (omega arith, omega arith)
 earlier_one (Both (Insert c) (Insert d)) = (omega arith, omega arith)
 
 -- the marks that steps leave are no more than the steps
@@ -90,20 +90,20 @@ earlier_no_more = no_more earlier_step earlier_one
 length-last_steps : (q : List Mark) → length (last_steps q) ≤ inserted_len q
 length-last_steps [] = omega arith
 length-last_steps (Insert c ∷ q) = omega (arith, length-last_steps q)
-length-last_steps (Retain ∷ q) = omega arith
-length-last_steps (Delete ∷ q) = omega arith
+length-last_steps (Keep ∷ q) = omega arith
+length-last_steps (Remove ∷ q) = omega arith
 
 length-steps_to : (m : Mark) (n : ℕ) (rest : List Mark → List Step) → ((q : List Mark) → length (rest q) ≤ n + inserted_len q) → (q : List Mark) → length (steps_to m rest q) ≤ suc n + inserted_len q
 length-steps_to m n rest h [] = omega arith
 length-steps_to m n rest h (Insert c ∷ q) = omega (arith, length-steps_to m n rest h q)
-length-steps_to m n rest h (Retain ∷ q) = omega (arith, h q)
-length-steps_to m n rest h (Delete ∷ q) = omega (arith, h q)
+length-steps_to m n rest h (Keep ∷ q) = omega (arith, h q)
+length-steps_to m n rest h (Remove ∷ q) = omega (arith, h q)
 
 pub length-steps : (p q : List Mark) → length (steps p q) ≤ base_len p + inserted_len p + inserted_len q
 length-steps [] q = omega (arith, length-last_steps q)
 length-steps (Insert c ∷ p) q = omega (arith, length-steps p q)
-length-steps (Retain ∷ p) q = omega (arith, length-steps_to Retain (base_len p + inserted_len p) (steps p) (length-steps p) q)
-length-steps (Delete ∷ p) q = omega (arith, length-steps_to Delete (base_len p + inserted_len p) (steps p) (length-steps p) q)
+length-steps (Keep ∷ p) q = omega (arith, length-steps_to Keep (base_len p + inserted_len p) (steps p) (length-steps p) q)
+length-steps (Remove ∷ p) q = omega (arith, length-steps_to Remove (base_len p + inserted_len p) (steps p) (length-steps p) q)
 
 -- ---- a delta that grows run by run
 

@@ -4,11 +4,11 @@ use Rattle.std.specs.Prelude.{replicate}
 use Rattle.std.proofs.lemmas.List.{replicate-append-replicate, take_all}
 use Rattle.std.proofs.lemmas.Bool.{eqb-true, eqb-false}
 use Rattle.sporc_delta.specs.declared.part.Part.{Part}
-use Rattle.sporc_delta.specs.declared.part.Part.TheVariants.{Keep, Insert as InsertText, Remove}
-use Rattle.sporc_delta.specs.Marks.{Mark, Retain, Delete, base_len, retains, deletes, inserts}
+use Rattle.sporc_delta.specs.declared.part.Part.TheVariants.{Keep as KeepRun, Insert as InsertText, Remove as RemoveRun}
+use Rattle.sporc_delta.specs.Marks.{Mark, Keep, Remove, base_len, keep_marks, remove_marks, insert_marks}
 use Rattle.sporc_delta.specs.Parts.{marks_of, AreRuns}
 use Rattle.sporc_delta.specs.Transforms.{Earlier, Later, Both, steps}
-use Rattle.sporc_delta.proofs.Lengths.{base_len-append, base_len-retains, base_len-deletes, base_len-inserts}
+use Rattle.sporc_delta.proofs.Lengths.{base_len-append, base_len-keep_marks, base_len-remove_marks, base_len-insert_marks}
 use Rattle.sporc_xform.specs.Left.{cut, without, first_len, first_text, first_inserts, first_removes, NoneEmpty}
 use Rattle.sporc_xform.specs.Runs.{base_mark}
 
@@ -18,30 +18,30 @@ NoneEmpty-runs [] h = tt
 NoneEmpty-runs (p ∷ ps) h = (h.0, NoneEmpty-runs ps h.2)
 
 -- an insertion of the earlier one comes first
-earlier_first : (text : List ℕ) (p q : List Mark) → steps (inserts text ++ p) q ≡ map Earlier text ++ steps p q
+earlier_first : (text : List ℕ) (p q : List Mark) → steps (insert_marks text ++ p) q ≡ map Earlier text ++ steps p q
 earlier_first [] p q = refl
 earlier_first (c ∷ text) p q = ap (λ u. Earlier c ∷ u) (earlier_first text p q)
 
 -- then one of the later one, where the earlier one has none
-later_alone : (text : List ℕ) (q : List Mark) → steps [] (inserts text ++ q) ≡ map Later text ++ steps [] q
+later_alone : (text : List ℕ) (q : List Mark) → steps [] (insert_marks text ++ q) ≡ map Later text ++ steps [] q
 later_alone [] q = refl
 later_alone (c ∷ text) q = ap (λ u. Later c ∷ u) (later_alone text q)
 
-later_retain : (text : List ℕ) (p q : List Mark) → steps (Retain ∷ p) (inserts text ++ q) ≡ map Later text ++ steps (Retain ∷ p) q
-later_retain [] p q = refl
-later_retain (c ∷ text) p q = ap (λ u. Later c ∷ u) (later_retain text p q)
+later_keep : (text : List ℕ) (p q : List Mark) → steps (Keep ∷ p) (insert_marks text ++ q) ≡ map Later text ++ steps (Keep ∷ p) q
+later_keep [] p q = refl
+later_keep (c ∷ text) p q = ap (λ u. Later c ∷ u) (later_keep text p q)
 
-later_delete : (text : List ℕ) (p q : List Mark) → steps (Delete ∷ p) (inserts text ++ q) ≡ map Later text ++ steps (Delete ∷ p) q
-later_delete [] p q = refl
-later_delete (c ∷ text) p q = ap (λ u. Later c ∷ u) (later_delete text p q)
+later_remove : (text : List ℕ) (p q : List Mark) → steps (Remove ∷ p) (insert_marks text ++ q) ≡ map Later text ++ steps (Remove ∷ p) q
+later_remove [] p q = refl
+later_remove (c ∷ text) p q = ap (λ u. Later c ∷ u) (later_remove text p q)
 
 -- then both marks of each character
 both_first : (m n : Bool) (k : ℕ) (p q : List Mark) → steps (replicate k (base_mark m) ++ p) (replicate k (base_mark n) ++ q) ≡ replicate k (Both (base_mark m) (base_mark n)) ++ steps p q
 both_first m n zero p q = refl
-both_first true true (suc k) p q = ap (λ u. Both Delete Delete ∷ u) (both_first true true k p q)
-both_first true false (suc k) p q = ap (λ u. Both Delete Retain ∷ u) (both_first true false k p q)
-both_first false true (suc k) p q = ap (λ u. Both Retain Delete ∷ u) (both_first false true k p q)
-both_first false false (suc k) p q = ap (λ u. Both Retain Retain ∷ u) (both_first false false k p q)
+both_first true true (suc k) p q = ap (λ u. Both Remove Remove ∷ u) (both_first true true k p q)
+both_first true false (suc k) p q = ap (λ u. Both Remove Keep ∷ u) (both_first true false k p q)
+both_first false true (suc k) p q = ap (λ u. Both Keep Remove ∷ u) (both_first false true k p q)
+both_first false false (suc k) p q = ap (λ u. Both Keep Keep ∷ u) (both_first false false k p q)
 
 -- ---- the first part of a list of parts
 
@@ -50,12 +50,12 @@ part_cut m n x h = let e : m ≡ n + (m - n) = omega arith in ap (λ k. replicat
 
 -- a text that comes first, whole
 pub record TextFirst (ps new : List Part) (text : List ℕ) : Type 0 where
-  pub marks : marks_of ps ≡ inserts text ++ marks_of new
+  pub marks : marks_of ps ≡ insert_marks text ++ marks_of new
 
 pub text_first : (ps new : List Part) (text : List ℕ) → first_inserts ps ≡ true → text ≡ take (first_len ps) (first_text ps) → new ≡ without (first_len ps) ps → TextFirst ps new text
 text_first [] new text h t n = absurd cc
-text_first (Keep m ∷ ps) new text h t n = absurd cc
-text_first (Remove m ∷ ps) new text h t n = absurd cc
+text_first (KeepRun m ∷ ps) new text h t n = absurd cc
+text_first (RemoveRun m ∷ ps) new text h t n = absurd cc
 text_first (InsertText all ∷ ps) new text h t n =
     let whole : text ≡ all = t ∙ take_all (length all) all (omega arith) in
     let rest : new ≡ ps = n ∙ ap (λ b. cond b ps (cut (length all) (InsertText all ∷ ps))) (eq-eqb (length all) (length all) refl) in
@@ -65,26 +65,26 @@ text_first (InsertText all ∷ ps) new text h t n =
 pub run_first : (ps new : List Part) (n : ℕ) → first_inserts ps ≡ false → n ≤ first_len ps → 0 < n → new ≡ without n ps → marks_of ps ≡ replicate n (base_mark (first_removes ps)) ++ marks_of new
 run_first [] new n h le some is = absurd (omega arith)
 run_first (InsertText text ∷ ps) new n h le some is = absurd cc
-run_first (Keep m ∷ ps) new n h le some is = go (eqb m n) refl
+run_first (KeepRun m ∷ ps) new n h le some is = go (eqb m n) refl
   where
-    go : (b : Bool) → eqb m n ≡ b → marks_of (Keep m ∷ ps) ≡ replicate n Retain ++ marks_of new
+    go : (b : Bool) → eqb m n ≡ b → marks_of (KeepRun m ∷ ps) ≡ replicate n Keep ++ marks_of new
     go true e =
         let same : m ≡ n = eqb-true m n e in
-        let rest : new ≡ ps = is ∙ ap (λ b. cond b ps (cut n (Keep m ∷ ps))) e in
+        let rest : new ≡ ps = is ∙ ap (λ b. cond b ps (cut n (KeepRun m ∷ ps))) e in
         rw (rest, same) refl
     go false e =
-        let rest : new ≡ Keep (m - n) ∷ ps = is ∙ ap (λ b. cond b ps (cut n (Keep m ∷ ps))) e in
-        rw (rest, part_cut m n Retain le, append_assoc) refl
-run_first (Remove m ∷ ps) new n h le some is = go (eqb m n) refl
+        let rest : new ≡ KeepRun (m - n) ∷ ps = is ∙ ap (λ b. cond b ps (cut n (KeepRun m ∷ ps))) e in
+        rw (rest, part_cut m n Keep le, append_assoc) refl
+run_first (RemoveRun m ∷ ps) new n h le some is = go (eqb m n) refl
   where
-    go : (b : Bool) → eqb m n ≡ b → marks_of (Remove m ∷ ps) ≡ replicate n Delete ++ marks_of new
+    go : (b : Bool) → eqb m n ≡ b → marks_of (RemoveRun m ∷ ps) ≡ replicate n Remove ++ marks_of new
     go true e =
         let same : m ≡ n = eqb-true m n e in
-        let rest : new ≡ ps = is ∙ ap (λ b. cond b ps (cut n (Remove m ∷ ps))) e in
+        let rest : new ≡ ps = is ∙ ap (λ b. cond b ps (cut n (RemoveRun m ∷ ps))) e in
         rw (rest, same) refl
     go false e =
-        let rest : new ≡ Remove (m - n) ∷ ps = is ∙ ap (λ b. cond b ps (cut n (Remove m ∷ ps))) e in
-        rw (rest, part_cut m n Delete le, append_assoc) refl
+        let rest : new ≡ RemoveRun (m - n) ∷ ps = is ∙ ap (λ b. cond b ps (cut n (RemoveRun m ∷ ps))) e in
+        rw (rest, part_cut m n Remove le, append_assoc) refl
 
 -- ---- the steps of two lists of parts
 
@@ -93,15 +93,15 @@ pub earlier_text : (ps new : List Part) (q : List Mark) (text : List ℕ) → fi
 earlier_text ps new q text h t n = rw (text_first ps new text h t n).marks (earlier_first text (marks_of new) q)
 
 pub text_base : (ps new : List Part) (text : List ℕ) → first_inserts ps ≡ true → text ≡ take (first_len ps) (first_text ps) → new ≡ without (first_len ps) ps → base_len (marks_of ps) ≡ base_len (marks_of new)
-text_base ps new text h t n = rw ((text_first ps new text h t n).marks, base_len-append, base_len-inserts) (omega arith)
+text_base ps new text h t n = rw ((text_first ps new text h t n).marks, base_len-append, base_len-insert_marks) (omega arith)
 
-later_behind : (ps : List Part) (q : List Mark) (text : List ℕ) → NoneEmpty ps → first_inserts ps ≡ false → steps (marks_of ps) (inserts text ++ q) ≡ map Later text ++ steps (marks_of ps) q
+later_behind : (ps : List Part) (q : List Mark) (text : List ℕ) → NoneEmpty ps → first_inserts ps ≡ false → steps (marks_of ps) (insert_marks text ++ q) ≡ map Later text ++ steps (marks_of ps) q
 later_behind [] q text some h = later_alone text q
-later_behind (Keep zero ∷ ps) q text some h = absurd (omega arith)
-later_behind (Keep (suc n) ∷ ps) q text some h = later_retain text (retains n ++ marks_of ps) q
+later_behind (KeepRun zero ∷ ps) q text some h = absurd (omega arith)
+later_behind (KeepRun (suc n) ∷ ps) q text some h = later_keep text (keep_marks n ++ marks_of ps) q
 later_behind (InsertText t ∷ ps) q text some h = absurd cc
-later_behind (Remove zero ∷ ps) q text some h = absurd (omega arith)
-later_behind (Remove (suc n) ∷ ps) q text some h = later_delete text (deletes n ++ marks_of ps) q
+later_behind (RemoveRun zero ∷ ps) q text some h = absurd (omega arith)
+later_behind (RemoveRun (suc n) ∷ ps) q text some h = later_remove text (remove_marks n ++ marks_of ps) q
 
 pub later_text : (ps qs new : List Part) (text : List ℕ) → NoneEmpty ps → first_inserts ps ≡ false → first_inserts qs ≡ true → text ≡ take (first_len qs) (first_text qs) → new ≡ without (first_len qs) qs
     → steps (marks_of ps) (marks_of qs) ≡ map Later text ++ steps (marks_of ps) (marks_of new)
@@ -113,8 +113,8 @@ pub record BothFirst (ps qs ps' qs' : List Part) (n : ℕ) : Type 0 where
   pub base : base_len (marks_of ps) ≡ base_len (marks_of qs) → base_len (marks_of ps') ≡ base_len (marks_of qs')
 
 base_len-marks : (m : Bool) (n : ℕ) → base_len (replicate n (base_mark m)) ≡ n
-base_len-marks true n = base_len-deletes n
-base_len-marks false n = base_len-retains n
+base_len-marks true n = base_len-remove_marks n
+base_len-marks false n = base_len-keep_marks n
 
 pub both_runs : (ps qs ps' qs' : List Part) (n : ℕ) → first_inserts ps ≡ false → first_inserts qs ≡ false → n ≡ min (first_len ps) (first_len qs) → 0 < n → ps' ≡ without n ps → qs' ≡ without n qs
     → BothFirst ps qs ps' qs' n
@@ -136,9 +136,9 @@ no_part (p ∷ ps) some h = absurd (omega arith)
 
 pub no_base : (ps : List Part) → NoneEmpty ps → first_inserts ps ≡ false → base_len (marks_of ps) ≡ 0 → ps ≡ []
 no_base [] some h b = refl
-no_base (Keep n ∷ ps) some h b = absurd (omega (arith, base_len-append (retains n) (marks_of ps), base_len-retains n))
+no_base (KeepRun n ∷ ps) some h b = absurd (omega (arith, base_len-append (keep_marks n) (marks_of ps), base_len-keep_marks n))
 no_base (InsertText text ∷ ps) some h b = absurd cc
-no_base (Remove n ∷ ps) some h b = absurd (omega (arith, base_len-append (deletes n) (marks_of ps), base_len-deletes n))
+no_base (RemoveRun n ∷ ps) some h b = absurd (omega (arith, base_len-append (remove_marks n) (marks_of ps), base_len-remove_marks n))
 
 pub no_steps : (ps qs : List Part) → NoneEmpty ps → NoneEmpty qs → first_inserts ps ≡ false → first_inserts qs ≡ false → base_len (marks_of ps) ≡ base_len (marks_of qs)
     → min (first_len ps) (first_len qs) ≡ 0 → steps (marks_of ps) (marks_of qs) ≡ []

@@ -62,8 +62,8 @@ impl<'a> InARow<'a> {
         requires { out_len first.now ≡ base_len second.now }
         ensures first { result.first ≡ first.entry.now }
         ensures second { result.second ≡ second.entry.now }
-        ensures base { base_len first.entry.now ≤ MAX_TEXT_LEN }
-        ensures out { out_len second.entry.now ≤ MAX_TEXT_LEN }
+        ensures base_within { base_len first.entry.now ≤ MAX_TEXT_LEN }
+        ensures out_within { out_len second.entry.now ≤ MAX_TEXT_LEN }
     {
         InARow {
             first: Cursor::new(first),

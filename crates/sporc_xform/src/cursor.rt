@@ -66,8 +66,8 @@ impl<'a> Cursor<'a> {
 
     /// Takes marks of the first part, and hands out the text that they insert.
     pub fn take(&mut self, count: u64) -> TextSlice<'a>
-        requires some { 0 < first_len self.old }
-        requires within { count ≤ first_len self.old }
+        requires positive { 0 < first_len self.old }
+        requires in_bounds { count ≤ first_len self.old }
         ensures left { self.new ≡ without count self.old }
         ensures text { result ≡ take count (first_text self.old) }
         ensures none_empty { NoneEmpty self.old → NoneEmpty self.new }

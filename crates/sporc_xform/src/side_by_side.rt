@@ -61,7 +61,7 @@ impl<'a> SideBySide<'a> {
     /// The next steps, if any are left.
     pub fn next(&mut self) -> Option<Run<'a>>
         ensures taken { IfSome result (λ run. self.old ≡ run_steps run ++ self.new) }
-        ensures some { IfSome result (λ run. 0 < length (run_steps run)) }
+        ensures positive { IfSome result (λ run. 0 < length (run_steps run)) }
         ensures end { IfNone result (self.old ≡ []) }
     {
         next_run(&mut self.earlier, &mut self.later)
@@ -73,7 +73,7 @@ fn next_run<'a>(p: &mut Cursor<'a>, q: &mut Cursor<'a>) -> Option<Run<'a>>
     requires { SideBySideInvariant p.old q.old }
     ensures over { SideBySideInvariant p.new q.new }
     ensures taken { IfSome result (λ run. steps (marks_of p.old) (marks_of q.old) ≡ run_steps run ++ steps (marks_of p.new) (marks_of q.new)) }
-    ensures some { IfSome result (λ run. 0 < length (run_steps run)) }
+    ensures positive { IfSome result (λ run. 0 < length (run_steps run)) }
     ensures end { IfNone result (steps (marks_of p.old) (marks_of q.old) ≡ []) }
 {
     if p.inserts() {

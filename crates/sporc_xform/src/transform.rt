@@ -62,8 +62,8 @@ pub fn both(alloc: Global, p: &Delta, q: &Delta) -> Result<(Delta, Delta), Memor
 
 // Appends what these steps leave of the delta that is ordered later.
 fn push_later(delta: &mut Delta, run: &Run<'_>) -> Result<(), Memory>
-    requires base { base_len delta.old + length (run_steps run.now) ≤ MAX_TEXT_LEN }
-    requires out { out_len delta.old + length (run_steps run.now) ≤ MAX_TEXT_LEN }
+    requires base_limit { base_len delta.old + length (run_steps run.now) ≤ MAX_TEXT_LEN }
+    requires out_limit { out_len delta.old + length (run_steps run.now) ≤ MAX_TEXT_LEN }
     ensures ok { OnOk result (delta.new ≡ delta.old ++ flat_map later_step (run_steps run.now)) }
 {
     match run {
@@ -79,8 +79,8 @@ fn push_later(delta: &mut Delta, run: &Run<'_>) -> Result<(), Memory>
 
 // Appends what these steps leave of the delta that is ordered earlier.
 fn push_earlier(delta: &mut Delta, run: &Run<'_>) -> Result<(), Memory>
-    requires base { base_len delta.old + length (run_steps run.now) ≤ MAX_TEXT_LEN }
-    requires out { out_len delta.old + length (run_steps run.now) ≤ MAX_TEXT_LEN }
+    requires base_limit { base_len delta.old + length (run_steps run.now) ≤ MAX_TEXT_LEN }
+    requires out_limit { out_len delta.old + length (run_steps run.now) ≤ MAX_TEXT_LEN }
     ensures ok { OnOk result (delta.new ≡ delta.old ++ flat_map earlier_step (run_steps run.now)) }
 {
     match run {
@@ -101,8 +101,8 @@ fn push_base(
     removes: bool,
     count: u64,
 ) -> Result<(), Memory>
-    requires base { base_len delta.old + count ≤ MAX_TEXT_LEN }
-    requires out { out_len delta.old + count ≤ MAX_TEXT_LEN }
+    requires base_limit { base_len delta.old + count ≤ MAX_TEXT_LEN }
+    requires out_limit { out_len delta.old + count ≤ MAX_TEXT_LEN }
     ensures ok { OnOk result (delta.new ≡ delta.old ++ base_marks other_removes removes count) }
 {
     if other_removes {

@@ -44,7 +44,7 @@ impl<D: LeafDisk> Client<D> {
         self.accept_known(by, pos, bytes, None)
     }
 
-    /// The same of an entry whose signature was examined. It is verified anew if the key isn't that of its author's device at this history.
+    /// Accepts an entry whose signature was examined. It is verified anew if the key isn't that of its author's device here.
     pub fn accept_examined(
         &mut self,
         by: u32,
@@ -58,7 +58,7 @@ impl<D: LeafDisk> Client<D> {
         self.accept_known(by, pos, examined.entry(), Some(examined.known()))
     }
 
-    // The same of bytes of which a verdict may be known.
+    // Accepts an entry's bytes, of which a verdict may be known.
     fn accept_known(
         &mut self,
         by: u32,
@@ -95,10 +95,10 @@ fn take_entry(
 ) -> Result<(), Memory>
     requires bytes { prepared.checked.bytes ≡ bytes.now }
     requires prepared { IsPrepared line.old.genesis line.old.kit line.old.entries prepared }
-    requires ready { 1 ≤ line.old.spare }
+    requires room { 1 ≤ line.old.spare }
     requires settles { CanSettle own.old prepared }
     ensures ok { OnOk result (Takes line.old line.new own.old own.new by prepared) }
-    ensures unchanged_line { OnErr result (line.new ≡ line.old) }
+    ensures line_unchanged { OnErr result (line.new ≡ line.old) }
     ensures unchanged { OnErr result (SameOwn own.old own.new) }
 {
     match ready_coming(alloc, line.own_device(), own, &prepared, bytes) {
@@ -127,9 +127,9 @@ fn ready_coming(
     requires settles { CanSettle own.old prepared.now }
     ensures coming { IfOk result (λ both. effect both.0 own.old.pending ≡ coming_of (is_same_as own.old.flight bytes.now) (is_some (change_of prepared.now.checked.entry)) (same_device (author_device prepared.now.checked.entry.header) me) prepared.now.form own.old.pending) }
     ensures fits { IfOk result (λ both. CanCome both.0 own.old.pending) }
-    ensures ready { IfOk result (λ both. both.1.form ≡ form_at own.old prepared.now) }
+    ensures ready_form { IfOk result (λ both. both.1.form ≡ form_at own.old prepared.now) }
     ensures made { IfOk result (λ both. IsReadyAt 0 own.new.shown both.1) }
-    ensures spare { OnOk result (0 < own.new.spare) }
+    ensures room { OnOk result (0 < own.new.spare) }
     ensures unchanged { SameOwn own.old own.new }
 {
     let (coming, form) = settle(alloc, me, own, prepared, bytes)?;
@@ -154,7 +154,7 @@ fn check_entry(
     ensures fault { AnswersUnless AcceptFault.Memory result (or_full (nat_lt (length own.now.shown) MAX_EVENTS) (first_fault line.old.genesis line.old.kit line.old.entries pos bytes.now)) }
     ensures prepared { IfOk result (IsPrepared line.old.genesis line.old.kit line.old.entries) }
     ensures bytes { IfOk result (λ prepared. prepared.checked.bytes ≡ bytes.now) }
-    ensures ready { OnOk result (1 ≤ line.new.spare) }
+    ensures room { OnOk result (1 ≤ line.new.spare) }
     ensures genesis { line.new.genesis ≡ line.old.genesis }
     ensures kit { line.new.kit ≡ line.old.kit }
     ensures entries { line.new.entries ≡ line.old.entries }

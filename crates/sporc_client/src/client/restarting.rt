@@ -86,7 +86,7 @@ fn accepted_before(alloc: Global, line: &Line) -> Result<Workspace, Memory>
     ensures shown { IfOk result (λ own. own.shown ≡ forms_of line.now.genesis line.now.kit line.now.entries) }
     ensures journal { IfOk result (λ own. own.journal ≡ journal_of (log_of_entries line.now.entries)) }
     ensures good { OnOk result (Good line.now.genesis line.now.kit line.now.entries) }
-    ensures few { OnOk result (length line.now.entries ≤ MAX_ENTRIES) }
+    ensures within { OnOk result (length line.now.entries ≤ MAX_ENTRIES) }
 {
     let len = line.len();
     let mut own = Workspace::new(alloc)?;

@@ -8,7 +8,7 @@ ghost use Rattle.sporc_delta.specs.declared.limits.TheConstants.{MAX_COUNT};
 ghost use Rattle.sporc_head.specs.History.{epoch_of};
 ghost use Rattle.sporc_line.specs.declared.limits.TheConstants.{MAX_COMMITTED_LEN};
 ghost use Rattle.sporc_line.specs.Document.{text_of};
-ghost use Rattle.sporc_line.specs.Keys.{key_of};
+ghost use Rattle.sporc_line.specs.Keys.{epoch_key};
 ghost use Rattle.sporc_client.specs.declared.limits.TheConstants.{MAX_SHOWN_LEN};
 ghost use Rattle.sporc_client.specs.Answers.{is_out};
 ghost use Rattle.sporc_client.specs.ClientModel.{state_of};
@@ -66,7 +66,7 @@ impl<D: LeafDisk> Client<D> {
 
     /// The key of the last epoch. None if a change removed the member.
     pub fn key(&self) -> Option<&[u8; 32]>
-        ensures value { option_copied result ≡ key_of self.now.opening.genesis self.now.opening.kit (state_of self.now).entries (epoch_of (state_of self.now).entries) }
+        ensures value { option_copied result ≡ epoch_key self.now.opening.genesis self.now.opening.kit (state_of self.now).entries (epoch_of (state_of self.now).entries) }
         ensures none { is_none result ≡ is_out (state_of self.now) }
     {
         self.line.key()
@@ -84,7 +84,7 @@ fn committed_len(line: &Line) -> u64
 // A text after a delta.
 fn edited(alloc: Global, text: &str, delta: &Delta) -> Result<String, Memory>
     requires base { base_len delta.now ≡ length (chars text.now) }
-    requires short { length text.now ≤ MAX_COUNT }
+    requires limit { length text.now ≤ MAX_COUNT }
     ensures value { IfOk result (λ t. string_bytes t ≡ encode_utf8_all (apply delta.now (chars text.now))) }
 {
     let all = Delta::insert_at(alloc, 0, 0, text)?;

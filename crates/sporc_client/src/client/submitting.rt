@@ -30,7 +30,7 @@ impl<D: LeafDisk> Client<D> {
     /// it takes off. The leaf that signs is that of the kept ticket or, if there is none, one that it draws. If memory runs
     /// out a leaf that was drawn is kept for the next entry, and all else stays.
     pub fn submit(&mut self, by: u32, random: &[u8; 64]) -> Result<Submitted, SubmitFault>
-        ensures answer { GivesUnless SubmitFault.Memory (λ s. s) result (submission (state_of self.old) random.now (leaf_for self.old.ticket self.old.leaves self.new.leaves)) }
+        ensures value { GivesUnless SubmitFault.Memory (λ s. s) result (submission (state_of self.old) random.now (leaf_for self.old.ticket self.old.leaves self.new.leaves)) }
         ensures may { MayDraw (state_of self.old) (leaf_for self.old.ticket self.old.leaves self.new.leaves) }
         ensures log { self.new ≡ record self.old {
           log = self.old.log ++ submission_added by result;
@@ -66,7 +66,7 @@ impl<D: LeafDisk> Client<D> {
     // Makes the entry of the first pending item.
     fn submit_first(&mut self, by: u32, random: &[u8; 64]) -> Result<Submitted, SubmitFault>
         requires { is_signing (due (state_of self.old)) ≡ true }
-        ensures answer { GivesUnless SubmitFault.Memory (λ s. s) result (submission (state_of self.old) random.now (leaf_for self.old.ticket self.old.leaves self.new.leaves)) }
+        ensures value { GivesUnless SubmitFault.Memory (λ s. s) result (submission (state_of self.old) random.now (leaf_for self.old.ticket self.old.leaves self.new.leaves)) }
         ensures log { self.new ≡ record self.old {
           log = self.old.log ++ submission_added by result;
           leaves = self.new.leaves;

@@ -200,7 +200,7 @@ fn edits_refused(
     bodies_refused(rt, alloc, cast, line, good, body.as_slice());
 }
 
-// The same, at the line of editor 2.
+// Edits of all these kinds at the line of editor 2.
 fn edits_refused_by(rt: &impl Abort, alloc: Global, cast: &Cast, sample: &History, len: u64) {
     let mut line = founded(rt, alloc, cast, 2);
     take(rt, &mut line, sample, None);
@@ -315,7 +315,7 @@ const ADMIN: Change = Change::SetRole {
     role: Role::Admin,
 };
 
-// The same behind an Upgrade, which both accept: admin 2, with whom editor 5 shares no key, makes those that fail all checks from
+// Refused entries behind an Upgrade, which both accept: admin 2, with whom editor 5 shares no key, makes those that fail all checks from
 // one on.
 fn refused_behind_an_upgrade(rt: &impl Abort, alloc: Global, cast: &Cast, sample: &mut History) {
     change(rt, alloc, cast, sample, ADMIN, ALL);

@@ -31,7 +31,7 @@ impl Line {
         ensures fault { AnswersUnless Refusal.Memory result (first_fault self.old.genesis self.old.kit self.old.entries pos bytes.now) }
         ensures prepared { IfOk result (IsPrepared self.old.genesis self.old.kit self.old.entries) }
         ensures bytes { IfOk result (λ prepared. prepared.checked.bytes ≡ bytes.now) }
-        ensures ready { OnOk result (1 ≤ self.new.spare) }
+        ensures room { OnOk result (1 ≤ self.new.spare) }
         ensures genesis { self.new.genesis ≡ self.old.genesis }
         ensures kit { self.new.kit ≡ self.old.kit }
         ensures entries { self.new.entries ≡ self.old.entries }
@@ -39,12 +39,12 @@ impl Line {
         self.prepare_known(pos, bytes, None)
     }
 
-    /// The same of an entry whose signature was examined. It is verified anew if the key isn't that of its author's device at this line.
+    /// Checks and prepares an entry whose signature was examined. It is verified anew if the key isn't that of its author's device here.
     pub fn prepare_examined(&mut self, pos: u32, examined: &Examined) -> Result<Prepared, Refusal>
         ensures fault { AnswersUnless Refusal.Memory result (first_fault self.old.genesis self.old.kit self.old.entries pos examined.now.entry) }
         ensures prepared { IfOk result (IsPrepared self.old.genesis self.old.kit self.old.entries) }
         ensures bytes { IfOk result (λ prepared. prepared.checked.bytes ≡ examined.now.entry) }
-        ensures ready { OnOk result (1 ≤ self.new.spare) }
+        ensures room { OnOk result (1 ≤ self.new.spare) }
         ensures genesis { self.new.genesis ≡ self.old.genesis }
         ensures kit { self.new.kit ≡ self.old.kit }
         ensures entries { self.new.entries ≡ self.old.entries }
@@ -52,7 +52,7 @@ impl Line {
         self.prepare_known(pos, examined.entry(), Some(examined.known()))
     }
 
-    /// The same of bytes of which a verdict may be known.
+    /// Checks and prepares an entry's bytes, of which a verdict may be known.
     pub fn prepare_known(
         &mut self,
         pos: u32,
@@ -63,7 +63,7 @@ impl Line {
         ensures fault { AnswersUnless Refusal.Memory result (first_fault self.old.genesis self.old.kit self.old.entries pos bytes.now) }
         ensures prepared { IfOk result (IsPrepared self.old.genesis self.old.kit self.old.entries) }
         ensures bytes { IfOk result (λ prepared. prepared.checked.bytes ≡ bytes.now) }
-        ensures ready { OnOk result (1 ≤ self.new.spare) }
+        ensures room { OnOk result (1 ≤ self.new.spare) }
         ensures genesis { self.new.genesis ≡ self.old.genesis }
         ensures kit { self.new.kit ≡ self.old.kit }
         ensures entries { self.new.entries ≡ self.old.entries }
@@ -79,7 +79,7 @@ impl Line {
     /// Appends an entry that was prepared at this line as it is now. It takes no memory.
     pub fn commit(&mut self, prepared: Prepared)
         requires prepared { IsPrepared self.old.genesis self.old.kit self.old.entries prepared }
-        requires ready { 1 ≤ self.old.spare }
+        requires room { 1 ≤ self.old.spare }
         ensures genesis { self.new.genesis ≡ self.old.genesis }
         ensures kit { self.new.kit ≡ self.old.kit }
         ensures entries { self.new.entries ≡ self.old.entries ++ prepared.checked.bytes ∷ [] }
@@ -108,7 +108,7 @@ impl Line {
         self.accept_known(pos, bytes, None)
     }
 
-    /// The same of an entry whose signature was examined. It is verified anew if the key isn't that of its author's device at this line.
+    /// Appends an entry whose signature was examined. It is verified anew if the key isn't that of its author's device here.
     pub fn accept_examined(&mut self, pos: u32, examined: &Examined) -> Result<(), Refusal>
         ensures fault { AnswersUnless Refusal.Memory result (first_fault self.old.genesis self.old.kit self.old.entries pos examined.now.entry) }
         ensures genesis { self.new.genesis ≡ self.old.genesis }
@@ -119,7 +119,7 @@ impl Line {
         self.accept_known(pos, examined.entry(), Some(examined.known()))
     }
 
-    /// The same of bytes of which a verdict may be known.
+    /// Accepts an entry's bytes, of which a verdict may be known.
     pub fn accept_known(
         &mut self,
         pos: u32,
@@ -191,7 +191,7 @@ impl Line {
 
     // What marks, stated on the text after `from` entries, become behind all forms.
     fn over_forms(&self, marks: Delta, from: u32) -> Result<Delta, Memory>
-        requires within { from ≤ length self.now.entries }
+        requires in_bounds { from ≤ length self.now.entries }
         requires base { base_len marks ≡ length (text_of self.now.genesis self.now.kit (take from self.now.entries)) }
         requires limit { inserted_len marks ≤ MAX_EDIT_BODY }
         ensures ok { IfOk result (λ form. form ≡ later_over marks (drop from (forms_of self.now.genesis self.now.kit self.now.entries))) }
@@ -206,7 +206,7 @@ impl Line {
         requires effect { IsEffect self.old.genesis self.old.kit self.old.entries checked effect }
         ensures prepared { IfOk result (IsPrepared self.old.genesis self.old.kit self.old.entries) }
         ensures bytes { IfOk result (λ prepared. prepared.checked.bytes ≡ checked.bytes) }
-        ensures ready { OnOk result (1 ≤ self.new.spare) }
+        ensures room { OnOk result (1 ≤ self.new.spare) }
         ensures genesis { self.new.genesis ≡ self.old.genesis }
         ensures kit { self.new.kit ≡ self.old.kit }
         ensures entries { self.new.entries ≡ self.old.entries }

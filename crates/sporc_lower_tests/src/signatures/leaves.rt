@@ -141,7 +141,7 @@ fn goes_on(rt: &impl Abort, alloc: Global, image: &[u8], drawn: u32) {
     draws_the_rest(rt, &mut leaves, &mut drawn);
 }
 
-// The same on each image of what is left if a life is stopped at this call.
+// A life on each image of what is left if one is stopped at this call.
 fn goes_on_after(rt: &impl Abort, alloc: Global, call: u64, wanted: u32) {
     let (disk, drawn) = stopped(rt, alloc, call);
     check(rt, "stopped", disk.faults() == u64::from(call < 10));

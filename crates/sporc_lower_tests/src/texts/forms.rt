@@ -14,8 +14,8 @@ use std::sync::ledger::{Blank, Ledger};
 // Whether the texts before and after it are short.
 #[tactic(auto, using(sporc_xform::proofs::LengthLemmas::inserted_len_le))]
 fn is_short(delta: &Delta) -> bool
-    ensures base { IsTrue result → base_len delta.now ≤ 10000 }
-    ensures inserted { IsTrue result → inserted_len delta.now ≤ 10000 }
+    ensures base_within { IsTrue result → base_len delta.now ≤ 10000 }
+    ensures inserted_within { IsTrue result → inserted_len delta.now ≤ 10000 }
 {
     delta.base_len() <= 10_000 && delta.out_len() <= 10_000
 }
@@ -23,8 +23,8 @@ fn is_short(delta: &Delta) -> bool
 // A delta of a text of `len` characters that changes one of them, by its number in a list of forms.
 fn numbered(rt: &impl Abort, alloc: Global, number: u32, len: u64) -> Delta
     ensures base { base_len result ≡ len }
-    ensures short { len ≤ 10000 }
-    ensures few { inserted_len result ≤ 10000 }
+    ensures len_within { len ≤ 10000 }
+    ensures within { inserted_len result ≤ 10000 }
 {
     assert!(rt; 0 < len && len <= 9_999);
     let made = match number % 4 {
@@ -57,17 +57,17 @@ fn push_anyway(rt: &impl Abort, blocks: &mut Blocks, form: Delta)
     }
 }
 
-// The same of short forms that follow one another.
+// Appends a short form to short forms that follow one another.
 fn append(rt: &impl Abort, blocks: &mut Blocks, form: Delta)
     requires base { base_len form ≡ reached blocks.old.base blocks.old.forms }
     requires limit { length blocks.old.forms ≤ 10000 }
     requires follow { Follow blocks.old.base blocks.old.forms }
-    requires few { inserted_len form ≤ 10000 }
-    requires inserted { all_inserted blocks.old.forms ≤ 10000 * length blocks.old.forms }
+    requires form_limit { inserted_len form ≤ 10000 }
+    requires inserted_limit { all_inserted blocks.old.forms ≤ 10000 * length blocks.old.forms }
     ensures len { length blocks.new.forms ≡ length blocks.old.forms + 1 }
     ensures follow { Follow blocks.new.base blocks.new.forms }
     ensures reached { reached blocks.new.base blocks.new.forms ≡ out_len form }
-    ensures inserted { all_inserted blocks.new.forms ≤ 10000 * length blocks.new.forms }
+    ensures inserted_within { all_inserted blocks.new.forms ≤ 10000 * length blocks.new.forms }
 {
     push_anyway(rt, blocks, form);
 }
@@ -75,9 +75,9 @@ fn append(rt: &impl Abort, blocks: &mut Blocks, form: Delta)
 // So many forms over `xyz`: each inserts a letter at 0, or each is the one of its number.
 fn forms(rt: &impl Abort, alloc: Global, count: u32, at_front: bool) -> Blocks
     ensures len { length result.forms ≡ count }
-    ensures limit { length result.forms ≤ 10000 }
+    ensures within { length result.forms ≤ 10000 }
     ensures follow { Follow result.base result.forms }
-    ensures inserted { all_inserted result.forms ≤ 10000 * length result.forms }
+    ensures inserted_within { all_inserted result.forms ≤ 10000 * length result.forms }
 {
     assert!(rt; count <= 10_000);
     let mut blocks = Blocks::new(alloc, 3).expect(rt, "memory");
@@ -99,10 +99,10 @@ fn behind_all<L: Ledger>(
     from: u32,
     steps: &mut Steps<L>,
 ) -> Delta
-    requires within { from < length blocks.now.forms }
+    requires in_bounds { from < length blocks.now.forms }
     requires limit { length blocks.now.forms ≤ 10000 }
     requires follow { Follow blocks.now.base blocks.now.forms }
-    requires inserted { all_inserted blocks.now.forms ≤ 10000 * length blocks.now.forms }
+    requires inserted_limit { all_inserted blocks.now.forms ≤ 10000 * length blocks.now.forms }
     // With 4,096 forms it passes from the second on in at most 24 steps.
     ensures steps { length blocks.now.forms ≡ 4096 → from ≡ 1 → steps.new ≤ steps.old + 24 }
 {
@@ -110,7 +110,7 @@ fn behind_all<L: Ledger>(
     blocks.later_over(&delta, from, steps).expect(rt, "memory")
 }
 
-// The same, form by form.
+// What the numbered delta becomes behind the forms, form by form.
 fn walked(rt: &impl Abort, alloc: Global, blocks: &Blocks, number: u32, from: u32) -> Delta
     requires { from < length blocks.now.forms }
 {
@@ -136,11 +136,11 @@ fn passes_as_walked<L: Ledger>(
 )
     requires name { blank.name ≡ L.name }
     requires parts { blank.parts ≡ L.parts }
-    requires some { 0 < blank.parts }
-    requires within { from < length blocks.now.forms }
+    requires positive { 0 < blank.parts }
+    requires in_bounds { from < length blocks.now.forms }
     requires limit { length blocks.now.forms ≤ 10000 }
     requires follow { Follow blocks.now.base blocks.now.forms }
-    requires inserted { all_inserted blocks.now.forms ≤ 10000 * length blocks.now.forms }
+    requires inserted_limit { all_inserted blocks.now.forms ≤ 10000 * length blocks.now.forms }
 {
     let mut steps: Steps<L> = Steps::new(blank);
     let found = behind_all(rt, alloc, blocks, from + 3, from, &mut steps);

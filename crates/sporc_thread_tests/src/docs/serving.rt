@@ -125,7 +125,7 @@ pub fn served<R: Threads + Wait + Sync + Abort>(
     peers: Peers,
     sessions: u32,
 ) -> Box<Outcome>
-    requires some { 1 ≤ sessions }
+    requires positive { 1 ≤ sessions }
     requires limit { sessions ≤ MAX_SESSIONS }
 {
     let mut docs = Docs::new(alloc);

@@ -56,7 +56,7 @@ fn crowd<R: Threads + Wait + Sync>(
 ) -> Pass<u32>
     requires lock { IsPassOf turn.now first }
     requires first { (known_of first).number ≡ 0 }
-    requires room { (known_of first).splits + others < 2 ^ 32 }
+    requires limit { (known_of first).splits + others < 2 ^ 32 }
     ensures lock { IsPassOf turn.now result }
     ensures first { (known_of result).number ≡ 0 }
 {

@@ -64,7 +64,7 @@ fn is_served<R: Threads + Wait + Sync + Abort>(
     sessions: u32,
     answer: Result<(), ServeFault>,
 )
-    requires some { 1 ≤ sessions }
+    requires positive { 1 ≤ sessions }
     requires limit { sessions ≤ MAX_SESSIONS }
 {
     let peers = peers(rt, alloc, cast);
@@ -73,7 +73,7 @@ fn is_served<R: Threads + Wait + Sync + Abort>(
     only_the_client_is_answered(rt, &outcome);
 }
 
-// The same if one link more is to come, and doesn't: that is told.
+// A server that is to take one link more than come tells that, and serves the client among the peers.
 #[test]
 fn bad_peers_end_their_own_sessions_alone(rt: HostRuntime) {
     let cast = Cast::new(rt.alloc()).expect(&rt, "the cast");

@@ -106,14 +106,14 @@ pub fn served<R: Threads + Wait + Sync + Abort, G: Gate + Sync>(
     sessions: u32,
     gate: &G,
 ) -> Box<Outcome>
-    requires some { 1 ≤ sessions }
+    requires positive { 1 ≤ sessions }
     requires limit { sessions ≤ MAX_SESSIONS }
 {
     let order = empty_order(rt, alloc, cast);
     served_order(rt, alloc, order, peers, sessions, gate)
 }
 
-/// The same from this order.
+/// Serves so many links from this order.
 pub fn served_order<R: Threads + Wait + Sync + Abort, G: Gate + Sync>(
     rt: &R,
     alloc: Global,
@@ -122,7 +122,7 @@ pub fn served_order<R: Threads + Wait + Sync + Abort, G: Gate + Sync>(
     sessions: u32,
     gate: &G,
 ) -> Box<Outcome>
-    requires some { 1 ≤ sessions }
+    requires positive { 1 ≤ sessions }
     requires limit { sessions ≤ MAX_SESSIONS }
 {
     let order = Box::into_inner(order);
@@ -141,7 +141,7 @@ pub fn served_kept<'a, R: Threads + Wait + Sync + Abort, G: Gate + Sync>(
     sessions: u32,
     gate: &G,
 ) -> (Box<Outcome>, Notes<'a>)
-    requires some { 1 ≤ sessions }
+    requires positive { 1 ≤ sessions }
     requires limit { sessions ≤ MAX_SESSIONS }
 {
     let order = Box::into_inner(empty_order(rt, alloc, cast));

@@ -2,7 +2,7 @@
 
 use crate::checks::{check, check_text};
 use crate::shared::scene::one_entry;
-use crate::shared::staging::{FRESH, Outcome, Plan, held, scripts};
+use crate::shared::staging::{FRESH, Outcome, Wanted, held, scripts};
 use sporc_outside::Gate;
 use sporc_samples::{Cast, History, insertion};
 use std::alloc::Global;
@@ -86,7 +86,7 @@ fn met<R: Abort + Threads + Wait + Sync>(
 ) -> Outcome {
     let sample = two_entries(rt, alloc, cast);
     let editors = scripts(rt, alloc, 1, "insert 0 \"x\"\ninsert 0 \"y\"\n");
-    let plan = Plan {
+    let wanted = Wanted {
         rounds: 4,
         until: 4,
     };
@@ -97,7 +97,7 @@ fn met<R: Abort + Threads + Wait + Sync>(
         FRESH,
         &sample,
         editors.as_slice(),
-        plan,
+        wanted,
         gate,
     )
 }

@@ -1,7 +1,7 @@
 //! Sessions with an honest order.
 
 use crate::checks::{check, check_end, check_text};
-use crate::shared::staging::{Answer, Deed, FRESH, Outcome, Plan, Start, TWO_ROUNDS, written};
+use crate::shared::staging::{Answer, Deed, FRESH, Outcome, Wanted, Start, TWO_ROUNDS, written};
 use sporc_samples::Cast;
 use sporc_script::MAX_EDITORS;
 use sporc_shared::SessionFault;
@@ -10,12 +10,12 @@ use std::process::Abort;
 use std::sync::Wait;
 use std::thread::Threads;
 
-const NO_ROUNDS: Plan = Plan {
+const NO_ROUNDS: Wanted = Wanted {
     rounds: 0,
     until: 0,
 };
 
-const NO_TARGET: Plan = Plan {
+const NO_TARGET: Wanted = Wanted {
     rounds: 2,
     until: 0,
 };
@@ -49,7 +49,7 @@ const EACH_DEED: [Deed; 6] = [
 type Row = (
     u8,
     &'static str,
-    Plan,
+    Wanted,
     Option<SessionFault>,
     &'static str,
     &'static [Deed],
@@ -96,12 +96,12 @@ fn are_same(one: &[Deed], other: &[Deed]) -> bool {
 
 // A session as its row tells.
 fn goes<R: Abort + Threads + Wait + Sync>(rt: &R, alloc: Global, cast: &Cast, row: &Row) {
-    let (member, lines, plan, ..) = row;
+    let (member, lines, wanted, ..) = row;
     let start = Start {
         member: *member,
         ..FRESH
     };
-    let outcome = written(rt, alloc, cast, start, 1, *lines, *plan);
+    let outcome = written(rt, alloc, cast, start, 1, *lines, *wanted);
     is_left(rt, &outcome, row);
 }
 

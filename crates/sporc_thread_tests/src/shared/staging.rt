@@ -61,7 +61,7 @@ pub(crate) const FRESH: Start<'static> = Start {
     chance: &[],
 };
 
-/// The same, where a text is inserted that no entry was made of.
+/// The client of member 4, just opened, where a text is inserted that no entry was made of.
 pub(crate) const EDITED: Start<'static> = Start {
     member: 4,
     past: Past::Edit,
@@ -72,13 +72,13 @@ pub(crate) const EDITED: Start<'static> = Start {
 
 /// How many rounds each phase has, and how many entries there are to be at the end.
 #[derive(Clone, Copy)]
-pub(crate) struct Plan {
+pub(crate) struct Wanted {
     pub(crate) rounds: u32,
     pub(crate) until: u32,
 }
 
 /// Two rounds, until there is an entry.
-pub(crate) const TWO_ROUNDS: Plan = Plan {
+pub(crate) const TWO_ROUNDS: Wanted = Wanted {
     rounds: 2,
     until: 1,
 };
@@ -152,12 +152,12 @@ fn run<
     link: &mut L,
     chance: &mut C,
     editors: &[EditorScript],
-    plan: Plan,
+    wanted: Wanted,
     gate: &G,
 ) -> Outcome
     requires { length editors.now ≤ MAX_EDITORS }
 {
-    let Plan { rounds, until } = plan;
+    let Wanted { rounds, until } = wanted;
     match SharedClient::open(alloc, client) {
         Ok((shared, first)) => {
             let (answer, first) = session(
@@ -177,7 +177,7 @@ fn over<R: Abort + Threads + Wait + Sync, L: Link + Send, G: Gate + Sync>(
     start: Start<'_>,
     link: &mut L,
     editors: &[EditorScript],
-    plan: Plan,
+    wanted: Wanted,
     gate: &G,
 ) -> Outcome
     requires { length editors.now ≤ MAX_EDITORS }
@@ -192,7 +192,7 @@ fn over<R: Abort + Threads + Wait + Sync, L: Link + Send, G: Gate + Sync>(
     let mut chance = words(rt, alloc, chance);
     let client = lived(rt, alloc, cast, member, file, past);
     let client = Box::into_inner(client);
-    run(rt, alloc, client, link, &mut chance, editors, plan, gate)
+    run(rt, alloc, client, link, &mut chance, editors, wanted, gate)
 }
 
 /// A session of two rounds with a server that sends these bytes. How it ends.
@@ -225,12 +225,12 @@ pub(crate) fn held<R: Abort + Threads + Wait + Sync, G: Gate + Sync>(
     start: Start<'_>,
     sample: &History,
     editors: &[EditorScript],
-    plan: Plan,
+    wanted: Wanted,
     gate: &G,
 ) -> Outcome {
     assert!(rt; editors.len() <= MAX_EDITORS, "too many editors");
     let mut link = order_link(rt, alloc, cast, start.link, sample);
-    let outcome = over(rt, alloc, cast, start, &mut *link, editors, plan, gate);
+    let outcome = over(rt, alloc, cast, start, &mut *link, editors, wanted, gate);
     drop(link);
     outcome
 }
@@ -265,7 +265,7 @@ pub(crate) fn written<R: Abort + Threads + Wait + Sync>(
     start: Start<'_>,
     editors: u32,
     lines: &str,
-    plan: Plan,
+    wanted: Wanted,
 ) -> Outcome {
     let sample = empty_history(rt, alloc, cast);
     let editors = scripts(rt, alloc, editors, lines);
@@ -276,7 +276,7 @@ pub(crate) fn written<R: Abort + Threads + Wait + Sync>(
         start,
         &sample,
         editors.as_slice(),
-        plan,
+        wanted,
         &OpenGate,
     )
 }

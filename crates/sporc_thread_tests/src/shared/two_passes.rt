@@ -117,7 +117,7 @@ fn edit_and_accept<R: Abort + Wait, D: LeafDisk>(
 ) -> Pass
     requires lock { IsPassOf shared.now first × IsPassOf shared.now second }
     requires first { (known_of first).number ≡ 0 }
-    requires second { (known_of second).number ≢ 0 }
+    requires other { (known_of second).number ≢ 0 }
     ensures lock { IsPassOf shared.now result }
     ensures first { (known_of result).number ≡ 0 }
 {
@@ -146,7 +146,7 @@ fn passed_by_two<R: Abort + Wait, D: LeafDisk + Drop>(
 ) -> String
     requires lock { IsPassOf shared first }
     requires first { (known_of first).number ≡ 0 }
-    requires room { (known_of first).splits + 1 < 2 ^ 32 }
+    requires limit { (known_of first).splits + 1 < 2 ^ 32 }
 {
     let Ok((first, second)) = shared.split(first) else {
         panic!(rt; "memory");

@@ -8,7 +8,7 @@ coefficients-init c = shortfall_none _ _
 
 pub overflow_sub-greatest : goal.overflow_sub-greatest
 overflow_sub-greatest c =
-    let below = rw c.w-w.ensures.value at c.coef.ensures.small in
+    let below = rw c.w-w.ensures.value at c.coef.ensures.within in
     omega (arith, c.greatest-greatest.ensures, below)
 
 pub overflow_add-sum : goal.overflow_add-sum

@@ -1,6 +1,6 @@
 use Rattle.std.proofs.Common.{◌≡◌, ◌+◌, ℕ, drop, ap, sym, subst, ◌∙◌, List}
-use Rattle.sporc_delta.specs.Marks.{Mark, out_len, retains}
-use Rattle.sporc_delta.proofs.Lengths.{out_len-retains}
+use Rattle.sporc_delta.specs.Marks.{Mark, out_len, keep_marks}
+use Rattle.sporc_delta.proofs.Lengths.{out_len-keep_marks}
 use Rattle.sporc_client.specs.declared.pending.Pending.{Pending}
 use Rattle.sporc_client.specs.Rebasing.{AreOver, in_one}
 use Rattle.sporc_client.proofs.InOne.{first_in_one}
@@ -9,8 +9,8 @@ use Rattle.sporc_client.proofs.rebasing.in_one.Goals as goal
 
 pub loop-item-init : goal.loop-item-init
 loop-item-init c =
-    let start : c.in_ok-all.all ≡ retains c.args.len = c.in_ok-all.ensures.ok in
-    let reached : out_len c.in_ok-all.all ≡ c.args.len = ap out_len start ∙ out_len-retains c.args.len in
+    let start : c.in_ok-all.all ≡ keep_marks c.args.len = c.in_ok-all.ensures.ok in
+    let reached : out_len c.in_ok-all.all ≡ c.args.len = ap out_len start ∙ out_len-keep_marks c.args.len in
     let P : ℕ → Type 0 = λ n. AreOver n c.args.items.now in
     record { all = ap (λ (ms : List Mark). in_one ms c.args.items.now) start; over = subst P (sym reached) c.requires.over }
 

@@ -45,10 +45,10 @@ pub(crate) fn sign_entry<D: LeafDisk>(
     randomizer: &[u8; 32],
     entry: &Entry,
 ) -> Result<Made, (Ticket, Memory)>
-    requires can_sign { ticket < 2 ^ height_of signer.old.key.lms }
+    requires ticket_limit { ticket < 2 ^ height_of signer.old.key.lms }
     requires version { fits_version entry.now.header.version entry.now.header.device ≡ true }
-    requires body { length entry.now.body < 2 ^ 32 }
-    requires size { length (signed_string entry.now) ≤ MAX_ENTRY }
+    requires body_limit { length entry.now.body < 2 ^ 32 }
+    requires limit { length (signed_string entry.now) ≤ MAX_ENTRY }
     ensures made { IfOk result (AreCopies (entry_bytes (record entry.now { signature = lms_signature_of signer.old.key ticket randomizer.now (signed_string entry.now) }))) }
     ensures returned { IfErr result (λ back. back.0 ≡ ticket) }
     ensures unchanged { signer.new ≡ signer.old }
@@ -66,8 +66,8 @@ pub(crate) fn sign_entry<D: LeafDisk>(
 // The draft of an entry for a signature under a key. It takes all memory of the entry's bytes.
 fn write_draft(alloc: Global, key: &LmsPublic, entry: &Entry) -> Result<Draft, Memory>
     requires version { fits_version entry.now.header.version entry.now.header.device ≡ true }
-    requires body { length entry.now.body < 2 ^ 32 }
-    requires size { length (signed_string entry.now) ≤ MAX_ENTRY }
+    requires body_limit { length entry.now.body < 2 ^ 32 }
+    requires limit { length (signed_string entry.now) ≤ MAX_ENTRY }
     ensures draft { IfOk result (IsDraft (lms_signature_len_of key.now) entry.now) }
 {
     let message = signed_part(alloc, entry)?;
@@ -86,15 +86,15 @@ fn write_draft(alloc: Global, key: &LmsPublic, entry: &Entry) -> Result<Draft, M
 // The length of a signature under a key.
 fn signature_len(key: &LmsPublic) -> u32
     ensures value { result ≡ lms_signature_len_of key.now }
-    ensures small { result ≤ MAX_SIGNATURE }
+    ensures within { result ≤ MAX_SIGNATURE }
 {
     8 + key.ots.signature_len() as u32 + 32 * key.lms.height()
 }
 
 // The bytes of an entry up to its signature of `len` bytes, with room for that, by what its author signs.
 fn prefix(alloc: Global, message: &[u8], len: u32) -> Result<Vec<u8>, Memory>
-    requires some { 1 ≤ length message.now }
-    requires size { length message.now ≤ MAX_ENTRY }
+    requires positive { 1 ≤ length message.now }
+    requires limit { length message.now ≤ MAX_ENTRY }
     ensures items { IfOk result (λ prefix. prefix.items ≡ prefix_bytes len message.now) }
     ensures room { IfOk result (λ prefix. vec_len prefix + len ≤ vec_capacity prefix) }
 {

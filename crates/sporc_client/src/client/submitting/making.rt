@@ -37,14 +37,14 @@ pub(crate) fn make_entry<D: LeafDisk>(
 ) -> Result<Made, SubmitFault>
     requires due { is_signing (due (plain_of signer.old.key line.now own.now)) ≡ true }
     requires sound { IsSound (plain_of signer.old.key line.now own.now) }
-    requires unspent { IfSome kept.old (λ leaf. leaf < 2 ^ height_of signer.old.key.lms) }
-    ensures answer { GivesUnless SubmitFault.Memory (λ made. Submitted.Entry made.answer) result (submission (plain_of signer.old.key line.now own.now) random.now (leaf_for kept.old signer.old.leaves signer.new.leaves)) }
+    requires limit { IfSome kept.old (λ leaf. leaf < 2 ^ height_of signer.old.key.lms) }
+    ensures value { GivesUnless SubmitFault.Memory (λ made. Submitted.Entry made.answer) result (submission (plain_of signer.old.key line.now own.now) random.now (leaf_for kept.old signer.old.leaves signer.new.leaves)) }
     ensures made { IfOk result (λ made. AreCopies made.answer made) }
     ensures submission { IfOk result (λ made. IsSomeAnd (at_hand kept.old signer.old.leaves signer.new.leaves) (λ leaf. IsSubmission (plain_of signer.old.key line.now own.now) leaf made.answer)) }
     ensures undrawn { (leaf : ℕ) → kept.old ≡ Some leaf → signer.new ≡ signer.old }
     ensures drawn { kept.old ≡ None → IsDraw D.told signer.old.leaves signer.new.leaves }
     ensures ticket { kept.new ≡ kept_after kept.old signer.old.leaves signer.new.leaves (is_ok result) }
-    ensures can_sign { IfSome kept.new (λ leaf. leaf < 2 ^ height_of signer.old.key.lms) }
+    ensures within { IfSome kept.new (λ leaf. leaf < 2 ^ height_of signer.old.key.lms) }
     ensures key { signer.new.key ≡ signer.old.key }
 {
     let ticket = take_ticket(signer, kept)?;
@@ -62,11 +62,11 @@ fn take_ticket<D: LeafDisk>(
     signer: &mut Signer<D>,
     kept: &mut Option<KeptTicket>,
 ) -> Result<Ticket, LeafFault>
-    requires unspent { IfSome kept.old (λ leaf. leaf < 2 ^ height_of signer.old.key.lms) }
+    requires limit { IfSome kept.old (λ leaf. leaf < 2 ^ height_of signer.old.key.lms) }
     ensures undrawn { (leaf : ℕ) → kept.old ≡ Some leaf → (result ≡ Ok leaf) × (signer.new ≡ signer.old) }
     ensures draws { kept.old ≡ None → Draws D.told signer.old.leaves result signer.new.leaves }
     ensures faults { kept.old ≡ None → DrawFaults D.told signer.old.leaves result signer.new.leaves }
-    ensures can_sign { IfOk result (λ ticket. ticket < 2 ^ height_of signer.old.key.lms) }
+    ensures within { IfOk result (λ ticket. ticket < 2 ^ height_of signer.old.key.lms) }
     ensures key { signer.new.key ≡ signer.old.key }
     ensures taken { kept.new ≡ None }
 {
@@ -90,7 +90,7 @@ fn make_signed<D: LeafDisk>(
 ) -> Result<Made, (Ticket, Memory)>
     requires due { is_signing (due (plain_of signer.old.key line.now own.now)) ≡ true }
     requires sound { IsSound (plain_of signer.old.key line.now own.now) }
-    requires can_sign { ticket < 2 ^ height_of signer.old.key.lms }
+    requires limit { ticket < 2 ^ height_of signer.old.key.lms }
     ensures answer { IfOk result (λ made. submission (plain_of signer.old.key line.now own.now) random.now (Ok ticket) ≡ Ok (Submitted.Entry made.answer)) }
     ensures made { IfOk result (λ made. AreCopies made.answer made) }
     ensures submission { IfOk result (λ made. IsSubmission (plain_of signer.old.key line.now own.now) ticket made.answer) }

@@ -12,7 +12,7 @@ ghost use Rattle.sporc_epoch.specs.Sealing.{body_sealed};
 ghost use Rattle.sporc_epoch.specs.Streams.{entry_stream};
 ghost use Rattle.sporc_head.specs.declared.limits.TheConstants.{MAX_ENTRIES};
 ghost use Rattle.sporc_head.specs.History.{count_of, epoch_of, hash_of, roster_of};
-ghost use Rattle.sporc_line.specs.Keys.{key_of};
+ghost use Rattle.sporc_line.specs.Keys.{epoch_key};
 ghost use Rattle.sporc_member.specs.Roster.{key_of as key_of_device};
 ghost use Rattle.sporc_client.specs.ClientInvariant.{plain_of};
 ghost use Rattle.sporc_client.specs.Contents.{CanTake, IsSpelled};
@@ -57,8 +57,8 @@ pub(crate) fn unsigned_entry(
 
 // What stands before the body of the device's next entry of this kind.
 fn next_header(line: &Line, leaf: u32, kind: u8) -> Header
-    requires room { length line.now.entries + 1 ≤ MAX_ENTRIES }
-    requires kind { (1 ≤ kind) × (kind ≤ 2) }
+    requires limit { length line.now.entries + 1 ≤ MAX_ENTRIES }
+    requires range { (1 ≤ kind) × (kind ≤ 2) }
     requires live { is_some (key_of_device (roster_of line.now.genesis line.now.entries) line.now.kit.me) ≡ true }
     ensures document { result.document ≡ line.now.genesis.document }
     ensures version { result.version ≡ version_of (roster_of line.now.genesis line.now.entries).upgraded }
@@ -131,7 +131,7 @@ fn change_body(
     new_key: &[u8; 32],
 ) -> Result<Bytes, Memory>
     requires can_take { CanTake line.now (items.Change change.now) }
-    requires key { key_of line.now.genesis line.now.kit line.now.entries (epoch_of line.now.entries) ≡ Some old_key.now }
+    requires key { epoch_key line.now.genesis line.now.kit line.now.entries (epoch_of line.now.entries) ≡ Some old_key.now }
     ensures value { IfOk result (λ body. (key : LmsPrivate) (own : WorkspaceModel) → body ≡ body_of (plain_of key line.now own) (record { leaf = leaf; randomizer = []; new_key = new_key.now }) (items.Change change.now)) }
     ensures spelled { OnOk result ((key : LmsPrivate) (own : WorkspaceModel) → IsSpelled (plain_of key line.now own) (record { leaf = leaf; randomizer = []; new_key = new_key.now }) (items.Change change.now)) }
 {
@@ -150,7 +150,7 @@ fn seal(
     new_key: &[u8; 32],
 ) -> Result<ChangeBody, Memory>
     requires can_take { CanTake line.now (items.Change change.now) }
-    requires key { key_of line.now.genesis line.now.kit line.now.entries (epoch_of line.now.entries) ≡ Some old_key.now }
+    requires key { epoch_key line.now.genesis line.now.kit line.now.entries (epoch_of line.now.entries) ≡ Some old_key.now }
     ensures value { IfOk result (λ body. (key : LmsPrivate) (own : WorkspaceModel) → body ≡ body_sealed (sealing_of (plain_of key line.now own) (record { leaf = leaf; randomizer = []; new_key = new_key.now }) change.now) line.now.kit.pairs) }
     ensures spelled { IfOk result (IsChangeBody (version_of (roster_of line.now.genesis line.now.entries).upgraded)) }
 {

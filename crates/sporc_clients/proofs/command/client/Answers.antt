@@ -43,7 +43,7 @@ returns-clause-outcome g c =
       back = c.take_back.ensures.back;
       since = omega (arith, c.read_member.ensures.kept, c.lend_disk.ensures.kept);
       kept = c.with_disk-result.ensures.files_kept;
-      counted = c.take_back.ensures.count;
+      counted = c.take_back.ensures.kept;
     })
     c.with_disk-result.ensures.outcome
 
@@ -70,7 +70,7 @@ returns-clause-lent g c =
 
 pub returns-clause-files_kept : goal.returns-clause-files_kept
 returns-clause-files_kept g c =
-    omega (arith, c.faults-faults.ensures.value, g.met.F.Folder.faults_are_told c.with_disk-result.new.files, c.take_back.ensures.count, c.with_disk-result.ensures.files_kept, c.lend_disk.ensures.kept, c.read_member.ensures.kept)
+    omega (arith, c.faults-faults.ensures.value, g.met.F.Folder.faults_are_told c.with_disk-result.new.files, c.take_back.ensures.kept, c.with_disk-result.ensures.files_kept, c.lend_disk.ensures.kept, c.read_member.ensures.kept)
 
 -- ---- the address
 

@@ -23,7 +23,7 @@ returns-in-Err-history_of-clause-outcome g c =
     (no_history c.in-Ok.ensures.ok (history_fault _ c.names_of.result c.args.words.now c.names_of.ensures.value _ _ c.in-Err-history_of.fault c.in-Err-history_of.ensures.err) refl)
     (record { out = record { written = refl; faults = refl }; files = c.history_of.ensures.files; words = refl })
     (ap (λ d. (g.D.LeafDisk.told d).stored) c.close.ensures.value ∙ c.in-Ok.ensures.ok.unwritten)
-    (kept_to _ g.D.LeafDisk.told _ _ c.close.ensures.value c.in-Ok.ensures.kept)
+    (kept_to _ g.D.LeafDisk.told _ _ c.close.ensures.value c.in-Ok.ensures.passed)
 
 pub returns-in-Ok-attend-clause-outcome : goal.returns-in-Ok-attend-clause-outcome
 returns-in-Ok-attend-clause-outcome g c =
@@ -68,7 +68,7 @@ returns-clause-outcome g c =
     c.in-Err-attend.ensures.err))
     (record { out = record { written = refl; faults = refl }; files = c.history_of.ensures.files; words = ap (λ c. (g.C.Chance.told c).given) c.in-Err-attend.ensures.chance })
     (ap (λ d. (g.D.LeafDisk.told d).stored) c.close-in-Err-attend.ensures.value ∙ ap (λ s. (g.D.LeafDisk.told s.leaves.disk).stored) c.in-Err-attend.ensures.returned ∙ c.in-Ok.ensures.ok.unwritten)
-    (kept_to _ g.D.LeafDisk.told _ _ (c.close-in-Err-attend.ensures.value ∙ ap (λ s. s.leaves.disk) c.in-Err-attend.ensures.returned) c.in-Ok.ensures.kept)
+    (kept_to _ g.D.LeafDisk.told _ _ (c.close-in-Err-attend.ensures.value ∙ ap (λ s. s.leaves.disk) c.in-Err-attend.ensures.returned) c.in-Ok.ensures.passed)
 
 -- ---- files
 

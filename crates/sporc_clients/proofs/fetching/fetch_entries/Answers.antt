@@ -49,7 +49,7 @@ returns-in-Ok-fetched-clause-ok g c =
         told_then = same;
         shut = c.shut.ensures.did.shut;
         back = subst (λ returned. AppendsItem returned (g.N.Links.told c.take_back.new.self).returned (g.N.Link.Stream.told c.shut.new.self)) c.connect.ensures.returned c.take_back.ensures.returned;
-        counted = subst (λ (n : ℕ). count_of_both n (g.N.Link.Stream.told c.shut.new.self).faults ≤ (g.N.Links.told c.take_back.new.self).link_faults) c.connect.ensures.links c.take_back.ensures.links;
+        counted = subst (λ (n : ℕ). count_of_both n (g.N.Link.Stream.told c.shut.new.self).faults ≤ (g.N.Links.told c.take_back.new.self).link_faults) c.connect.ensures.links c.take_back.ensures.links_kept;
       };
       inbox = inbox;
       fetch = fetched_again _ _ inbox c.args.document.now c.args.member c.fetch-fetched.result (Ok c.in-Ok-fetched.entries) same c.in-Ok-fetched.is fetch;
@@ -74,7 +74,7 @@ returns-in-Err-clause-err g c =
         told_then = same;
         shut = c.shut.ensures.did.shut;
         back = subst (λ returned. AppendsItem returned (g.N.Links.told c.take_back.new.self).returned (g.N.Link.Stream.told c.shut.new.self)) c.connect.ensures.returned c.take_back.ensures.returned;
-        counted = subst (λ (n : ℕ). count_of_both n (g.N.Link.Stream.told c.shut.new.self).faults ≤ (g.N.Links.told c.take_back.new.self).link_faults) c.connect.ensures.links c.take_back.ensures.links;
+        counted = subst (λ (n : ℕ). count_of_both n (g.N.Link.Stream.told c.shut.new.self).faults ≤ (g.N.Links.told c.take_back.new.self).link_faults) c.connect.ensures.links c.take_back.ensures.links_kept;
       };
       inbox = inbox;
       fetch = fetched_again _ _ inbox c.args.document.now c.args.member c.fetch-fetched.result (Err c.in-Err.fault) same c.in-Err.is fetch;

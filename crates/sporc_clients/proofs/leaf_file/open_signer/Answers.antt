@@ -11,8 +11,8 @@ returns-in-Err-BadLength-default-clause-err g c =
     let wrong = c.in-Err-BadLength-default.ensures.err.bad_length len c.in-Err-BadLength-default.field-0-0-is in
     (refl, subst (λ (h : ℕ). len ≢ block_count h) (c.height-height.ensures.value ∙ ap (λ (p : LmsPublic). height_of p.lms) c.public.ensures.value) wrong.0, wrong.1)
 
-pub returns-in-Ok-clause-kept : goal.returns-in-Ok-clause-kept
-returns-in-Ok-clause-kept g c =
+pub returns-in-Ok-clause-passed : goal.returns-in-Ok-clause-passed
+returns-in-Ok-clause-passed g c =
     kept_to _ g.D.LeafDisk.told _ _ (ap (λ s. s.leaves.disk) c.open-in-Ok.ensures.value) (keeps_passed g.D.LeafDisk.told _ _ c.in-Ok.ensures.opens.stable)
 
 pub returns-in-Err-BadLength-default-clause-kept_back : goal.returns-in-Err-BadLength-default-clause-kept_back

@@ -31,7 +31,7 @@ returns-in-Ok-ended-clause-work g c = record {
         (link_told (g.N.Link.Stream.told c.shut.new.self)) c.shut.ensures.did.written c.shut.ensures.did.left c.shut.ensures.did.count;
     shut = c.shut.ensures.did.shut;
     back = subst (λ returned. AppendsItem returned (g.N.Links.told c.take_back.new.self).returned (g.N.Link.Stream.told c.shut.new.self)) c.connect.ensures.returned c.take_back.ensures.returned;
-    counted = subst (λ (n : ℕ). count_of_both n (g.N.Link.Stream.told c.shut.new.self).faults ≤ (g.N.Links.told c.take_back.new.self).link_faults) c.connect.ensures.links c.take_back.ensures.links;
+    counted = subst (λ (n : ℕ). count_of_both n (g.N.Link.Stream.told c.shut.new.self).faults ≤ (g.N.Links.told c.take_back.new.self).link_faults) c.connect.ensures.links c.take_back.ensures.links_kept;
   };
   session = over_same_link _ _ _ _ _ _ _ _ c.shut.ensures.did.written c.shut.ensures.did.left c.shut.ensures.did.count c.in-Ok-ended.ensures.session;
 }
@@ -51,7 +51,7 @@ returns-in-Err-clause-err g c = out_of_memory (record {
         (link_told (g.N.Link.Stream.told c.shut.new.self)) c.shut.ensures.did.written c.shut.ensures.did.left c.shut.ensures.did.count;
     shut = c.shut.ensures.did.shut;
     back = subst (λ returned. AppendsItem returned (g.N.Links.told c.take_back.new.self).returned (g.N.Link.Stream.told c.shut.new.self)) c.connect.ensures.returned c.take_back.ensures.returned;
-    counted = subst (λ (n : ℕ). count_of_both n (g.N.Link.Stream.told c.shut.new.self).faults ≤ (g.N.Links.told c.take_back.new.self).link_faults) c.connect.ensures.links c.take_back.ensures.links;
+    counted = subst (λ (n : ℕ). count_of_both n (g.N.Link.Stream.told c.shut.new.self).faults ≤ (g.N.Links.told c.take_back.new.self).link_faults) c.connect.ensures.links c.take_back.ensures.links_kept;
   };
   unused = told_again (link_told (g.N.Link.Stream.told c.run_session-ended.new.link))
       (link_told (g.N.Link.Stream.told c.shut.new.self)) c.shut.ensures.did.written c.shut.ensures.did.left c.shut.ensures.did.count
@@ -64,19 +64,19 @@ returns-in-Ok-ended-clause-links_out g c = as_many (g.N.Links.told c.args.net.no
 pub returns-in-Ok-ended-clause-links_kept : goal.returns-in-Ok-ended-clause-links_kept
 returns-in-Ok-ended-clause-links_kept g c =
     both_kept (g.N.Links.told c.args.net.now).link_faults (g.N.Link.Stream.told c.shut.new.self).faults (g.N.Links.told c.take_back.new.self).link_faults (omega (arith, c.link_faults-faults.ensures))
-    (subst (λ (n : ℕ). count_of_both n (g.N.Link.Stream.told c.shut.new.self).faults ≤ (g.N.Links.told c.take_back.new.self).link_faults) c.connect.ensures.links c.take_back.ensures.links)
+    (subst (λ (n : ℕ). count_of_both n (g.N.Link.Stream.told c.shut.new.self).faults ≤ (g.N.Links.told c.take_back.new.self).link_faults) c.connect.ensures.links c.take_back.ensures.links_kept)
 
 pub returns-in-Err-clause-links_kept : goal.returns-in-Err-clause-links_kept
 returns-in-Err-clause-links_kept g c =
     both_kept (g.N.Links.told c.args.net.now).link_faults (g.N.Link.Stream.told c.shut.new.self).faults (g.N.Links.told c.take_back.new.self).link_faults (omega (arith, c.link_faults-faults.ensures))
-    (subst (λ (n : ℕ). count_of_both n (g.N.Link.Stream.told c.shut.new.self).faults ≤ (g.N.Links.told c.take_back.new.self).link_faults) c.connect.ensures.links c.take_back.ensures.links)
+    (subst (λ (n : ℕ). count_of_both n (g.N.Link.Stream.told c.shut.new.self).faults ≤ (g.N.Links.told c.take_back.new.self).link_faults) c.connect.ensures.links c.take_back.ensures.links_kept)
 
 pub returns-in-Ok-ended-clause-causes : goal.returns-in-Ok-ended-clause-causes
 returns-in-Ok-ended-clause-causes g c =
     rose_at_net (g.N.Link.Stream.told c.in-Ok.link).faults (g.N.Link.Stream.told c.run_session-ended.new.link).faults (g.N.Links.told c.args.net.now).link_faults (g.N.Links.told c.take_back.new.self).link_faults _ _ _
     c.in-Ok.ensures.fresh
     (subst (λ (n : ℕ). count_of_both (g.N.Links.told c.args.net.now).link_faults n ≤ (g.N.Links.told c.take_back.new.self).link_faults) c.shut.ensures.did.count
-    (subst (λ (n : ℕ). count_of_both n (g.N.Link.Stream.told c.shut.new.self).faults ≤ (g.N.Links.told c.take_back.new.self).link_faults) c.connect.ensures.links c.take_back.ensures.links))
+    (subst (λ (n : ℕ). count_of_both n (g.N.Link.Stream.told c.shut.new.self).faults ≤ (g.N.Links.told c.take_back.new.self).link_faults) c.connect.ensures.links c.take_back.ensures.links_kept))
     c.in-Ok-ended.ensures.causes
 
 pub returns-in_default-clause-shut : goal.returns-in_default-clause-shut

@@ -12,4 +12,4 @@ pub returns-in-Err-clause-found : goal.returns-in-Err-clause-found
 returns-in-Err-clause-found g c =
     let (log, at, tells) = c.in-Err.ensures.found in
     behind_fails (λ (it : LoggedOrder g.row.F-Appended.Denot). it.kept.order) (λ (it : LoggedOrder g.row.F-Appended.Denot). it.logged) _ _ _ _ _ g.F.Appended.AppendFile.told
-    c.args.genesis log at c.in-Err.fault c.args.file c.requires.within tells
+    c.args.genesis log at c.in-Err.fault c.args.file c.requires.limit tells

@@ -24,8 +24,8 @@ pub returns-in_err-taken-clause-may_ask : goal.returns-in_err-taken-clause-may_a
 returns-in_err-taken-clause-may_ask g c =
     asks_first (file_name c.args.names.now files.Tail ∷ []) (file_name c.args.names.now files.Log ∷ []) _ _ c.in_err-taken.ensures.may_ask
 
-pub open_behind-requires-clause-within : goal.open_behind-requires-clause-within
-open_behind-requires-clause-within g c κs within =
+pub open_behind-requires-clause-limit : goal.open_behind-requires-clause-limit
+open_behind-requires-clause-limit g c κs within =
     within_file (g.F.Folder.told c.args.files.now).files (g.F.Folder.told c.append_to_file.new.files).files (file_name c.args.names.now files.Tail)
     (g.F.Appended.AppendFile.told c.in_ok-taken.taken.file).stored c.in_ok-taken.ensures.made c.in_ok-taken.ensures.ok
 
@@ -48,7 +48,7 @@ returns-in-Err-clause-found g c =
     (λ (it : LoggedOrder g.row.F-Appended.Denot). it.kept.order) (λ (it : LoggedOrder g.row.F-Appended.Denot). it.logged) c.in-Err.fault c.in-Err.file
     (g.F.Folder.told c.append_to_file.new.files).files _ _ _ g.F.Appended.AppendFile.told c.args.genesis _ _
     (rose_back (g.F.Folder.told c.args.files.now).faults (g.F.Folder.told c.append_to_file.new.files).faults (g.F.Folder.told c.open_behind.new.files).faults
-    (g.F.Appended.AppendFile.told c.in-Err.file).faults (g.F.Folder.told c.take_file.new.self).faults c.in_ok-taken.ensures.kept c.open_behind.ensures.kept c.take_file.ensures.count)
+    (g.F.Appended.AppendFile.told c.in-Err.file).faults (g.F.Folder.told c.take_file.new.self).faults c.in_ok-taken.ensures.kept c.open_behind.ensures.kept c.take_file.ensures.kept)
     c.in_ok-taken.ensures.made c.in_ok-taken.ensures.ok c.in-Err.ensures.found
 
 pub returns-in-Err-clause-changes : goal.returns-in-Err-clause-changes
@@ -64,4 +64,4 @@ returns-in-Err-clause-may_ask g c =
     (asks_then (file_name c.args.names.now files.Tail ∷ []) (file_name c.args.names.now files.Log ∷ []) _ _ _ c.in_ok-taken.ensures.may_ask c.open_behind.ensures.may_ask)
 
 pub returns-in-Err-clause-kept : goal.returns-in-Err-clause-kept
-returns-in-Err-clause-kept g c = omega (arith, c.faults-faults.ensures.value, g.met.F.Folder.faults_are_told c.open_behind.new.files, c.take_file.ensures.count, c.open_behind.ensures.kept, c.in_ok-taken.ensures.kept)
+returns-in-Err-clause-kept g c = omega (arith, c.faults-faults.ensures.value, g.met.F.Folder.faults_are_told c.open_behind.new.files, c.take_file.ensures.kept, c.open_behind.ensures.kept, c.in_ok-taken.ensures.kept)

@@ -10,7 +10,7 @@ pub rounds-init : goal.rounds-init
 rounds-init g c = record {
   rounds = first_round _ _ _ c.serve_round-last.ensures.round;
   some = omega arith;
-  within = c.requires.times;
+  within = c.requires.times_positive;
   tail = c.serve_round-last.ensures.tail;
   lent = c.serve_round-last.ensures.lent;
   asked = c.serve_round-last.ensures.files_may_ask;

@@ -16,7 +16,7 @@ returns-then-is_own-clause-keeps g c =
     )
 
 pub returns-then-is_own-clause-kept : goal.returns-then-is_own-clause-kept
-returns-then-is_own-clause-kept g c = omega (arith, c.faults-faults.ensures.value, g.met.F.Folder.faults_are_told c.args.files.now, c.take_file.ensures.count)
+returns-then-is_own-clause-kept g c = omega (arith, c.faults-faults.ensures.value, g.met.F.Folder.faults_are_told c.args.files.now, c.take_file.ensures.kept)
 
 pub returns-clause-kept : goal.returns-clause-kept
-returns-clause-kept g c = omega (arith, c.faults-faults.ensures.value, g.met.F.Folder.faults_are_told c.args.files.now, c.take_file.ensures.count)
+returns-clause-kept g c = omega (arith, c.faults-faults.ensures.value, g.met.F.Folder.faults_are_told c.args.files.now, c.take_file.ensures.kept)

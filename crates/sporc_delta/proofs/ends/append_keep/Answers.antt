@@ -10,7 +10,7 @@ overflow_add-kept c =
 
 pub returns-in_ok-push-clause-ok : goal.returns-in_ok-push-clause-ok
 returns-in_ok-push-clause-ok c =
-    keep_pushed c.args.parts.now.items c.push.new.self.items c.kept_last-kept.result c.args.count (c.kept_last-kept.ensures.value ∙ ap kept_at_end c.as_slice.ensures.value) c.if-kept-eq0.true c.requires.some c.in_ok-push.ensures.items
+    keep_pushed c.args.parts.now.items c.push.new.self.items c.kept_last-kept.result c.args.count (c.kept_last-kept.ensures.value ∙ ap kept_at_end c.as_slice.ensures.value) c.if-kept-eq0.true c.requires.positive c.in_ok-push.ensures.items
 
 pub returns-else-kept-eq0-clause-ok : goal.returns-else-kept-eq0-clause-ok
 returns-else-kept-eq0-clause-ok c =

@@ -10,7 +10,7 @@ overflow_add-removed c =
 
 pub returns-in_ok-push-clause-ok : goal.returns-in_ok-push-clause-ok
 returns-in_ok-push-clause-ok c =
-    remove_pushed c.args.parts.now.items c.push.new.self.items c.removed_last-removed.result c.args.count (c.removed_last-removed.ensures.value ∙ ap removed_at_end c.as_slice.ensures.value) c.if-removed-eq0.true c.requires.some c.in_ok-push.ensures.items
+    remove_pushed c.args.parts.now.items c.push.new.self.items c.removed_last-removed.result c.args.count (c.removed_last-removed.ensures.value ∙ ap removed_at_end c.as_slice.ensures.value) c.if-removed-eq0.true c.requires.positive c.in_ok-push.ensures.items
 
 pub returns-else-removed-eq0-clause-ok : goal.returns-else-removed-eq0-clause-ok
 returns-else-removed-eq0-clause-ok c =

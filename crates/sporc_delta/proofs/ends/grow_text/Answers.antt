@@ -21,5 +21,5 @@ unreachable-requires-in-Some-Remove c =
 pub returns-clause-ok : goal.returns-clause-ok
 returns-clause-ok c =
     let was : c.args.parts.now.items ≡ c.pop.new.self.items ++ Insert c.in-Some-Insert.last ∷ [] = rw c.in-Some-Insert.field-0-is at c.in-Some-Insert.ensures.items in
-    text_put_back c.push-grown.result c.args.parts.now.items c.pop.new.self.items c.push.new.self.items c.in-Some-Insert.last c.push-grown.new.self c.args.text.now was c.requires.some c.push-grown.ensures.ok
+    text_put_back c.push-grown.result c.args.parts.now.items c.pop.new.self.items c.push.new.self.items c.in-Some-Insert.last c.push-grown.new.self c.args.text.now was c.requires.positive c.push-grown.ensures.ok
     (rw c.unwrap.ensures at c.push.ensures.items)

@@ -21,7 +21,7 @@ returns-in_default-accept-clause-crowd g t c logs =
     crowd_failed c.args.turns.now c.args.documents.now c.args.hands.now _
     (g.N.Links.told c.args.net.now)
     (g.N.Links.told c.accept.new.self) (sym c.in-Some.ensures.cases.0)
-    c.in_default-accept.ensures.same c.accept.ensures.returned c.in_default-accept.ensures.count.failed
+    c.in_default-accept.ensures.coming_unchanged c.accept.ensures.returned c.in_default-accept.ensures.count.failed
 
 pub returns-clause-crowd : goal.returns-clause-crowd
 returns-clause-crowd g t c logs =
@@ -49,9 +49,9 @@ returns-clause-crowd g t c logs =
     subst (λ (hs : List Hand). IsCrowd c.args.turns.now c.args.documents.now hs
     (hand ∷ others) before after c.with_end.result) (sym c.in-Some.ensures.cases.0)
     (crowd_more c.args.turns.now c.args.documents.now c.in-Some.hand.now hand
-    c.in-Some.others.now others (g.N.Link.Stream.told c.in-Ok.link) (g.N.Link.Stream.told link) r.1 before came left after r.0 c.with_end.result have.0 have' c.requires.documents
+    c.in-Some.others.now others (g.N.Link.Stream.told c.in-Ok.link) (g.N.Link.Stream.told link) r.1 before came left after r.0 c.with_end.result have.0 have' c.requires.one_length
     logs'.0 sits crowd c.in-Ok.ensures.next c.in-Ok.ensures.open c.accept.ensures.returned c.accept.ensures.count.kept c.take_back.ensures.coming c.take_back.ensures.returned
-    c.take_back.ensures.count c.with_end.ensures)
+    c.take_back.ensures.kept c.with_end.ensures)
 
 pub returns-clause-shut : goal.returns-clause-shut
 returns-clause-shut g t c =

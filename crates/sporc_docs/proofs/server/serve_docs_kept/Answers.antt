@@ -18,8 +18,8 @@ of-requires-clause-apart g c =
     let served = c.serve_orders-answer.ensures.served in
     apart_kept served.0 c.into_orders-orders.result.items c.serve_orders-answer.new.orders.items served.1.served c.into_orders-orders.ensures.apart
 
-pub of-requires-clause-within : goal.of-requires-clause-within
-of-requires-clause-within g c =
+pub of-requires-clause-limit : goal.of-requires-clause-limit
+of-requires-clause-limit g c =
     let served = c.serve_orders-answer.ensures.served in
     let same = both_length (IsServedDocument served.0) c.into_orders-orders.result.items c.serve_orders-answer.new.orders.items served.1.served in
     let few = c.into_orders-orders.ensures.within in

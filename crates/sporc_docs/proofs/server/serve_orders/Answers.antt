@@ -28,7 +28,7 @@ pub close-requires-clause-tails_room : goal.close-requires-clause-tails_room
 close-requires-clause-tails_room g c =
     room_back c.args.orders.now.items c.open.new.orders.items c.open.ensures.open.0 c.open.new.self c.open.ensures.open.1 c.open.ensures.open.2 _ _ _ _ _
     (c.args.tails.now.ok.0 ∙ kept_length g.T.Tail.keeps c.args.tails.now.items c.args.orders.now.items c.requires.tails)
-    (c.open.new.tails.ok.0 ∙ kept_length g.T.Tail.keeps c.open.new.tails.items c.open.new.orders.items c.open.ensures.kept) c.open.new.self.turns.ok.0
+    (c.open.new.tails.ok.0 ∙ kept_length g.T.Tail.keeps c.open.new.tails.items c.open.new.orders.items c.open.ensures.tails) c.open.new.self.turns.ok.0
     c.args.tails.now.ok.1 c.open.ensures.room.1
 
 pub returns-then-is_err-clause-served : goal.returns-then-is_err-clause-served
@@ -56,8 +56,8 @@ serve-answer-requires-clause-empty g c κs within =
     subst (λ (hs : List Hand). AllHands (Both IsEmpty c.open.new.self.turns.items) hs) (sym c.deref_mut.ensures.value)
     (empty_all c.open.new.self.turns.items c.len-count.result c.in-Ok.hands.items size c.in-Ok.ensures.empty)
 
-pub serve-answer-requires-clause-documents : goal.serve-answer-requires-clause-documents
-serve-answer-requires-clause-documents g c κs within =
+pub serve-answer-requires-clause-one_length : goal.serve-answer-requires-clause-one_length
+serve-answer-requires-clause-one_length g c κs within =
     let both = open_lengths c.open.ensures.open.0 c.open.new.self c.open.ensures.open.2 in both.0 ∙ sym both.1
 
 pub close-requires-2-clause-back : goal.close-requires-2-clause-back
@@ -80,7 +80,7 @@ close-requires-2-clause-tails_room g c =
     let same = ap (λ v. v.len) c.serve-answer.ensures.turns in
     let room = room_back c.args.orders.now.items c.open.new.orders.items c.open.ensures.open.0 c.open.new.self c.open.ensures.open.1 c.open.ensures.open.2 _ _ _ _ _
     (c.args.tails.now.ok.0 ∙ kept_length g.T.Tail.keeps c.args.tails.now.items c.args.orders.now.items c.requires.tails)
-    (c.open.new.tails.ok.0 ∙ kept_length g.T.Tail.keeps c.open.new.tails.items c.open.new.orders.items c.open.ensures.kept) c.open.new.self.turns.ok.0
+    (c.open.new.tails.ok.0 ∙ kept_length g.T.Tail.keeps c.open.new.tails.items c.open.new.orders.items c.open.ensures.tails) c.open.new.self.turns.ok.0
     c.args.tails.now.ok.1 c.open.ensures.room.1 in
     omega (arith, same, room)
 

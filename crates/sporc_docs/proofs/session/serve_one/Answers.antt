@@ -7,7 +7,7 @@ use Rattle.sporc_turn.specs.Passes.{known_of, read_of}
 use Rattle.sporc_serve.specs.declared.end.SessionEnd.{SessionEnd}
 use Rattle.sporc_serve.specs.declared.item.Item.{Item}
 use Rattle.sporc_serve.specs.Endings.{inlet_at, IsFirst}
-use Rattle.sporc_serve.specs.Courses.{stand_at, Leads}
+use Rattle.sporc_serve.specs.Traces.{stand_at, Leads}
 use Rattle.sporc_serve.specs.Turns.{HasReadLast}
 use Rattle.sporc_docs.specs.Hands.{pass_at}
 use Rattle.sporc_docs.proofs.Sessions.{have_length, have_at, have_set, became_here, kept_elsewhere, serves_from}
@@ -59,17 +59,17 @@ returns-in_default-clause-session g c = (
 
 pub bounds-hand-place : goal.bounds-hand-place
 bounds-hand-place g c =
-    let same = have_length c.args.turns.now c.args.hand.now c.requires.locks in omega (arith, same, c.requires.documents, c.in-Some.ensures.within)
+    let same = have_length c.args.turns.now c.args.hand.now c.requires.locks in omega (arith, same, c.requires.one_length, c.in-Some.ensures.within)
 
 pub serve_at-end-requires-clause-lock : goal.serve_at-end-requires-clause-lock
 serve_at-end-requires-clause-lock g c =
     have_at c.args.turns.now c.args.hand.now c.in-Some.place c.index-turns-place.result (slice_index_or c.args.hand.now c.in-Some.place c.index-hand-place.result) c.requires.locks
-    (omega (arith, c.requires.documents, c.in-Some.ensures.within)) c.index-turns-place.is (ap (slice_index_or c.args.hand.now c.in-Some.place) c.index-hand-place.is)
+    (omega (arith, c.requires.one_length, c.in-Some.ensures.within)) c.index-turns-place.is (ap (slice_index_or c.args.hand.now c.in-Some.place) c.index-hand-place.is)
 
 pub returns-clause-locks : goal.returns-clause-locks
 returns-clause-locks g c =
     have_set c.args.turns.now c.args.hand.now c.in-Some.place c.index-turns-place.result c.serve_at-end.new.pass c.requires.locks
-    (omega (arith, c.requires.documents, c.in-Some.ensures.within)) c.index-turns-place.is c.serve_at-end.ensures.lock
+    (omega (arith, c.requires.one_length, c.in-Some.ensures.within)) c.index-turns-place.is c.serve_at-end.ensures.lock
 
 pub returns-clause-session : goal.returns-clause-session
 returns-clause-session g c =

@@ -13,4 +13,4 @@ tells a b at r in_a in_b d =
     ((λ t. x ∙ ap Some (d.0 t) ∙ sym y), (λ e. d.1 (let i : Some (get_or a at []) ≡ Some (get_or b at []) = sym x ∙ e ∙ y in cc)))
 
 pub returns : goal.returns
-returns c = tells _ _ c.args.at _ c.requires.in_a c.requires.in_b (slice_eq-Decides Decides-eqb _ _ _ c.eq.ensures)
+returns c = tells _ _ c.args.at _ c.requires.a_in_bounds c.requires.b_in_bounds (slice_eq-Decides Decides-eqb _ _ _ c.eq.ensures)

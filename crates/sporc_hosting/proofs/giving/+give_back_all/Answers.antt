@@ -7,7 +7,7 @@ use Rattle.sporc_hosting.proofs.giving.+give_back_all.Goals as goal
 pub give_back_all-others-requires : goal.give_back_all-others-requires
 give_back_all-others-requires g t c κs within =
     let each = as_many_left c.args.logs.now c.in-Some.more_logs.now c.args.orders.now c.in-Some-split_first.more_orders.now c.in-Some.log.now c.in-Some-split_first.order.now
-    c.in-Some.ensures.cases.0 c.in-Some-split_first.ensures.cases.0 c.requires.each in
+    c.in-Some.ensures.cases.0 c.in-Some-split_first.ensures.cases.0 c.requires.one_length in
     let tails = others_keep (KeepsBehind g.F.Appended.AppendFile.told) c.args.tails.now.items c.args.orders.now c.in-Some-split_first.order.now
     c.in-Some-split_first.more_orders.now c.in-Some-split_first.ensures.cases.0 c.requires.tails in
     (search rules, (within.0, (within.1.0, (within.1.1, (each, tails)))))

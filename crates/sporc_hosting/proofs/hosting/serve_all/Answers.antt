@@ -9,8 +9,8 @@ use Rattle.sporc_hosting.proofs.Changed.{back_changes, tails_front, tails_then}
 use Rattle.sporc_hosting.proofs.Hosted.{all_open, asked_again, opened_first, tells_longer}
 use Rattle.sporc_hosting.proofs.hosting.serve_all.Goals as goal
 
-pub serve_rounds-last-requires-clause-each : goal.serve_rounds-last-requires-clause-each
-serve_rounds-last-requires-clause-each g c κs within =
+pub serve_rounds-last-requires-clause-one_length : goal.serve_rounds-last-requires-clause-one_length
+serve_rounds-last-requires-clause-one_length g c κs within =
     let more = opened_first g.F.Appended.AppendFile.told (g.F.Folder.told c.args.files.now).files c.args.names.now (g.F.Folder.told c.args.files.now).faults
     (g.F.Folder.told c.open_documents.new.files).faults (Ok tt) c.new.result c.open_documents.new.held.docs c.new-2.result.items c.open_documents.new.held.tails.items
     c.new-3.result.items c.open_documents.new.held.logs.items c.new.ensures.value c.new-2.ensures.items c.new-3.ensures.items c.in-Ok.ensures.opens in
@@ -23,16 +23,16 @@ serve_rounds-last-requires-clause-tails g c κs within =
     c.new-3.result.items c.open_documents.new.held.logs.items c.new.ensures.value c.new-2.ensures.items c.new-3.ensures.items c.in-Ok.ensures.opens in
     more.are_open.kept
 
-pub give_back-requires-clause-each : goal.give_back-requires-clause-each
-give_back-requires-clause-each g c =
+pub give_back-requires-clause-one_length : goal.give_back-requires-clause-one_length
+give_back-requires-clause-one_length g c =
     let more = opened_first g.F.Appended.AppendFile.told (g.F.Folder.told c.args.files.now).files c.args.names.now (g.F.Folder.told c.args.files.now).faults
     (g.F.Folder.told c.open_documents.new.files).faults (Ok tt) c.new.result c.open_documents.new.held.docs c.new-2.result.items c.open_documents.new.held.tails.items
     c.new-3.result.items c.open_documents.new.held.logs.items c.new.ensures.value c.new-2.ensures.items c.new-3.ensures.items c.in-Ok.ensures.opens in
     ap (λ (ls : List OpenLogModel). length ls) c.serve_rounds-last.ensures.logs ∙ more.are_open.each
     ∙ sym (all_open g.F.Appended.AppendFile.told c.args.names.now more.opened more.held more.contents _ _ _ more.all more.are_open).0 ∙ c.serve_rounds-last.ensures.each
 
-pub give_back-requires-in-Err-clause-each : goal.give_back-requires-in-Err-clause-each
-give_back-requires-in-Err-clause-each g c =
+pub give_back-requires-in-Err-clause-one_length : goal.give_back-requires-in-Err-clause-one_length
+give_back-requires-in-Err-clause-one_length g c =
     let more = opened_first g.F.Appended.AppendFile.told (g.F.Folder.told c.args.files.now).files c.args.names.now (g.F.Folder.told c.args.files.now).faults
     (g.F.Folder.told c.open_documents.new.files).faults (Err c.in-Err.fault) c.new.result c.open_documents.new.held.docs c.new-2.result.items c.open_documents.new.held.tails.items
     c.new-3.result.items c.open_documents.new.held.logs.items c.new.ensures.value c.new-2.ensures.items c.new-3.ensures.items c.in-Err.ensures.opens in

@@ -19,16 +19,16 @@ returns-in_default-clause-changes g t c = tails_same c.args.names.now _ _ refl
 pub returns-in_default-clause-may_ask : goal.returns-in_default-clause-may_ask
 returns-in_default-clause-may_ask g t c = none_asked c.args.names.now _
 
-pub open_document-requires-clause-room : goal.open_document-requires-clause-room
-open_document-requires-clause-room g t c κs within = room_first c.args.names.now c.in-Some.name.now c.in-Some.others.now c.in-Some.ensures.cases.0 _ _ c.requires.room
+pub open_document-requires-clause-limit : goal.open_document-requires-clause-limit
+open_document-requires-clause-limit g t c κs within = room_first c.args.names.now c.in-Some.name.now c.in-Some.others.now c.in-Some.ensures.cases.0 _ _ c.requires.limit
 
-pub open_documents-requires-clause-room : goal.open_documents-requires-clause-room
-open_documents-requires-clause-room g t c κs within =
-    room_left c.args.names.now c.in-Some.name.now c.in-Some.others.now c.in-Some.ensures.cases.0 _ _ _ c.in_ok-open_document.ensures.one c.requires.room
+pub open_documents-requires-clause-limit : goal.open_documents-requires-clause-limit
+open_documents-requires-clause-limit g t c κs within =
+    room_left c.args.names.now c.in-Some.name.now c.in-Some.others.now c.in-Some.ensures.cases.0 _ _ _ c.in_ok-open_document.ensures.one c.requires.limit
 
-pub open_documents-requires-clause-numbers : goal.open_documents-requires-clause-numbers
-open_documents-requires-clause-numbers g t c κs within =
-    numbers_left c.args.names.now c.in-Some.name.now c.in-Some.others.now c.in-Some.ensures.cases.0 _ _ c.requires.numbers
+pub open_documents-requires-clause-numbers_limit : goal.open_documents-requires-clause-numbers_limit
+open_documents-requires-clause-numbers_limit g t c κs within =
+    numbers_left c.args.names.now c.in-Some.name.now c.in-Some.others.now c.in-Some.ensures.cases.0 _ _ c.requires.numbers_limit
 
 pub returns-in_err-open_document-clause-opens : goal.returns-in_err-open_document-clause-opens
 returns-in_err-open_document-clause-opens g t c = λ first begun opens.

@@ -21,9 +21,9 @@ returns-clause-round g c = record {
 
 pub keep_logs-saved-requires : goal.keep_logs-saved-requires
 keep_logs-saved-requires g c = record {
-  each = c.requires.each ∙ as_many _ c.args.held.docs c.serve_docs_kept-docs.result.0 c.serve_docs_kept-docs.ensures.served.1.served
+  one_length = c.requires.one_length ∙ as_many _ c.args.held.docs c.serve_docs_kept-docs.result.0 c.serve_docs_kept-docs.ensures.served.1.served
       ∙ ap (λ (os : List OrderModel). length os) (sym c.orders.ensures.value);
 }
 
 pub returns-clause-each : goal.returns-clause-each
-returns-clause-each g c = c.requires.each ∙ as_many _ c.args.held.docs c.serve_docs_kept-docs.result.0 c.serve_docs_kept-docs.ensures.served.1.served
+returns-clause-each g c = c.requires.one_length ∙ as_many _ c.args.held.docs c.serve_docs_kept-docs.result.0 c.serve_docs_kept-docs.ensures.served.1.served

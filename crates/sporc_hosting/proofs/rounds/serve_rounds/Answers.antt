@@ -8,7 +8,7 @@ pub rounds-init : goal.rounds-init
 rounds-init g c = record {
   rounds = first_round _ _ _ c.serve_round-last.ensures.round;
   some = omega arith;
-  within = c.requires.times;
+  within = c.requires.times_positive;
   tails = c.serve_round-last.ensures.tails;
   logs = c.serve_round-last.ensures.logs;
   each = c.serve_round-last.ensures.each;

@@ -10,7 +10,7 @@ use Rattle.sporc_line.proofs.payload.read_payload.Goals as goal
 pub decode-requires : goal.decode-requires
 decode-requires c =
     let same : c.as_slice.result.now ≡ mask_of c.args.key.now c.args.stream c.args.body.now = c.as_slice.ensures.value ∙ c.in_ok-bytes.ensures.ok in
-    record { size = omega (arith, ap length same, length-mask_from c.args.key.now c.args.stream 0 c.args.body.now, c.requires) }
+    record { limit = omega (arith, ap length same, length-mask_from c.args.key.now c.args.stream 0 c.args.body.now, c.requires) }
 
 pub returns-clause-fault : goal.returns-clause-fault
 returns-clause-fault c other =

@@ -8,7 +8,7 @@ use Rattle.sporc_order.proofs.laws.batches_are_longest.Goals as goal
 pub returns : goal.returns
 returns c = record {
   prefix = λ entries from. is_prefix MAX_PULLED MAX_PULLED_BYTES (drop from entries);
-  number = λ entries from. batch_len MAX_PULLED MAX_PULLED_BYTES (drop from entries);
-  bytes = λ entries from. batch_bytes MAX_PULLED MAX_PULLED_BYTES (drop from entries);
+  number_within = λ entries from. batch_len MAX_PULLED MAX_PULLED_BYTES (drop from entries);
+  bytes_within = λ entries from. batch_bytes MAX_PULLED MAX_PULLED_BYTES (drop from entries);
   longest = λ entries from n within few small. longest MAX_PULLED MAX_PULLED_BYTES (drop from entries) n within few small;
 }

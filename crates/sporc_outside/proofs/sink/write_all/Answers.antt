@@ -5,7 +5,7 @@ use Rattle.sporc_outside.proofs.sink.write_all.Goals as goal
 
 pub loop-at-preserved : goal.loop-at-preserved
 loop-at-preserved g c = record {
-  within = front_fits c.args.bytes.now c.loop-at.at c.in_ok-at.field-0 c.loop-at.invariant.within c.in_ok-at.ensures.bound;
+  within = front_fits c.args.bytes.now c.loop-at.at c.in_ok-at.field-0 c.loop-at.invariant.within c.in_ok-at.ensures.within;
   written = rw take-front (Appends-trans _ _ _ _ _ c.loop-at.invariant.written c.in_ok-at.ensures.did.written);
   left = c.in_ok-at.ensures.did.left ∙ c.loop-at.invariant.left;
   shut = c.in_ok-at.ensures.did.is_shut ∙ c.loop-at.invariant.shut;

@@ -26,11 +26,11 @@ returns-in-None-clause-value c =
     let low : c.args.seen ≤ length (state_of client).shown = subst (λ (n : ℕ). c.args.seen ≤ n) (sym (shown_count client.opening client.log)) (not_below _ (length client.log) c.args.seen c.in-Some.ensures.none (λ h. cc)) in
     sym c.in-None.is ∙ c.in_ok-delta.ensures ∙ ap (marks_of c.args.edit.now) c.in-Some.ensures.some ∙ sym (within (state_of client) c.args.seen c.args.edit.now low)
 
-pub delta_of-requires-clause-small : goal.delta_of-requires-clause-small
-delta_of-requires-clause-small c =
+pub delta_of-requires-clause-limit : goal.delta_of-requires-clause-limit
+delta_of-requires-clause-limit c =
     let client = c.args.client.now in
     let low : c.args.seen ≤ length client.log = not_below _ (length client.log) c.args.seen c.in-Some.ensures.none (λ h. cc) in
     let count : length c.journal-journal.result.now ≡ length client.log =
     journal_count client.opening client.log c.journal-journal.result.now c.journal-journal.ensures.value ∙ shown_count client.opening client.log in
     subst (λ (n : ℕ). n ≤ MAX_COUNT) (sym c.in-Some.ensures.some)
-    (short_texts client c.journal-journal.ensures.allowed c.journal-journal.ensures.sound (subst (λ (n : ℕ). n ≤ MAX_EVENTS) count c.journal-journal.ensures.few) c.args.seen low)
+    (short_texts client c.journal-journal.ensures.allowed c.journal-journal.ensures.sound (subst (λ (n : ℕ). n ≤ MAX_EVENTS) count c.journal-journal.ensures.within) c.args.seen low)

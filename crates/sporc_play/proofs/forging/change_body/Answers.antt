@@ -9,8 +9,8 @@ write_change-requires c =
     let small : IsSmallBody c.in_ok-body-2.body = subst IsSmallBody (sym c.in_ok-body-2.ensures) (spoiled_small c.args.suffix c.in_ok-body.body c.in_ok-body.ensures.small) in
     omega (arith, small.few)
 
-pub returns-clause-short : goal.returns-clause-short
-returns-clause-short c =
+pub returns-clause-within : goal.returns-clause-within
+returns-clause-within c =
     let small : IsSmallBody c.in_ok-body-2.body = subst IsSmallBody (sym c.in_ok-body-2.ensures) (spoiled_small c.args.suffix c.in_ok-body.body c.in_ok-body.ensures.small) in
     let AreShort : List ℕ → Type 0 = λ bytes. length bytes < 2 ^ 32 in
     if_ok c.write_change.result _ _ (λ bytes e. subst AreShort (sym e) (small_bytes c.in_ok-body-2.body small)) c.write_change.ensures.ok

@@ -28,8 +28,8 @@ returns-in-Err-Exhausted-clause-entry c = λ s own is.
     let used = (c.in-Err-Exhausted.ensures.faults.exhausted c.in-Err-Exhausted.field-0-0).0 (ap Err c.in-Err-Exhausted.field-0-is) in
     forged_none s (state_of c.args.client.now) c.args.forgery.now c.args.t _ _ (leaf_none old.key old.leaves.next old.leaves.leaf_count used.0 c.requires.leaves.count)
 
-pub sign_with-requires-clause-can_sign : goal.sign_with-requires-clause-can_sign
-sign_with-requires-clause-can_sign c = subst (λ (key : LmsPrivate). c.in-Ok.ticket < 2 ^ height_of key.lms) (sym c.in-Ok.ensures.key) c.in-Ok.ensures.can_sign
+pub sign_with-requires-clause-ticket_limit : goal.sign_with-requires-clause-ticket_limit
+sign_with-requires-clause-ticket_limit c = subst (λ (key : LmsPrivate). c.in-Ok.ticket < 2 ^ height_of key.lms) (sym c.in-Ok.ensures.key) c.in-Ok.ensures.within
 
 not_faulty : (faulty : Bool) → (IsTrue faulty → ⊥) → faulty ≡ false
 not_faulty true works = absurd (works refl)

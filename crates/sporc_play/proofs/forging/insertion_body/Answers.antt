@@ -4,8 +4,8 @@ use Rattle.sporc_delta.specs.Marks.{Mark, insertion}
 use Rattle.sporc_play.proofs.Insertions.{insertion_short}
 use Rattle.sporc_play.proofs.forging.insertion_body.Goals as goal
 
-pub returns-clause-short : goal.returns-clause-short
-returns-clause-short c =
+pub returns-clause-within : goal.returns-clause-within
+returns-clause-within c =
     let len = c.committed_len-len.result in
     let at = c.min-at.result in
     let text = c.args.insertion.now.text in

@@ -1,7 +1,7 @@
 use Rattle.std.proofs.Common.{List, ℕ, Option, ap, sym, ◌∙◌}
 use Rattle.std.specs.Prelude.{replicate, unwrap_or}
 use Rattle.sporc_head.specs.History.{epoch_of}
-use Rattle.sporc_line.specs.Keys.{key_of}
+use Rattle.sporc_line.specs.Keys.{epoch_key}
 use Rattle.sporc_client.specs.ClientModel.{state_of}
 use Rattle.sporc_client.specs.PlainClient.{Opening}
 use Rattle.sporc_client.proofs.Calls.{replay_opening}
@@ -12,11 +12,11 @@ returns-in-Some c =
     let client = c.args.client.now in
     let entries = (state_of client).entries in
     ap (λ (key : Option (List ℕ)). unwrap_or key (replicate 32 0)) c.in-Some.ensures.value
-    ∙ ap (λ (o : Opening). unwrap_or (key_of o.genesis o.kit entries (epoch_of entries)) (replicate 32 0)) (sym (replay_opening client.opening client.log))
+    ∙ ap (λ (o : Opening). unwrap_or (epoch_key o.genesis o.kit entries (epoch_of entries)) (replicate 32 0)) (sym (replay_opening client.opening client.log))
 
 pub returns-in-None : goal.returns-in-None
 returns-in-None c =
     let client = c.args.client.now in
     let entries = (state_of client).entries in
     ap (λ (key : Option (List ℕ)). unwrap_or key (replicate 32 0)) c.in-None.ensures.value
-    ∙ ap (λ (o : Opening). unwrap_or (key_of o.genesis o.kit entries (epoch_of entries)) (replicate 32 0)) (sym (replay_opening client.opening client.log))
+    ∙ ap (λ (o : Opening). unwrap_or (epoch_key o.genesis o.kit entries (epoch_of entries)) (replicate 32 0)) (sym (replay_opening client.opening client.log))

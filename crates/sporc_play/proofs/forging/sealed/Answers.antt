@@ -15,7 +15,7 @@ use Rattle.sporc_play.proofs.forging.sealed.Goals as goal
 pub seal_change_at-requires : goal.seal_change_at-requires
 seal_change_at-requires c =
     let e = c.heads-heads.ensures in
-    record { epoch = omega (arith, c.epoch.ensures.value, epoch_le c.heads-heads.result.now.entries, c.len-count.ensures.value, c.len-count.ensures.within) }
+    record { limit = omega (arith, c.epoch.ensures.value, epoch_le c.heads-heads.result.now.entries, c.len-count.ensures.value, c.len-count.ensures.within) }
 
 apart : (fault : SealFault) (member : ℕ) → fault ≡ NoPairKey member → fault ≡ Memory → ⊥
 apart fault member is memory = absurd cc
@@ -51,4 +51,4 @@ returns-in-Ok-clause-small c =
     let members = c.in_ok-members.ensures.value ∙ ap (λ (o : Opening). sealed_for (roster_of o.genesis (state_of client).entries) change) opening in
     subst IsSmallBody (sym (returns-in-Ok-clause-value c))
     (forged_small (state_of client) c.args.header.now change c.args.new_key.now c.requires.small (ap length (sym c.requires.old) ∙ c.told-old_key) c.told-new_key
-    (subst AreFew members c.in_ok-members.ensures.few))
+    (subst AreFew members c.in_ok-members.ensures.within))

@@ -10,8 +10,8 @@ use Rattle.sporc_play.proofs.Forgeries.{accepted_members, few_sealed, refused_me
 use Rattle.sporc_play.proofs.Results.{if_ok}
 use Rattle.sporc_play.proofs.forging.sealed_for.Goals as goal
 
-pub returns-in-Ok-clause-few : goal.returns-in-Ok-clause-few
-returns-in-Ok-clause-few c =
+pub returns-in-Ok-clause-within : goal.returns-in-Ok-clause-within
+returns-in-Ok-clause-within c =
     let client = c.args.client.now in
     let entries = (state_of client).entries in
     let is : IsGenesis client.opening.genesis = subst IsGenesis (c.genesis-genesis.ensures.value ∙ c.heads.ensures.genesis) c.genesis-genesis.ensures.is_genesis in
@@ -22,8 +22,8 @@ returns-in-Ok-clause-few c =
     let AreFew : List ℕ → Type 0 = λ numbers. length numbers ≤ MAX_MEMBERS in
     if_ok c.members_after.result _ _ (λ v e. subst AreFew (sym (e ∙ members)) few) c.members_after.ensures.ok
 
-pub returns-in-Err-clause-few : goal.returns-in-Err-clause-few
-returns-in-Err-clause-few c =
+pub returns-in-Err-clause-within : goal.returns-in-Err-clause-within
+returns-in-Err-clause-within c =
     let client = c.args.client.now in
     let entries = (state_of client).entries in
     let is : IsGenesis client.opening.genesis = subst IsGenesis (c.genesis-genesis.ensures.value ∙ c.heads.ensures.genesis) c.genesis-genesis.ensures.is_genesis in

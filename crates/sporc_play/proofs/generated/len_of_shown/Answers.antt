@@ -22,10 +22,10 @@ returns-clause-value c =
     ∙ ap (λ (deltas : List (List Mark)). length (text_after deltas)) (take_all (length state.shown) state.shown (omega arith))
     ∙ ap (λ (text : List ℕ). length text) c.journal.ensures.sound.shown
 
-pub returns-clause-small : goal.returns-clause-small
-returns-clause-small c =
+pub returns-clause-within : goal.returns-clause-within
+returns-clause-within c =
     let client = c.args.client.now in
     let count = journal_count client.opening client.log c.journal.result.now c.journal.ensures.value in
     let shown = shown_count client.opening client.log in
-    let short = short_texts client c.journal.ensures.allowed c.journal.ensures.sound (omega (arith, count, shown, c.journal.ensures.few)) (length c.journal.result.now) (omega (arith, count, shown)) in
+    let short = short_texts client c.journal.ensures.allowed c.journal.ensures.sound (omega (arith, count, shown, c.journal.ensures.within)) (length c.journal.result.now) (omega (arith, count, shown)) in
     omega (arith, short, c.in-Some.ensures.some)

@@ -20,7 +20,7 @@ returns-in_default-clause-crowd g t c genesis log =
     crowd_failed genesis (known_of c.args.first) (read_of c.args.first)
     (g.N.Links.told c.args.net.now)
     (g.N.Links.told c.accept.new.self) c.args.sessions
-    c.in_default.ensures.same c.accept.ensures.returned c.in_default.ensures.count.failed
+    c.in_default.ensures.coming_unchanged c.accept.ensures.returned c.in_default.ensures.count.failed
 
 pub returns-in-Err-clause-crowd : goal.returns-in-Err-clause-crowd
 returns-in-Err-clause-crowd g t c genesis log =
@@ -53,7 +53,7 @@ returns-clause-crowd g t c genesis log =
     (g.N.Links.told c.take_back-2.new.self) others c.args.sessions
     (g.N.Link.Stream.told c.in-Ok.link) (g.N.Link.Stream.told link) r.1.0 r.0.0 c.joined.result.0 log c.in-Ok-split.ensures.old c.in-Ok-split.ensures.new session crowd c.join_mut-rest.ensures.1.met.1.4 c.joined.ensures.read number c.joined.ensures.known
     c.joined.ensures.begins.0 c.joined.ensures.begins.1 c.joined.ensures.agrees c.in-Ok.ensures.next c.in-Ok.ensures.open c.accept.ensures.returned c.accept.ensures.count.kept
-    c.take_back-2.ensures.coming c.take_back-2.ensures.returned c.take_back-2.ensures.count size c.joined.ensures.answer
+    c.take_back-2.ensures.coming c.take_back-2.ensures.returned c.take_back-2.ensures.kept size c.joined.ensures.answer
 
 pub returns-then-sessions-eq0-clause-shut : goal.returns-then-sessions-eq0-clause-shut
 returns-then-sessions-eq0-clause-shut g t c = shut_none (g.N.Links.told c.args.net.now).returned (g.N.Links.told c.args.net.now).returned refl

@@ -1,7 +1,7 @@
 use Rattle.std.proofs.Common.{None, Some, Option, refl, subst, ◌∙◌}
 use Rattle.sporc_turn.specs.Passes.{known_of}
 use Rattle.sporc_serve.specs.declared.end.SessionEnd.{SessionEnd}
-use Rattle.sporc_serve.specs.Courses.{ServerStand, stand_at, Carries}
+use Rattle.sporc_serve.specs.Traces.{ServerStand, stand_at, Carries}
 use Rattle.sporc_serve.proofs.Stepping.{leads_same, leads_then}
 use Rattle.sporc_serve.proofs.session.go_on.Goals as goal
 
@@ -10,7 +10,7 @@ loop-init g c = record {
   lock = c.requires.lock;
   number = refl;
   as_shut = refl;
-  course = leads_same (stand_at (known_of c.args.pass) (g.L.Stream.told c.args.link.now)
+  trace = leads_same (stand_at (known_of c.args.pass) (g.L.Stream.told c.args.link.now)
       c.args.frames.now c.args.session.now);
 }
 
@@ -28,7 +28,7 @@ loop-preserved g c =
       lock = c.step-end.ensures.lock;
       number = c.step-end.ensures.number ∙ c.loop.invariant.number;
       as_shut = c.step-end.ensures.as_shut ∙ c.loop.invariant.as_shut;
-      course = leads_then a b b' None c.loop.invariant.course (subst (λ (e : Option SessionEnd). Carries b b' e) c.in_default.is c.step-end.ensures.goes);
+      trace = leads_then a b b' None c.loop.invariant.trace (subst (λ (e : Option SessionEnd). Carries b b' e) c.in_default.is c.step-end.ensures.goes);
     }
 
 pub returns-in-Some-end-clause-goes : goal.returns-in-Some-end-clause-goes
@@ -41,4 +41,4 @@ returns-in-Some-end-clause-goes g c =
     let b' : ServerStand =
     stand_at (known_of c.step-end.result.1) (g.L.Stream.told c.step-end.new.link)
     c.step-end.new.frames c.step-end.new.session in
-    leads_then a b b' (Some c.in-Some-end.end) c.loop.invariant.course (subst (λ (e : Option SessionEnd). Carries b b' e) c.in-Some-end.is c.step-end.ensures.goes)
+    leads_then a b b' (Some c.in-Some-end.end) c.loop.invariant.trace (subst (λ (e : Option SessionEnd). Carries b b' e) c.in-Some-end.is c.step-end.ensures.goes)

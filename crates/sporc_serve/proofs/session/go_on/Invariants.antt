@@ -1,6 +1,6 @@
 use Rattle.std.proofs.Common.{◌≡◌, None}
 use Rattle.sporc_turn.specs.Passes.{known_of, IsPassOf}
-use Rattle.sporc_serve.specs.Courses.{stand_at, Leads}
+use Rattle.sporc_serve.specs.Traces.{stand_at, Leads}
 use Rattle.sporc_serve.proofs.session.go_on.Given as goal
 
 abbrev pub invariant-loop : goal.invariant-loop
@@ -8,7 +8,7 @@ invariant-loop g l = record {
   lock : IsPassOf l.turn l.pass;
   number : (known_of l.pass).number ≡ (known_of l.initial.pass).number;
   as_shut : (g.L.Stream.told l.link).is_shut ≡ (g.L.Stream.told l.initial.link).is_shut;
-  course : Leads
+  trace : Leads
       (stand_at (known_of l.initial.pass) (g.L.Stream.told l.initial.link) l.initial.frames l.initial.session)
       (stand_at (known_of l.pass) (g.L.Stream.told l.link) l.frames l.session) None;
 }

@@ -1,6 +1,6 @@
 use Rattle.std.proofs.Common.{List, take}
 use Rattle.sporc_turn.specs.Passes.{known_of}
-use Rattle.sporc_shared.specs.Courses.{CountsSame}
+use Rattle.sporc_shared.specs.Traces.{CountsSame}
 use Rattle.sporc_shared.specs.Editing.{LinesDone}
 use Rattle.sporc_shared.specs.Items.{Item}
 use Rattle.sporc_shared.specs.Passes.{IsPassOf}

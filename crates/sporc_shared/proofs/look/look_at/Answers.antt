@@ -20,7 +20,7 @@ returns g c =
       pending = c.pending.ensures.value;
       len = c.shown_len.ensures.value;
       front = c.shown_len.ensures.front;
-      short = c.shown_len.ensures.short;
+      short = c.shown_len.ensures.within;
       hash = hash_is heads.genesis client.opening.genesis heads.entries (state_of client).entries c.len-at.result c.hash_at.result c.hash_at.ensures.value c.heads-heads.ensures.genesis c.heads-heads.ensures.entries c.len-at.ensures.value;
       removed = c.removed.ensures.value;
     }

@@ -12,11 +12,11 @@ returns-clause-front g c = c.in-Some.ensures.some ∙ ap (λ (n : ℕ). length (
 pub returns-clause-value : goal.returns-clause-value
 returns-clause-value g c = returns-clause-front g c ∙ shown_last c.args.client.now.opening c.args.client.now.log c.count_events.ensures.sound
 
-pub returns-clause-short : goal.returns-clause-short
-returns-clause-short g c =
+pub returns-clause-within : goal.returns-clause-within
+returns-clause-within g c =
     let client = c.args.client.now in
     let value : c.in-Some.len ≡ length (shown_of (state_of client)) = returns-clause-value g c in
     let committed : length (committed_of (state_of client)) ≤ 2 ^ 35 = omega (arith, c.committed_len-committed.ensures.value, c.committed_len-committed.ensures.within) in
-    let pending : length (state_of client).pending ≤ MAX_PENDING = omega (arith, c.pending-pending.ensures.value, c.pending-pending.ensures.few) in
+    let pending : length (state_of client).pending ≤ MAX_PENDING = omega (arith, c.pending-pending.ensures.value, c.pending-pending.ensures.within) in
     let short : length (shown_of (state_of client)) ≤ 2 ^ 36 = shown_short client.opening client.log c.count_events.ensures.allowed c.count_events.ensures.sound committed pending in
     omega (arith, value, short)

@@ -1,5 +1,5 @@
 use Rattle.std.proofs.Common.{arith}
-use Rattle.sporc_shared.proofs.Coursing.{stopped_within, was_done, was_stopped}
+use Rattle.sporc_shared.proofs.Tracing.{stopped_within, was_done, was_stopped}
 use Rattle.sporc_shared.proofs.Phasing.{first_then}
 use Rattle.sporc_shared.proofs.Wearing.{worn_at}
 use Rattle.sporc_shared.proofs.phase.first_phase.Goals as goal

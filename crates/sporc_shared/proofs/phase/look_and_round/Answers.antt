@@ -1,14 +1,14 @@
 use Rattle.std.proofs.Common.{refl, ◌+◌, arith}
 use Rattle.sporc_shared.specs.Looks.{IsLookAt}
 use Rattle.sporc_shared.specs.Protocol.{always}
-use Rattle.sporc_shared.proofs.Coursing.{and_then, stopped_within}
+use Rattle.sporc_shared.proofs.Tracing.{and_then, stopped_within}
 use Rattle.sporc_shared.proofs.Phasing.{look_small, round_begins}
 use Rattle.sporc_shared.proofs.Telling.{told, was_told, worn_stopped}
 use Rattle.sporc_shared.proofs.Wearing.{told_worn, worn_at}
 use Rattle.sporc_shared.proofs.phase.look_and_round.Goals as goal
 
-pub round-requires-clause-small : goal.round-requires-clause-small
-round-requires-clause-small g c = look_small (was_told c.in-Ok.is (told IsLookAt c.look.result c.plain-answer.ensures c.worn.ensures c.look.ensures.call c.look.ensures.worn))
+pub round-requires-clause-limit : goal.round-requires-clause-limit
+round-requires-clause-limit g c = look_small (was_told c.in-Ok.is (told IsLookAt c.look.result c.plain-answer.ensures c.worn.ensures c.look.ensures.call c.look.ensures.worn))
 
 pub returns-in-Ok-clause-did : goal.returns-in-Ok-clause-did
 returns-in-Ok-clause-did g c n =

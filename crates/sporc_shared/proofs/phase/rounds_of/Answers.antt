@@ -1,6 +1,6 @@
 use Rattle.std.proofs.Common.{refl, ◌∙◌, ◌+◌, arith}
 use Rattle.sporc_turn.specs.Passes.{known_of}
-use Rattle.sporc_shared.proofs.Coursing.{did_none, did_stopped, did_then, stopped_within, was_done, was_stopped}
+use Rattle.sporc_shared.proofs.Tracing.{did_none, did_stopped, did_then, stopped_within, was_done, was_stopped}
 use Rattle.sporc_shared.proofs.Knowing.{counts_then}
 use Rattle.sporc_shared.proofs.Wearing.{worn_at}
 use Rattle.sporc_shared.proofs.phase.rounds_of.Goals as goal

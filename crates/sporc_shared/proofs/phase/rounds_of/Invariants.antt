@@ -2,7 +2,7 @@ use Rattle.std.proofs.Common.{◌≡◌, ◌-◌, ◌≤◌}
 use Rattle.sporc_turn.specs.Passes.{known_of}
 use Rattle.sporc_shared.specs.Passes.{IsPassOf}
 use Rattle.sporc_shared.specs.Wires.{link_stand}
-use Rattle.sporc_shared.specs.Courses.{stand, CountsSame}
+use Rattle.sporc_shared.specs.Traces.{stand, CountsSame}
 use Rattle.sporc_shared.specs.Protocol.{Between, always}
 use Rattle.sporc_shared.specs.Endings.{Did}
 use Rattle.sporc_shared.proofs.phase.rounds_of.Given as goal

@@ -3,7 +3,7 @@ use Rattle.sporc_turn.specs.Passes.{known_of}
 use Rattle.sporc_shared.specs.Looks.{IsLookAt}
 use Rattle.sporc_shared.specs.Protocol.{is_unsettled}
 use Rattle.sporc_shared.specs.Sessions.{stops}
-use Rattle.sporc_shared.proofs.Coursing.{and_then, did_none, did_stopped, did_then, stopped_within, was_done, was_stopped}
+use Rattle.sporc_shared.proofs.Tracing.{and_then, did_none, did_stopped, did_then, stopped_within, was_done, was_stopped}
 use Rattle.sporc_shared.proofs.Knowing.{counts_then}
 use Rattle.sporc_shared.proofs.Phasing.{look_small, round_begins, second_settles, second_spent, second_worn}
 use Rattle.sporc_shared.proofs.Telling.{told, told_counts, was_told, worn_counts}
@@ -33,8 +33,8 @@ loop-look-preserved g c =
           (and_then (round_begins (c.loop-look.invariant.counts.number ∙ c.requires.first) t (sym c.unsettled.ensures ∙ c.if-not-unsettled.false)) (c.round-one.ensures.did (is_unsettled c.args.until) c.loop-look.done)));
     }
 
-pub round-one-requires-clause-small : goal.round-one-requires-clause-small
-round-one-requires-clause-small g c = look_small (was_told c.in-Ok.is (told IsLookAt c.look.result c.plain-answer.ensures c.worn.ensures c.look.ensures.call c.look.ensures.worn))
+pub round-one-requires-clause-limit : goal.round-one-requires-clause-limit
+round-one-requires-clause-limit g c = look_small (was_told c.in-Ok.is (told IsLookAt c.look.result c.plain-answer.ensures c.worn.ensures c.look.ensures.call c.look.ensures.worn))
 
 pub returns-in-Err-clause-phase : goal.returns-in-Err-clause-phase
 returns-in-Err-clause-phase g c = second_worn c.loop-look.invariant.low c.in-Err.is (told IsLookAt c.look.result c.plain-answer.ensures c.worn.ensures c.look.ensures.call c.look.ensures.worn) c.loop-look.invariant.did

@@ -1,6 +1,6 @@
 use Rattle.std.proofs.Common.{◌≡◌, ◌-◌, ◌≤◌}
 use Rattle.sporc_turn.specs.Passes.{known_of}
-use Rattle.sporc_shared.specs.Courses.{stand, CountsSame}
+use Rattle.sporc_shared.specs.Traces.{stand, CountsSame}
 use Rattle.sporc_shared.specs.Endings.{Did}
 use Rattle.sporc_shared.specs.Passes.{IsPassOf}
 use Rattle.sporc_shared.specs.Protocol.{Between, is_unsettled}

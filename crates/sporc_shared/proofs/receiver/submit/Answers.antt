@@ -7,8 +7,8 @@ pub returns-in-Ok-clause-submitted : goal.returns-in-Ok-clause-submitted
 returns-in-Ok-clause-submitted g c =
     submitted_one (known_of c.args.pass) c.submit.result c.plain-answer.result c.made.result _ _ _ _ c.in-Ok.random c.requires.first c.plain-answer.ensures c.made.ensures c.in-Ok.ensures.ok c.submit.ensures.call c.submit.ensures.worn
 
-pub returns-in-Ok-clause-short : goal.returns-in-Ok-clause-short
-returns-in-Ok-clause-short g c =
+pub returns-in-Ok-clause-within : goal.returns-in-Ok-clause-within
+returns-in-Ok-clause-within g c =
     submitted_short (known_of c.args.pass) c.submit.result c.plain-answer.result c.made.result c.in-Ok.random c.plain-answer.ensures c.made.ensures c.submit.ensures.call
 
 pub returns-in-Ok-clause-counts : goal.returns-in-Ok-clause-counts

@@ -4,7 +4,7 @@ use Rattle.sporc_turn.specs.declared.known.Known.{Known}
 use Rattle.sporc_turn.specs.Passes.{known_of}
 use Rattle.sporc_client.specs.Log.{Accept}
 use Rattle.sporc_shared.specs.declared.fault.SessionFault.{SessionFault}
-use Rattle.sporc_shared.specs.Courses.{KnowsMore}
+use Rattle.sporc_shared.specs.Traces.{KnowsMore}
 use Rattle.sporc_shared.specs.Endings.{TakeCause}
 use Rattle.sporc_shared.specs.Items.{Item, Happened, Past}
 use Rattle.sporc_shared.specs.Looks.{key_at}

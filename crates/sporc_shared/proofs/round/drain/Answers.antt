@@ -1,6 +1,6 @@
 use Rattle.std.proofs.Common.{refl, ◌∙◌}
 use Rattle.sporc_turn.specs.Passes.{known_of}
-use Rattle.sporc_shared.proofs.Coursing.{did_none}
+use Rattle.sporc_shared.proofs.Tracing.{did_none}
 use Rattle.sporc_shared.proofs.Knowing.{counts_then}
 use Rattle.sporc_shared.proofs.Rounding.{drain_done, drain_fails, drain_more, now_small}
 use Rattle.sporc_shared.proofs.Wearing.{worn_at}
@@ -10,7 +10,7 @@ pub loop-more-init : goal.loop-more-init
 loop-more-init g c = record {
   lock = c.requires.lock;
   counts = record { number = refl; splits = refl; joined = refl };
-  small = c.requires.small;
+  small = c.requires.limit;
   shut = refl;
   did = λ ready n words count entry refusal. did_none;
 }

@@ -5,7 +5,7 @@ use Rattle.sporc_turn.specs.Rule.{one_if}
 use Rattle.sporc_head.specs.declared.limits.TheConstants.{MAX_ENTRIES}
 use Rattle.sporc_head.specs.declared.refusal.Refusal.{Refusal}
 use Rattle.sporc_shared.specs.Wires.{link_stand}
-use Rattle.sporc_shared.specs.Courses.{stand, CountsSame}
+use Rattle.sporc_shared.specs.Traces.{stand, CountsSame}
 use Rattle.sporc_shared.specs.Protocol.{Taking, Drains}
 use Rattle.sporc_shared.specs.Endings.{Did}
 use Rattle.sporc_shared.proofs.Rounding.{draining}

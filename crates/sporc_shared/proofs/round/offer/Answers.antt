@@ -1,7 +1,7 @@
 use Rattle.std.proofs.Common.{ap, ◌∙◌, Ok}
 use Rattle.sporc_wire.specs.declared.to_server.ToServer.TheVariants as to_server
 use Rattle.sporc_shared.specs.Wires.{link_stand}
-use Rattle.sporc_shared.proofs.Coursing.{and_then}
+use Rattle.sporc_shared.proofs.Tracing.{and_then}
 use Rattle.sporc_shared.proofs.Rounding.{sent_ordered, sent_rejected, sent_stopped}
 use Rattle.sporc_shared.proofs.Wearing.{asked_worn}
 use Rattle.sporc_shared.proofs.round.offer.Goals as goal

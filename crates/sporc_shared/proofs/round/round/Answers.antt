@@ -1,4 +1,4 @@
-use Rattle.sporc_shared.proofs.Coursing.{and_then}
+use Rattle.sporc_shared.proofs.Tracing.{and_then}
 use Rattle.sporc_shared.proofs.Rounding.{pull_did, pull_stopped}
 use Rattle.sporc_shared.proofs.Wearing.{worn_at}
 use Rattle.sporc_shared.proofs.round.round.Goals as goal

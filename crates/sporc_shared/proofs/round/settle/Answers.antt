@@ -1,4 +1,4 @@
-use Rattle.sporc_shared.proofs.Coursing.{and_then, was_done, was_stopped}
+use Rattle.sporc_shared.proofs.Tracing.{and_then, was_done, was_stopped}
 use Rattle.sporc_shared.proofs.Wearing.{worn_at}
 use Rattle.sporc_shared.proofs.round.settle.Goals as goal
 

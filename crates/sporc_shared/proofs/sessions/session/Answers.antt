@@ -4,7 +4,7 @@ use Rattle.std.specs.Result.{result_err}
 use Rattle.sporc_base.specs.FirstFault.{first_of}
 use Rattle.sporc_turn.specs.Passes.{known_of}
 use Rattle.sporc_shared.specs.declared.fault.SessionFault.{SessionFault}
-use Rattle.sporc_shared.specs.Courses.{stand}
+use Rattle.sporc_shared.specs.Traces.{stand}
 use Rattle.sporc_shared.specs.Wires.{empty_inbox, link_stand}
 use Rattle.sporc_shared.proofs.Sessioning.{Begins, crowd_from, session_settled, session_stopped}
 use Rattle.sporc_shared.proofs.Wearing.{worn_at}

@@ -33,4 +33,4 @@ pub returns-clause-ok : goal.returns-clause-ok
 returns-clause-ok g c =
     let checker = g.H.History.checker c.args.history.now in
     is_done checker (g.H.History.entries c.args.history.now) (g.H.History.entries c.loop-taken.history) c.args.entries.now c.args.before c.loop-taken.taken
-    c.requires.count c.loop-taken.invariant.count c.loop-taken.invariant.within c.loop-taken-test.false c.loop-taken.invariant.so_far
+    c.requires.before c.loop-taken.invariant.count c.loop-taken.invariant.within c.loop-taken-test.false c.loop-taken.invariant.so_far

@@ -33,7 +33,7 @@ loop-n-preserved c =
           (c.in-Ok.ensures.goes (count - (c.loop-n.n + 1)));
       whole = c.in-Ok.ensures.whole c.if-not-goes.false;
       end = omega (arith, c.in-Ok.ensures.end c.if-not-goes.false, c.loop-n.invariant.end);
-      few = omega (arith, c.in-Ok.ensures.few, c.loop-n.invariant.few);
+      few = omega (arith, c.in-Ok.ensures.entries_within, c.loop-n.invariant.few);
     }
 
 pub returns-clause-ok : goal.returns-clause-ok

@@ -9,4 +9,4 @@ learn-requires c =
     let i = c.loop-i.i in
     let e = c.index-entries-i.result in
     subst (λ (es : List (List ℕ)). IfSome (get_or c.args.verdicts.now i None) (λ verdict. IsExact verdict (get_or es i e))) (sym c.loop-i.invariant)
-    (exact_first c.args.verdicts.now c.args.entries.now c.args.count i None e c.requires.exact c.requires.within c.loop-i-test.true)
+    (exact_first c.args.verdicts.now c.args.entries.now c.args.count i None e c.requires.exact c.requires.in_bounds c.loop-i-test.true)

@@ -7,26 +7,26 @@ use Rattle.sporc_suffix.proofs.runs.+over_runs.Goals as goal
 
 pub over_one-requires-clause-fits : goal.over_one-requires-clause-fits
 over_one-requires-clause-fits g t c =
-    (halves c.args.q (runs_of c.args.level (forms_in c.args.forms.now)) c.args.from (c.args.from + c.args.from % 2) (c.args.count - c.args.count % 2) c.args.count c.requires.count (omega (arith, c.if-from-count.false, c.requires.within)) refl refl c.requires.fits).first_fits
+    (halves c.args.q (runs_of c.args.level (forms_in c.args.forms.now)) c.args.from (c.args.from + c.args.from % 2) (c.args.count - c.args.count % 2) c.args.count c.requires.all_runs (omega (arith, c.if-from-count.false, c.requires.in_bounds)) refl refl c.requires.fits).first_fits
 
 pub over_runs-requires : goal.over_runs-requires
 over_runs-requires g t c κs within =
     let h =
-    halves c.args.q (runs_of c.args.level (forms_in c.args.forms.now)) c.args.from (c.args.from + c.args.from % 2) (c.args.count - c.args.count % 2) c.args.count c.requires.count (omega (arith, c.if-from-count.false, c.requires.within)) refl refl c.requires.fits in
+    halves c.args.q (runs_of c.args.level (forms_in c.args.forms.now)) c.args.from (c.args.from + c.args.from % 2) (c.args.count - c.args.count % 2) c.args.count c.requires.all_runs (omega (arith, c.if-from-count.false, c.requires.in_bounds)) refl refl c.requires.fits in
     let next : c.args.level + 1 ≡ suc c.args.level = omega arith in
-    let some : c.args.from < c.args.count = omega (arith, c.if-from-count.false, c.requires.within) in
+    let some : c.args.from < c.args.count = omega (arith, c.if-from-count.false, c.requires.in_bounds) in
     rw (next, c.in_ok-q.ensures.ok) (
       omega (arith, c.decreases, some),
       (
         within,
         (
-          c.requires.kept,
+          c.requires.runs,
           (
-            c.requires.few,
+            c.requires.limit,
             (
-              omega (arith, c.requires.level, some),
+              omega (arith, c.requires.level_limit, some),
               (
-                omega (arith, c.requires.count, length-pairs (runs_of c.args.level (forms_in c.args.forms.now)), few_left (runs_of c.args.level (forms_in c.args.forms.now))),
+                omega (arith, c.requires.all_runs, length-pairs (runs_of c.args.level (forms_in c.args.forms.now)), few_left (runs_of c.args.level (forms_in c.args.forms.now))),
                 (omega (arith, some), h.fits),
               ),
             ),
@@ -37,7 +37,7 @@ over_runs-requires g t c κs within =
 
 pub returns-in_err-q-2-clause-cost : goal.returns-in_err-q-2-clause-cost
 returns-in_err-q-2-clause-cost g t c =
-    let some : c.args.from < c.args.count = omega (arith, c.if-from-count.false, c.requires.within) in (
+    let some : c.args.from < c.args.count = omega (arith, c.if-from-count.false, c.requires.in_bounds) in (
       omega (arith, c.over_one.ensures.cost, c.over_runs.ensures.cost.0),
       two_more (c.args.count - c.args.from) ((c.args.count - c.args.count % 2) / 2 - (c.args.from + c.args.from % 2) / 2) c.args.steps.now c.over_one.new.steps c.over_runs.new.steps c.over_runs.new.steps (omega (arith, some)) (omega (arith, some))
           c.over_one.ensures.cost.1 c.over_runs.ensures.cost.1 (omega arith),
@@ -48,11 +48,11 @@ over_one-requires-2-clause-fits g t c =
     let next : c.args.level + 1 ≡ suc c.args.level = omega arith in
     let over : c.in_ok-q-2.q ≡ later_over c.in_ok-q.q (drop ((c.args.from + c.args.from % 2) / 2) (runs_of (suc c.args.level) (forms_in c.args.forms.now))) = rw next at c.in_ok-q-2.ensures.ok in
     rw (over, c.in_ok-q.ensures.ok)
-    (halves c.args.q (runs_of c.args.level (forms_in c.args.forms.now)) c.args.from (c.args.from + c.args.from % 2) (c.args.count - c.args.count % 2) c.args.count c.requires.count (omega (arith, c.if-from-count.false, c.requires.within)) refl refl c.requires.fits).last_fits
+    (halves c.args.q (runs_of c.args.level (forms_in c.args.forms.now)) c.args.from (c.args.from + c.args.from % 2) (c.args.count - c.args.count % 2) c.args.count c.requires.all_runs (omega (arith, c.if-from-count.false, c.requires.in_bounds)) refl refl c.requires.fits).last_fits
 
 pub returns-in_err-q-3-clause-cost : goal.returns-in_err-q-3-clause-cost
 returns-in_err-q-3-clause-cost g t c =
-    let some : c.args.from < c.args.count = omega (arith, c.if-from-count.false, c.requires.within) in (
+    let some : c.args.from < c.args.count = omega (arith, c.if-from-count.false, c.requires.in_bounds) in (
       omega (arith, c.over_one.ensures.cost, c.over_runs.ensures.cost.0, c.over_one-2.ensures.cost),
       two_more (c.args.count - c.args.from) ((c.args.count - c.args.count % 2) / 2 - (c.args.from + c.args.from % 2) / 2) c.args.steps.now c.over_one.new.steps c.over_runs.new.steps c.over_one-2.new.steps (omega (arith, some)) (omega (arith, some))
           c.over_one.ensures.cost.1 c.over_runs.ensures.cost.1 c.over_one-2.ensures.cost.1,
@@ -63,11 +63,11 @@ returns-clause-ok g t c =
     let next : c.args.level + 1 ≡ suc c.args.level = omega arith in
     let over : c.in_ok-q-2.q ≡ later_over c.in_ok-q.q (drop ((c.args.from + c.args.from % 2) / 2) (runs_of (suc c.args.level) (forms_in c.args.forms.now))) = rw next at c.in_ok-q-2.ensures.ok in
     rw (c.in_ok-q-3.ensures.ok, over, c.in_ok-q.ensures.ok)
-    (halves c.args.q (runs_of c.args.level (forms_in c.args.forms.now)) c.args.from (c.args.from + c.args.from % 2) (c.args.count - c.args.count % 2) c.args.count c.requires.count (omega (arith, c.if-from-count.false, c.requires.within)) refl refl c.requires.fits).whole
+    (halves c.args.q (runs_of c.args.level (forms_in c.args.forms.now)) c.args.from (c.args.from + c.args.from % 2) (c.args.count - c.args.count % 2) c.args.count c.requires.all_runs (omega (arith, c.if-from-count.false, c.requires.in_bounds)) refl refl c.requires.fits).whole
 
 pub returns-clause-cost : goal.returns-clause-cost
 returns-clause-cost g t c =
-    let some : c.args.from < c.args.count = omega (arith, c.if-from-count.false, c.requires.within) in (
+    let some : c.args.from < c.args.count = omega (arith, c.if-from-count.false, c.requires.in_bounds) in (
       omega (arith, c.over_one.ensures.cost, c.over_runs.ensures.cost.0, c.over_one-2.ensures.cost),
       two_more (c.args.count - c.args.from) ((c.args.count - c.args.count % 2) / 2 - (c.args.from + c.args.from % 2) / 2) c.args.steps.now c.over_one.new.steps c.over_runs.new.steps c.over_one-2.new.steps (omega (arith, some)) (omega (arith, some))
           c.over_one.ensures.cost.1 c.over_runs.ensures.cost.1 c.over_one-2.ensures.cost.1,

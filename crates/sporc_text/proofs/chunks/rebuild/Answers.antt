@@ -11,7 +11,7 @@ pub find-more-requires : goal.find-more-requires
 find-more-requires c =
     let old : c.deref.result.now ≡ c.args.chunks.now.items = c.deref.ensures.value ∙ ap (λ v. v.items) c.replace-old.ensures.value in
     let from = slice_from c.deref.result.now c.args.i ∙ ap (λ (l : List (List ℕ)). drop c.args.i l) old in
-    omega (arith, c.requires.within, ap (λ (l : List (List ℕ)). length (concat l)) from)
+    omega (arith, c.requires.in_bounds, ap (λ (l : List (List ℕ)). length (concat l)) from)
 
 -- what the list holds once the text's last chunks follow
 value : (c : After-push_behind-arg-1) → (concat c.push.new.list.items ++ concat (drop c.find-more.result.0 (into_iter_items c.push_until.new.chunks)))
@@ -33,7 +33,7 @@ value c =
     ∙ ap (λ (l : List (List ℕ)). concat (take i l) ++ take kept (get_or l i [])) items in
     let last : c.behind-last.result ≡ drop gone (get_or (drop i cs) more []) = c.behind-last.ensures ∙ ap (λ (l : List (List ℕ)). drop gone (get_or l more [])) from-2 in
     let rest : into_iter_items c.push_until.new.chunks ≡ drop (i + 1) cs = c.push_until.ensures.rest ∙ ap (λ (l : List (List ℕ)). drop (i + 1) l) items in
-    rebuilt_value cs (drop i cs) i kept c.args.splice.now.removed more gone (concat c.push_until.new.list.items) c.args.splice.now.middle.now c.behind-last.result _ c.requires.kept refl at front last
+    rebuilt_value cs (drop i cs) i kept c.args.splice.now.removed more gone (concat c.push_until.new.list.items) c.args.splice.now.middle.now c.behind-last.result _ c.requires.kept_in_bounds refl at front last
     (ap (λ (t : List ℕ). t ++ concat (drop more (into_iter_items c.push_until.new.chunks))) (c.push.ensures.value ∙ ap (λ (t : List ℕ). t ++ c.behind-last.result) c.push_all.ensures.value)
     ∙ ap (λ (l : List (List ℕ)). ((concat c.push_until.new.list.items ++ c.args.splice.now.middle.now) ++ c.behind-last.result) ++ concat (drop more l)) rest)
 

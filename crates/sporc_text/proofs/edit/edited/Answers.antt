@@ -1,11 +1,11 @@
 use Rattle.sporc_text.proofs.EditLemmas.{edit_begins, edit_fits, edit_goes_on}
 use Rattle.sporc_text.proofs.edit.edited.Goals as goal
 
-pub edit_part-requires-clause-within : goal.edit_part-requires-clause-within
-edit_part-requires-clause-within c = edit_fits _ _ _ _ _ _ _ c.loop-part.invariant c.loop-part-test.true c.part-item.is
+pub edit_part-requires-clause-in_bounds : goal.edit_part-requires-clause-in_bounds
+edit_part-requires-clause-in_bounds c = edit_fits _ _ _ _ _ _ _ c.loop-part.invariant c.loop-part-test.true c.part-item.is
 
 pub loop-part-init : goal.loop-part-init
-loop-part-init c = edit_begins _ _ _ _ c.requires.within
+loop-part-init c = edit_begins _ _ _ _ c.requires.in_bounds
 
 pub loop-part-preserved : goal.loop-part-preserved
 loop-part-preserved c = edit_goes_on _ _ _ _ _ _ _ _ _ c.loop-part.invariant c.loop-part-test.true c.part-item.is c.in_ok-at.ensures.next c.in_ok-at.ensures.written

@@ -3,7 +3,7 @@ use Rattle.sporc_wire.proofs.EntryFrames.{body_length, body_put}
 use Rattle.sporc_wire.proofs.entries.put_body.Goals as goal
 
 pub put_list-requires : goal.put_list-requires
-put_list-requires g c = omega (arith, body_length g.T.EntryBytes.bytes c.args.first c.args.entries.now, c.requires.small)
+put_list-requires g c = omega (arith, body_length g.T.EntryBytes.bytes c.args.first c.args.entries.now, c.requires.body_limit)
 
 pub returns : goal.returns
 returns g c =

@@ -29,7 +29,7 @@ take_entry-requires g c =
     record {
       bytes = did.bytes;
       prepared = prepared_there inside.line c.check_entry.new.line inside.signer inside.ticket inside.own c.self.invariant c.in_ok-prepared.prepared lines did.prepared;
-      ready = did.ready;
+      room = did.room;
       settles = can_settle inside.line inside.signer inside.ticket inside.own c.self.invariant c.in_ok-prepared.prepared did.prepared room;
     }
 
@@ -37,7 +37,7 @@ pub invariant_of-self-in_err-take_entry : goal.invariant_of-self-in_err-take_ent
 invariant_of-self-in_err-take_entry g c =
     let inside = c.self.inside in
     let did = c.in_ok-prepared.ensures in
-    let same = c.in_err-take_entry.ensures.unchanged_line in
+    let same = c.in_err-take_entry.ensures.line_unchanged in
     let lines : SameLine inside.line c.take_entry.new.line = record {
       genesis = ap (λ (l : LineModel). l.genesis) same ∙ did.genesis;
       kit = ap (λ (l : LineModel). l.kit) same ∙ did.kit;
@@ -49,7 +49,7 @@ pub returns-in_err-take_entry-clause-log : goal.returns-in_err-take_entry-clause
 returns-in_err-take_entry-clause-log g c =
     let inside = c.self.inside in
     let did = c.in_ok-prepared.ensures in
-    let same = c.in_err-take_entry.ensures.unchanged_line in
+    let same = c.in_err-take_entry.ensures.line_unchanged in
     let lines : SameLine inside.line c.take_entry.new.line = record {
       genesis = ap (λ (l : LineModel). l.genesis) same ∙ did.genesis;
       kit = ap (λ (l : LineModel). l.kit) same ∙ did.kit;

@@ -1,5 +1,5 @@
 use Rattle.std.proofs.Common.{rules, ◌≡◌, List, [], ◌∷◌, ◌++◌, Some, refl, ap, sym, ◌∙◌, arith}
-use Rattle.sporc_delta.specs.Marks.{Mark, retains}
+use Rattle.sporc_delta.specs.Marks.{Mark, keep_marks}
 use Rattle.sporc_client.specs.Answers.{change_fault}
 use Rattle.sporc_client.specs.ClientInvariant.{plain_of}
 use Rattle.sporc_client.specs.ClientModel.{state_of}
@@ -26,7 +26,7 @@ returns-in_err-check_change-clause-log g c = no_more c.from_residual.result (Cha
 pub ready_keep-requires : goal.ready_keep-requires
 ready_keep-requires g c =
     let inside = c.self.inside in
-    record { follow = c.self.invariant.sound.follow; short = omega (arith, shown_length inside.line inside.signer inside.ticket inside.own c.self.invariant) }
+    record { follow = c.self.invariant.sound.follow; limit = omega (arith, shown_length inside.line inside.signer inside.ticket inside.own c.self.invariant) }
 
 pub invariant_of-self : goal.invariant_of-self
 invariant_of-self g c =
@@ -39,8 +39,8 @@ returns-in_err-ready-clause-log g c =
     let same = same_model inside.line inside.line inside.signer inside.ticket inside.own c.ready_keep.new.own same_line c.in_err-ready.ensures.unchanged in
     no_more c.from_residual-in_err-ready.result (Change c.args.by c.args.change) c.args.self.now _ c.from_residual-in_err-ready.ensures.0 (same ∙ c.self.view_is)
 
-pub record_item-requires-clause-room : goal.record_item-requires-clause-room
-record_item-requires-clause-room g c =
+pub record_item-requires-clause-limit : goal.record_item-requires-clause-limit
+record_item-requires-clause-limit g c =
     let own = c.self.inside.own in
     let room = change_passed (plain_of c.self.inside.signer.key c.self.inside.line own) (c.in_ok-check_change.ensures.fault c.self.inside.signer.key) in
     rw c.in_ok-ready.ensures.unchanged.shown room.events
@@ -55,7 +55,7 @@ invariant_of-self-2 g c =
     let checks = c.in_ok-check_change.ensures.fault signer.key in
     let recorded_item = c.record_item.ensures in
     let ready = c.in_ok-ready.ensures.unchanged in
-    let form : c.in_ok-ready.ready.form ≡ keeps (plain_of signer.key line own) = c.in_ok-ready.ensures.ok ∙ ap retains (length_of_shown line signer inside.ticket own known) in
+    let form : c.in_ok-ready.ready.form ≡ keeps (plain_of signer.key line own) = c.in_ok-ready.ensures.ok ∙ ap keep_marks (length_of_shown line signer inside.ticket own known) in
     let did = change_records line signer inside.ticket own known c.record_item.new.self c.args.by c.args.change checks
     (rw ready.pending at recorded_item.pending) (recorded_item.flight ∙ ready.flight) (recorded_item.shown ∙ ap (λ (fs : List (List Mark)). fs ++ c.in_ok-ready.ready.form ∷ []) ready.shown ∙ ap (λ (f : List Mark). own.shown ++ f ∷ []) form) (rw ready.journal at recorded_item.journal) in
     (recorded line line signer signer inside.ticket inside.ticket own c.record_item.new.self (Change c.args.by c.args.change) known did).invariant

@@ -64,8 +64,8 @@ returns-in_err-ready-clause-log g c =
     (record { pending = ready.pending; flight = ready.flight; shown = ready.shown; journal = ready.journal }) in
     no_more c.from_residual-in_err-ready.result (Discard c.args.by) c.args.self.now _ c.from_residual-in_err-ready.ensures.0 (same ∙ c.self.view_is)
 
-pub record_discard-requires-clause-room : goal.record_discard-requires-clause-room
-record_discard-requires-clause-room g c = rw c.in_ok-ready.ensures.shown (events_left (length c.self.inside.own.shown) c.in_ok-check_events.ensures.fault)
+pub record_discard-requires-clause-limit : goal.record_discard-requires-clause-limit
+record_discard-requires-clause-limit g c = rw c.in_ok-ready.ensures.shown (events_left (length c.self.inside.own.shown) c.in_ok-check_events.ensures.fault)
 
 pub invariant_of-self-2 : goal.invariant_of-self-2
 invariant_of-self-2 g c =
@@ -77,7 +77,7 @@ invariant_of-self-2 g c =
     let plain = plain_of signer.key line own in
     let did = c.record_discard.ensures in
     let ready = c.in_ok-ready.ensures in
-    let text : chars c.as_str.result.now ≡ committed_of plain = ap chars c.as_str.ensures.value ∙ c.in_ok-text.ensures.chars in
+    let text : chars c.as_str.result.now ≡ committed_of plain = ap chars c.as_str.ensures.value ∙ c.in_ok-text.ensures.characters in
     let form : c.in_ok-ready.ready.form ≡ replacement (length (shown_of plain)) (committed_of plain) =
     ready.ok
     ∙ c.in_ok-form.ensures.ok

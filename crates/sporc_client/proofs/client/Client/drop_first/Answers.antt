@@ -1,5 +1,5 @@
 use Rattle.std.proofs.Common.{◌≡◌, List, [], ◌∷◌, ◌++◌, ap, ◌∙◌, arith}
-use Rattle.sporc_delta.specs.Marks.{Mark, retains}
+use Rattle.sporc_delta.specs.Marks.{Mark, keep_marks}
 use Rattle.sporc_client.specs.declared.event.Event.{Event}
 use Rattle.sporc_client.specs.declared.event.Event.TheVariants as stored
 use Rattle.sporc_client.specs.declared.pending.Pending.{Pending}
@@ -18,15 +18,15 @@ use Rattle.sporc_client.proofs.client.Client.drop_first.Goals as goal
 pub ready_keep-requires : goal.ready_keep-requires
 ready_keep-requires g c =
     let inside = c.self.inside in
-    record { follow = c.self.invariant.sound.follow; short = omega (arith, shown_length inside.line inside.signer inside.ticket inside.own c.self.invariant) }
+    record { follow = c.self.invariant.sound.follow; limit = omega (arith, shown_length inside.line inside.signer inside.ticket inside.own c.self.invariant) }
 
 pub invariant_of-self : goal.invariant_of-self
 invariant_of-self g c =
     let inside = c.self.inside in
     same_fields inside.line inside.signer inside.ticket inside.own c.self.invariant inside.line c.ready_keep.new.own same_line c.in_err-ready.ensures.unchanged
 
-pub record_drop-requires-clause-room : goal.record_drop-requires-clause-room
-record_drop-requires-clause-room g c =
+pub record_drop-requires-clause-limit : goal.record_drop-requires-clause-limit
+record_drop-requires-clause-limit g c =
     let inside = c.self.inside in
     let plain = plain_of inside.signer.key inside.line inside.own in
     let state : plain ≡ state_of c.args.self.now = c.self.invariant.state ∙ ap state_of c.self.view_is in
@@ -45,7 +45,7 @@ invariant_of-self-2 g c =
     let is : due plain ≡ Drop c.args.fault = ap due state ∙ c.requires in
     let did = c.record_drop.ensures in
     let ready = c.in_ok-ready.ensures.unchanged in
-    let form : c.in_ok-ready.ready.form ≡ keeps plain = c.in_ok-ready.ensures.ok ∙ ap retains (length_of_shown line signer inside.ticket own known) in
+    let form : c.in_ok-ready.ready.form ≡ keeps plain = c.in_ok-ready.ensures.ok ∙ ap keep_marks (length_of_shown line signer inside.ticket own known) in
     let records = drop_records line signer inside.ticket own known c.record_drop.new.self c.args.by c.args.fault is
     (did.pending ∙ ap (λ (ps : List Pending). drop 1 ps) ready.pending)
     (did.flight ∙ ready.flight)

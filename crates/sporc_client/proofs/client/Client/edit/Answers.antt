@@ -35,7 +35,7 @@ record_edit-requires g c =
     let inside = c.self.inside in
     let passed = edit_passed (plain_of inside.signer.key inside.line inside.own) c.args.seen c.args.delta.now (c.in_ok-check_edit.ensures.fault inside.signer.key) in
     let limits = edit_limits inside.line inside.signer inside.ticket inside.own c.self.invariant c.args.seen c.args.delta.now passed in
-    record { within = passed.within; base = limits.base; limit = limits.limit; restated = limits.restated_base; room = passed.room.events }
+    record { in_bounds = passed.within; base = limits.base; limit = limits.limit; restated = limits.restated_base; events_limit = passed.room.events }
 
 pub invariant_of-self : goal.invariant_of-self
 invariant_of-self g c =

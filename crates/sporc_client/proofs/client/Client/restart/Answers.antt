@@ -11,7 +11,7 @@ use Rattle.sporc_client.proofs.client.Client.restart.Goals as goal
 pub invariant_of-self : goal.invariant_of-self
 invariant_of-self g c =
     let own = c.in-Ok.ensures in
-    rw (c.replace.ensures.after, c.replace-in-Ok.ensures.after) (resumed_invariant c.in_ok-line.line c.self.inside.signer c.self.inside.ticket c.in-Ok.own own.good own.few own.pending own.flight own.shown own.journal c.self.invariant.unspent
+    rw (c.replace.ensures.after, c.replace-in-Ok.ensures.after) (resumed_invariant c.in_ok-line.line c.self.inside.signer c.self.inside.ticket c.in-Ok.own own.good own.within own.pending own.flight own.shown own.journal c.self.invariant.unspent
     (order_anew c.self.inside.signer.leaves.next_at_open c.self.inside.signer.leaves.next c.self.inside.ticket _ c.self.invariant.leaves))
 
 pub returns-in-Ok-clause-ok : goal.returns-in-Ok-clause-ok

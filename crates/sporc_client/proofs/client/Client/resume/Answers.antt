@@ -6,7 +6,7 @@ use Rattle.sporc_client.proofs.client.Client.resume.Goals as goal
 pub invariant_of-result : goal.invariant_of-result
 invariant_of-result g c =
     let own = c.in-Ok.ensures in
-    resumed_invariant c.args.line c.args.signer None c.in-Ok.own own.good own.few own.pending own.flight own.shown own.journal tt
+    resumed_invariant c.args.line c.args.signer None c.in-Ok.own own.good own.within own.pending own.flight own.shown own.journal tt
     (order_begun c.args.signer.leaves.next_at_open c.args.signer.leaves.next (omega (arith, c.next_leaf-next.ensures.value, c.next_leaf-next.ensures.forward)))
 
 pub returns-in-Ok-clause-value : goal.returns-in-Ok-clause-value

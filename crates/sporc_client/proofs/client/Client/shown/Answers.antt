@@ -1,6 +1,6 @@
 use Rattle.std.proofs.Common.{◌≡◌, ℕ, List, length, ap, sym, subst, ◌∙◌, arith}
 use Rattle.std.specs.Str.{chars, encode_utf8_all}
-use Rattle.sporc_delta.specs.Marks.{Mark, apply, base_len, retains}
+use Rattle.sporc_delta.specs.Marks.{Mark, apply, base_len, keep_marks}
 use Rattle.sporc_delta.proofs.Spelled.{length-encode_all}
 use Rattle.sporc_line.specs.Document.{text_of}
 use Rattle.sporc_client.specs.declared.pending.Pending.{Pending}
@@ -25,15 +25,15 @@ pub edited-requires-clause-base : goal.edited-requires-clause-base
 edited-requires-clause-base g c =
     let inside = c.self.inside in
     let committed = committed_of (plain_of inside.signer.key inside.line inside.own) in
-    let text : chars c.as_str.result.now ≡ committed = ap chars c.as_str.ensures.value ∙ c.in_ok-text.ensures.chars in
-    let all : c.in_ok-all.all ≡ in_one (retains (length committed)) inside.own.pending =
+    let text : chars c.as_str.result.now ≡ committed = ap chars c.as_str.ensures.value ∙ c.in_ok-text.ensures.characters in
+    let all : c.in_ok-all.all ≡ in_one (keep_marks (length committed)) inside.own.pending =
     c.in_ok-all.ensures.value
-    ∙ ap (λ (n : ℕ). in_one (retains n) c.pending-pending.result.now) c.committed_len-len.ensures.value
-    ∙ ap (in_one (retains (length committed))) c.pending-pending.ensures.value in
+    ∙ ap (λ (n : ℕ). in_one (keep_marks n) c.pending-pending.result.now) c.committed_len-len.ensures.value
+    ∙ ap (in_one (keep_marks (length committed))) c.pending-pending.ensures.value in
     ap base_len all ∙ (pending_in_one committed inside.own.pending c.self.invariant.sound.stated).0.base ∙ ap length (sym text)
 
-pub edited-requires-clause-short : goal.edited-requires-clause-short
-edited-requires-clause-short g c =
+pub edited-requires-clause-limit : goal.edited-requires-clause-limit
+edited-requires-clause-limit g c =
     let line = c.self.inside.line in
     let text = text_of line.genesis line.kit line.entries in
     omega (arith, ap length c.as_str.ensures.value, ap length c.in_ok-text.ensures.ok, length-encode_all text, c.in_ok-text.ensures.within)
@@ -44,14 +44,14 @@ returns g c =
     let plain = plain_of inside.signer.key inside.line inside.own in
     let state : state_of c.args.self.now ≡ plain = ap state_of (sym c.self.view_is) ∙ sym c.self.invariant.state in
     let committed = committed_of plain in
-    let text : chars c.as_str.result.now ≡ committed = ap chars c.as_str.ensures.value ∙ c.in_ok-text.ensures.chars in
-    let all : c.in_ok-all.all ≡ in_one (retains (length committed)) inside.own.pending =
+    let text : chars c.as_str.result.now ≡ committed = ap chars c.as_str.ensures.value ∙ c.in_ok-text.ensures.characters in
+    let all : c.in_ok-all.all ≡ in_one (keep_marks (length committed)) inside.own.pending =
     c.in_ok-all.ensures.value
-    ∙ ap (λ (n : ℕ). in_one (retains n) c.pending-pending.result.now) c.committed_len-len.ensures.value
-    ∙ ap (in_one (retains (length committed))) c.pending-pending.ensures.value in
+    ∙ ap (λ (n : ℕ). in_one (keep_marks n) c.pending-pending.result.now) c.committed_len-len.ensures.value
+    ∙ ap (in_one (keep_marks (length committed))) c.pending-pending.ensures.value in
     let shown : apply c.in_ok-all.all (chars c.as_str.result.now) ≡ shown_of (state_of c.args.self.now) =
     ap (λ (ms : List Mark). apply ms (chars c.as_str.result.now)) all
-    ∙ ap (apply (in_one (retains (length committed)) inside.own.pending)) text
+    ∙ ap (apply (in_one (keep_marks (length committed)) inside.own.pending)) text
     ∙ (pending_in_one committed inside.own.pending c.self.invariant.sound.stated).1
     ∙ ap (λ (p : PlainClient). shown_of p) (sym state) in
     let few = lengths plain c.self.invariant.small in

@@ -10,8 +10,8 @@ use Rattle.sporc_client.proofs.SubmitDue.{drop_answers, has_nothing, is_refused,
 use Rattle.sporc_client.proofs.SubmitLeaves.{client_may}
 use Rattle.sporc_client.proofs.client.Client.submit.Goals as goal
 
-pub returns-in_err-find_due-clause-answer : goal.returns-in_err-find_due-clause-answer
-returns-in_err-find_due-clause-answer g c =
+pub returns-in_err-find_due-clause-value : goal.returns-in_err-find_due-clause-value
+returns-in_err-find_due-clause-value g c =
     let inside = c.self.inside in
     let plain = plain_of inside.signer.key inside.line inside.own in
     let state : plain ≡ state_of c.args.self.now = c.self.invariant.state ∙ ap state_of c.self.view_is in
@@ -21,24 +21,24 @@ returns-in_err-find_due-clause-answer g c =
     λ (other : fault ≢ Memory). ap (λ (s : PlainClient). step_of (due s)) (sym state) ∙ c.in_err-find_due.ensures.value inside.signer.key other in
     rw (p.1, p.2) (λ other. is_refused (state_of c.args.self.now) c.args.random.now _ fault (is other))
 
-pub returns-in-Waiting-clause-answer : goal.returns-in-Waiting-clause-answer
-returns-in-Waiting-clause-answer g c =
+pub returns-in-Waiting-clause-value : goal.returns-in-Waiting-clause-value
+returns-in-Waiting-clause-value g c =
     let inside = c.self.inside in
     let plain = plain_of inside.signer.key inside.line inside.own in
     let state : plain ≡ state_of c.args.self.now = c.self.invariant.state ∙ ap state_of c.self.view_is in
     let is : step_of (due (state_of c.args.self.now)) ≡ Ok steps.Waiting = ap (λ (s : PlainClient). step_of (due s)) (sym state) ∙ c.in_ok-find_due.ensures.value inside.signer.key ∙ ap Ok c.in-Waiting.is in
     waits (state_of c.args.self.now) c.args.random.now _ is
 
-pub returns-in-Nothing-clause-answer : goal.returns-in-Nothing-clause-answer
-returns-in-Nothing-clause-answer g c =
+pub returns-in-Nothing-clause-value : goal.returns-in-Nothing-clause-value
+returns-in-Nothing-clause-value g c =
     let inside = c.self.inside in
     let plain = plain_of inside.signer.key inside.line inside.own in
     let state : plain ≡ state_of c.args.self.now = c.self.invariant.state ∙ ap state_of c.self.view_is in
     let is : step_of (due (state_of c.args.self.now)) ≡ Ok steps.Nothing = ap (λ (s : PlainClient). step_of (due s)) (sym state) ∙ c.in_ok-find_due.ensures.value inside.signer.key ∙ ap Ok c.in-Nothing.is in
     has_nothing (state_of c.args.self.now) c.args.random.now _ is
 
-pub returns-in-Drop-clause-answer : goal.returns-in-Drop-clause-answer
-returns-in-Drop-clause-answer g c =
+pub returns-in-Drop-clause-value : goal.returns-in-Drop-clause-value
+returns-in-Drop-clause-value g c =
     let inside = c.self.inside in
     let plain = plain_of inside.signer.key inside.line inside.own in
     let state : plain ≡ state_of c.args.self.now = c.self.invariant.state ∙ ap state_of c.self.view_is in

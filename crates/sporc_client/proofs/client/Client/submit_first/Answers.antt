@@ -1,5 +1,5 @@
 use Rattle.std.proofs.Common.{◌≡◌, ℕ, List, [], ◌∷◌, ◌++◌, Option, None, Some, refl, ap, sym, subst, ◌∙◌, true, arith}
-use Rattle.sporc_delta.specs.Marks.{Mark, retains}
+use Rattle.sporc_delta.specs.Marks.{Mark, keep_marks}
 use Rattle.sporc_client.specs.declared.event.Event.{Event}
 use Rattle.sporc_client.specs.declared.event.Event.TheVariants as stored
 use Rattle.sporc_client.specs.ClientInvariant.{ClientInvariant, plain_of}
@@ -20,15 +20,15 @@ use Rattle.sporc_client.proofs.client.Client.submit_first.Goals as goal
 pub ready_keep-requires : goal.ready_keep-requires
 ready_keep-requires g c =
     let inside = c.self.inside in
-    record { follow = c.self.invariant.sound.follow; short = omega (arith, shown_length inside.line inside.signer inside.ticket inside.own c.self.invariant) }
+    record { follow = c.self.invariant.sound.follow; limit = omega (arith, shown_length inside.line inside.signer inside.ticket inside.own c.self.invariant) }
 
 pub invariant_of-self : goal.invariant_of-self
 invariant_of-self g c =
     let inside = c.self.inside in
     same_fields inside.line inside.signer inside.ticket inside.own c.self.invariant inside.line c.ready_keep.new.own same_line c.in_err-ready.ensures.unchanged
 
-pub record_submission-requires-clause-room : goal.record_submission-requires-clause-room
-record_submission-requires-clause-room g c =
+pub record_submission-requires-clause-limit : goal.record_submission-requires-clause-limit
+record_submission-requires-clause-limit g c =
     let inside = c.self.inside in
     let plain = plain_of inside.signer.key inside.line inside.own in
     let state : plain ≡ state_of c.args.self.now = c.self.invariant.state ∙ ap state_of c.self.view_is in
@@ -50,7 +50,7 @@ invariant_of-self-in_err-made g c =
     (λ leaf h. ap (λ s. s.leaves) (made.undrawn leaf h)) made.drawn in
     let kept : AreInOrder signer'.leaves.next_at_open signer'.leaves.next c.make_entry.new.kept (leaves_of (log_of line.entries own.journal)) =
     subst (λ (t : Option ℕ). AreInOrder signer'.leaves.next_at_open signer'.leaves.next t (leaves_of (log_of line.entries own.journal))) (sym made.ticket) order in
-    let with_ticket = same_key line signer inside.ticket own known signer' c.make_entry.new.kept made.key made.can_sign kept in
+    let with_ticket = same_key line signer inside.ticket own known signer' c.make_entry.new.kept made.key made.within kept in
     same_fields line signer' c.make_entry.new.kept own with_ticket line c.ready_keep.new.own
     same_line ready
 
@@ -76,7 +76,7 @@ invariant_of-self-2 g c =
     let order = order_at_hand g.D.LeafDisk.told signer.leaves signer'.leaves signed inside.ticket known.leaves
     (λ leaf h. ap (λ s. s.leaves) (made.undrawn leaf h)) made.drawn in
     let kept : AreInOrder signer'.leaves.next_at_open signer'.leaves.next (Some leaf.0) signed = subst (λ (t : Option ℕ). AreInOrder signer'.leaves.next_at_open signer'.leaves.next t signed) leaf.1 order in
-    let form : c.in_ok-ready.ready.form ≡ keeps plain = c.in_ok-ready.ensures.ok ∙ ap retains (length_of_shown line signer inside.ticket own known) in
+    let form : c.in_ok-ready.ready.form ≡ keeps plain = c.in_ok-ready.ensures.ok ∙ ap keep_marks (length_of_shown line signer inside.ticket own known) in
     let records = submit_records line signer inside.ticket own known signer' c.record_submission.new.self c.args.by leaf.0 bytes made.key (subst (λ (p : PlainClient). IsSubmission p leaf.0 bytes) same leaf.2) (signs_event (due plain) is) kept
     (did.pending ∙ ready.pending)
     (did.flight ∙ ap Some made.made.flight)

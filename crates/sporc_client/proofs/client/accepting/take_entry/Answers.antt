@@ -13,8 +13,8 @@ record_coming-requires c =
     let did = c.in-Ok.ensures in
     record {
       made = did.made;
-      room = rw did.unchanged.shown c.requires.settles.room;
-      spare = did.spare;
+      limit = rw did.unchanged.shown c.requires.settles.room;
+      room = did.room;
       fits = subst (CanCome c.in-Ok.coming) (sym did.unchanged.pending) did.fits;
     }
 
@@ -34,6 +34,6 @@ returns-in-Ok-clause-ok c =
       entries = c.commit.ensures.entries;
       pending = did.pending ∙ ap (λ (ps : List Pending). pending_after (effect c.in-Ok.coming ps) ps) same.pending ∙ ap (λ (e : Effect). pending_after e own.pending) coming;
       flight = did.flight ∙ same_flight c.in-Ok.coming _ own.pending _ own.flight same.pending same.flight ∙ ap (λ (e : Effect). flight_after e own.flight) coming;
-      shown = did.shown ∙ ap (λ (fs : List (List Mark)). fs ++ c.in-Ok.ready.form ∷ []) same.shown ∙ ap (λ (f : List Mark). own.shown ++ f ∷ []) found.ready;
+      shown = did.shown ∙ ap (λ (fs : List (List Mark)). fs ++ c.in-Ok.ready.form ∷ []) same.shown ∙ ap (λ (f : List Mark). own.shown ++ f ∷ []) found.ready_form;
       journal = did.journal ∙ ap (λ (es : List Event). es ++ events.Accept c.args.by c.len-place.result ∷ []) same.journal ∙ ap (λ (n : ℕ). own.journal ++ events.Accept c.args.by n ∷ []) place;
     }

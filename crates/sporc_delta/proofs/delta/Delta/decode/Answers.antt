@@ -23,8 +23,8 @@ loop-cursor-preserved c =
     let piece = owned c.in_ok-piece.piece in
     record {
       so_far = rw (c.in_ok-push.ensures.ok, c.kind.ensures.value) (goes_on c.loop-cursor.delta c.loop-cursor.before c.loop-cursor.cursor (piece, c.read_part.new.cursor) (read_delta c.args.bytes.now) some c.in_ok-piece.ensures.ok c.loop-cursor.invariant.so_far);
-      base = rw (c.in_ok-push.ensures.ok, base_len-append) (omega (arith, c.in_ok-piece.ensures.base, c.in_ok-piece.ensures.rest, c.loop-cursor.invariant.base));
-      out = rw (c.in_ok-push.ensures.ok, out_len-append) (omega (arith, c.in_ok-piece.ensures.out, c.in_ok-piece.ensures.rest, c.loop-cursor.invariant.out));
+      base = rw (c.in_ok-push.ensures.ok, base_len-append) (omega (arith, c.in_ok-piece.ensures.base_within, c.in_ok-piece.ensures.rest, c.loop-cursor.invariant.base));
+      out = rw (c.in_ok-push.ensures.ok, out_len-append) (omega (arith, c.in_ok-piece.ensures.out_within, c.in_ok-piece.ensures.rest, c.loop-cursor.invariant.out));
     }
 
 pub returns-clause-ok : goal.returns-clause-ok

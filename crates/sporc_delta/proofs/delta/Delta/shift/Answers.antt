@@ -3,8 +3,8 @@ use Rattle.sporc_delta.specs.Shifts.{kept_there}
 use Rattle.sporc_delta.proofs.Shifted.{DeltaInvariant-shifted, fits_shift}
 use Rattle.sporc_delta.proofs.delta.Delta.shift.Goals as goal
 
-pub shift_parts-requires-clause-kept : goal.shift_parts-requires-clause-kept
-shift_parts-requires-clause-kept c =
+pub shift_parts-requires-clause-kept_positive : goal.shift_parts-requires-clause-kept_positive
+shift_parts-requires-clause-kept_positive c =
     (fits_shift c.args.shift c.self.inside.parts.items c.self.inside.base c.self.inside.out c.args.self.now c.self.invariant c.self.view_is c.requires).kept
 
 pub overflow_sub-self : goal.overflow_sub-self

@@ -11,7 +11,7 @@ loop-turn-init g c = record {
   first = c.requires.firsts;
   back = c.requires.back;
   closed = ([], [], sym (append-nil c.args.self.firsts.items), sym (append-nil c.args.orders.now.items), tt);
-  kept = c.requires.kept;
+  kept = c.requires.tails;
   room = c.requires.room;
   tails_room = c.requires.tails_room;
 }
@@ -62,7 +62,7 @@ loop-turn-preserved g c =
         (one, closed.4),
       );
       kept = kept_more g.T.Tail.keeps c.loop-turn.tails.items c.push_reserved-in-Ok.new.self.items c.loop-turn.orders.items c.push_reserved.new.self.items c.in-Ok.tail c.in-Ok.order
-          c.loop-turn.invariant.kept c.in-Ok.ensures.kept c.push_reserved-in-Ok.ensures.items c.push_reserved.ensures.items;
+          c.loop-turn.invariant.kept c.in-Ok.ensures.tail c.push_reserved-in-Ok.ensures.items c.push_reserved.ensures.items;
       room = omega (arith, room, less, more, same);
       tails_room = omega (arith, tails_room, less, tails_more, tails_same);
     }

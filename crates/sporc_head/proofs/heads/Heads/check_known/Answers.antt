@@ -14,7 +14,7 @@ use Rattle.sporc_head.proofs.heads.Heads.check_known.Goals as goal
 
 pub check_entry-requires : goal.check_entry-requires
 check_entry-requires c =
-    let found : entry_of c.args.bytes.now ≡ Ok c.in_ok-view.view.entry = fault_as_ok Malformed (entry_of c.args.bytes.now) c.in_ok-view.view.entry c.in_ok-view.ensures.exact in
+    let found : entry_of c.args.bytes.now ≡ Ok c.in_ok-view.view.entry = fault_as_ok Malformed (entry_of c.args.bytes.now) c.in_ok-view.view.entry c.in_ok-view.ensures.value in
     record { exact = if_some c.args.known _ _ c.requires.exact (λ v h. exact_of v.now c.args.bytes.now c.in_ok-view.view.entry found h) }
 
 pub returns-clause-checked : goal.returns-clause-checked
@@ -24,14 +24,14 @@ returns-clause-checked c =
     let checked = c.in_ok-checked.checked in
     let same : checked.bytes ≡ c.args.bytes.now = c.in_ok-checked.ensures.bytes ∙ c.in_ok-view.ensures.bytes in
     let made : Entry → Result Entry ℕ = λ e. Ok e in
-    let found : entry_of c.args.bytes.now ≡ Ok c.in_ok-view.view.entry = fault_as_ok Malformed (entry_of c.args.bytes.now) c.in_ok-view.view.entry c.in_ok-view.ensures.exact in
+    let found : entry_of c.args.bytes.now ≡ Ok c.in_ok-view.view.entry = fault_as_ok Malformed (entry_of c.args.bytes.now) c.in_ok-view.view.entry c.in_ok-view.ensures.value in
     let read : entry_of checked.bytes ≡ Ok checked.entry = ap entry_of same ∙ found ∙ ap made (sym c.in_ok-checked.ensures.entry) in
     let seen : entry_of checked.bytes ≡ Ok c.in_ok-view.view.entry = ap entry_of same ∙ found in
     let all : length entries ≤ length entries = omega arith in
     let last : c.hash_at-before.result ≡ hash_of g entries = c.hash_at-before.ensures.value ∙ ap (λ (n : ℕ). hash_of g (take n entries)) c.len.ensures.value ∙ ap (hash_of g) (take_all (length entries) entries all) in
     record {
       read = read;
-      sized = subst (λ (b : List ℕ). length b ≤ MAX_ENTRY) (sym same) c.in_ok-view.ensures.sized;
+      sized = subst (λ (b : List ℕ). length b ≤ MAX_ENTRY) (sym same) c.in_ok-view.ensures.within;
       hash = c.in_ok-checked.ensures.hash ∙ ap (λ (v : List ℕ). next_value v c.in_ok-view.view.bytes) last ∙ ap (next_value (hash_of g entries)) (sym c.in_ok-checked.ensures.bytes);
       passed = fault_for_nobody g c.args.me entries c.args.pos checked.bytes (passed_of g c.args.me entries c.args.pos checked.bytes c.in_ok-view.view.entry seen c.in_ok-check_entry.ensures);
     }

@@ -23,12 +23,12 @@ record_entry-requires c =
     let d : Device = c.author_device.result in
     let small : d.number < DEVICE_NUMBERS = omega (arith, ap (λ (d : Device). d.number) c.author_device.ensures.value) in
     record {
-      room = omega (arith, c.requires.spare, ap (λ (m : HeadsModel). m.spare) c.self.view_is);
-      count = omega (arith, c.self.invariant.tables.count d small, count_le d (entries_in c.self.inside), c.self.invariant.room);
+      room = omega (arith, c.requires.room, ap (λ (m : HeadsModel). m.spare) c.self.view_is);
+      limit = omega (arith, c.self.invariant.tables.count d small, count_le d (entries_in c.self.inside), c.self.invariant.room);
     }
 
 pub record_removal-requires : goal.record_removal-requires
-record_removal-requires c = omega (arith, c.requires.spare, ap (λ (m : HeadsModel). m.spare) c.self.view_is)
+record_removal-requires c = omega (arith, c.requires.room, ap (λ (m : HeadsModel). m.spare) c.self.view_is)
 
 pub overflow_add-self : goal.overflow_add-self
 overflow_add-self c = omega (arith, c.self.invariant.changes, epoch_le (entries_in c.self.inside), c.self.invariant.room)
@@ -58,7 +58,7 @@ invariant_of-self c =
     (Some (record { count = (tally_in (get nat_eq c.self.inside.tables.tallies) c.author_device.result).count + 1; last = n + 1 })) (get nat_eq c.self.inside.tables.tallies q)) size in
     let room : length before.entries < MAX_ENTRIES = checked_room before.genesis before.entries checked c.requires.checked in
     let s = checked_change before.genesis before.entries checked c.args.change c.requires.checked c.requires.change in
-    let spare : 1 ≤ c.self.inside.roster.spare = omega (arith, c.requires.spare, ap (λ (m : HeadsModel). m.spare) c.self.view_is) in
+    let spare : 1 ≤ c.self.inside.roster.spare = omega (arith, c.requires.room, ap (λ (m : HeadsModel). m.spare) c.self.view_is) in
     let made = ok_of c.make.result _ c.make.ensures.ok (c.make.ensures.ready spare) in
     keeps_change c.self.inside.genesis entries c.self.inside.hashes.items c.self.inside.roster.roster c.self.inside.barrier c.self.inside.epoch
     (get nat_eq c.self.inside.tables.tallies) c.self.inside.tables.removals.items checked.bytes c.hash.result.now c.author_device.result s.0 _ _ _ _ _ (get nat_eq c.record_entry.new.tallies) _

@@ -21,8 +21,8 @@ record_entry-requires c =
     let d : Device = c.author_device.result in
     let small : d.number < DEVICE_NUMBERS = omega (arith, ap (λ (d : Device). d.number) c.author_device.ensures.value) in
     record {
-      room = omega (arith, c.requires.spare, ap (λ (m : HeadsModel). m.spare) c.self.view_is);
-      count = omega (arith, c.self.invariant.tables.count d small, count_le d (entries_in c.self.inside), c.self.invariant.room);
+      room = omega (arith, c.requires.room, ap (λ (m : HeadsModel). m.spare) c.self.view_is);
+      limit = omega (arith, c.self.invariant.tables.count d small, count_le d (entries_in c.self.inside), c.self.invariant.room);
     }
 
 pub invariant_of-self : goal.invariant_of-self

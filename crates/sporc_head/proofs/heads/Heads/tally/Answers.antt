@@ -10,6 +10,6 @@ returns c =
     let d = c.args.device in
     let small : d.number < DEVICE_NUMBERS = omega arith in
     record {
-      count = ap (λ (t : Tally). t.count) c.tally_of.ensures ∙ c.self.invariant.tables.count d small ∙ ap (λ (m : HeadsModel). count_of d m.entries) c.self.view_is;
+      total = ap (λ (t : Tally). t.count) c.tally_of.ensures ∙ c.self.invariant.tables.count d small ∙ ap (λ (m : HeadsModel). count_of d m.entries) c.self.view_is;
       last = ap (λ (t : Tally). t.last) c.tally_of.ensures ∙ c.self.invariant.tables.last d small ∙ ap (λ (m : HeadsModel). last_of d m.entries) c.self.view_is;
     }

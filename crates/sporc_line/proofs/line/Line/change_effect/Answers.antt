@@ -1,7 +1,7 @@
 use Rattle.std.proofs.Common.{◌≡◌, ℕ, ◌+◌, ◌≤◌, List, length, take, arith, ap, ◌∙◌}
 use Rattle.std.proofs.lemmas.List.{take_all}
 use Rattle.std.proofs.lemmas.Result.{err_from_is_err_and}
-use Rattle.sporc_delta.specs.Marks.{retains}
+use Rattle.sporc_delta.specs.Marks.{keep_marks}
 use Rattle.sporc_entry.specs.declared.header.Header.{Header}
 use Rattle.sporc_head.specs.declared.refusal.Refusal.TheVariants.{Memory}
 use Rattle.sporc_head.specs.History.{epoch_of}
@@ -66,4 +66,4 @@ returns-clause-ok c =
     ∙ ap (λ (n : ℕ). length (text_of c.args.self.now.genesis c.args.self.now.kit (take n c.args.self.now.entries))) c.len-len.ensures.value
     ∙ ap (λ (entries : List (List ℕ)). length (text_of c.args.self.now.genesis c.args.self.now.kit entries)) (take_all (length c.args.self.now.entries) c.args.self.now.entries all) in
     change_does c.args.self.now.genesis c.args.self.now.kit c.args.self.now.entries c.args.checked.now c.args.body.now (c.epoch-epoch.result + 1) (record { form = c.in_ok-form.form; key = c.started_key-key.result })
-    s.checked s.change s.epoch_is (c.in_ok-form.ensures.ok ∙ ap retains text) s.key_is
+    s.checked s.change s.epoch_is (c.in_ok-form.ensures.ok ∙ ap keep_marks text) s.key_is

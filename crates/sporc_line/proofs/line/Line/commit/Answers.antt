@@ -18,7 +18,7 @@ invariant_of-self c =
     let i = c.self.inside in
     let j = c.prepared.inside in
     let q = prepared_here i j c.args.self.now c.args.prepared c.self.view_is c.prepared.view_is c.requires.prepared in
-    let there : 1 ≤ min i.heads.spare i.forms.spare = subst (λ (m : LineModel). 1 ≤ m.spare) (sym c.self.view_is) c.requires.ready in
+    let there : 1 ≤ min i.heads.spare i.forms.spare = subst (λ (m : LineModel). 1 ≤ m.spare) (sym c.self.view_is) c.requires.room in
     let spare : 1 ≤ i.heads.spare = omega (arith, there) in
     let pushed : c.push.new.self.entries ≡ i.heads.entries ++ j.checked.bytes ∷ [] = ok_of c.push.result _ c.push.ensures.ok (c.push.ensures.ready spare) in
     line_pushed i.heads.genesis c.push.new.self.genesis i.kit i.heads.entries c.push.new.self.entries i.key j.key i.forms.base c.put.new.self.base i.forms.forms c.put.new.self.forms i.text c.put-2.new.self (prepared_of j)

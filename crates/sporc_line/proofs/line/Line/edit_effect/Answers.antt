@@ -59,8 +59,8 @@ returns-then-base_len-text_len_at-clause-fault c other =
     } in
     seen_wrong s c.in_ok-marks.marks c.in_ok-marks.ensures.ok (λ same. c.if-base_len-text_len_at.true (c.base_len.ensures.value ∙ same ∙ sym c.text_len_at.ensures.value))
 
-pub over_forms-requires-clause-within : goal.over_forms-requires-clause-within
-over_forms-requires-clause-within c =
+pub over_forms-requires-clause-in_bounds : goal.over_forms-requires-clause-in_bounds
+over_forms-requires-clause-in_bounds c =
     let s : EditSeen c.args.self.now.genesis c.args.self.now.kit c.args.self.now.entries c.args.checked.now c.header-header.result.now c.stream_of.result c.in-Some.key.now c.body.result.now = record {
       checked = c.requires.checked;
       edit = c.requires.edit;

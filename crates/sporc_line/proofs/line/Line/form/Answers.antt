@@ -5,5 +5,5 @@ use Rattle.sporc_line.proofs.line.Line.form.Goals as goal
 
 pub form-requires : goal.form-requires
 form-requires c =
-    let within : c.args.i ≤ length c.self.inside.heads.entries = subst (λ (m : LineModel). c.args.i ≤ length m.entries) (sym c.self.view_is) c.requires.within in
-    form_place c.self.invariant (c.args.i - 1) (omega (arith, within, c.requires.first))
+    let within : c.args.i ≤ length c.self.inside.heads.entries = subst (λ (m : LineModel). c.args.i ≤ length m.entries) (sym c.self.view_is) c.requires.in_bounds in
+    form_place c.self.invariant (c.args.i - 1) (omega (arith, within, c.requires.positive))

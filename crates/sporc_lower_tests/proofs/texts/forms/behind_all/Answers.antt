@@ -8,7 +8,7 @@ later_over-requires-clause-base g c =
 
 pub later_over-requires-clause-limit : goal.later_over-requires-clause-limit
 later_over-requires-clause-limit g c =
-    omega (arith, c.numbered-delta.ensures.base, c.numbered-delta.ensures.short, c.numbered-delta.ensures.few, all_inserted-drop c.args.blocks.now.forms c.args.from, c.requires.inserted, c.requires.limit)
+    omega (arith, c.numbered-delta.ensures.base, c.numbered-delta.ensures.len_within, c.numbered-delta.ensures.within, all_inserted-drop c.args.blocks.now.forms c.args.from, c.requires.inserted_limit, c.requires.limit)
 
 pub returns : goal.returns
 returns g c = record { steps = λ count one. omega (arith, c.later_over.ensures.cost.1 12 (omega (arith, count, one))) }

@@ -11,10 +11,10 @@ returns-clause-entries c =
     is_batch c.entries-entries.result.now c.args.self.now.entries c.args.from c.min-from.result c.batch_len.result
     (c.entries-entries.ensures.value ∙ ap (λ (m : OrderModel). m.entries) c.self.view_is) c.min-from.ensures c.batch_len.ensures.value
 
-pub returns-clause-empty : goal.returns-clause-empty
-returns-clause-empty c =
+pub returns-clause-none_left : goal.returns-clause-none_left
+returns-clause-none_left c =
     is_empty _ c.args.self.now.entries c.args.from
-    (subst (λ (m : OrderModel). All (λ b. length b ≤ MAX_ENTRY) m.entries) c.self.view_is c.entries-entries.ensures.within)
+    (subst (λ (m : OrderModel). All (λ b. length b ≤ MAX_ENTRY) m.entries) c.self.view_is c.entries-entries.ensures.each_within)
     (returns-clause-entries c)
 
 pub returns-clause-within : goal.returns-clause-within

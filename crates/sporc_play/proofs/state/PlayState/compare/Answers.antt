@@ -7,8 +7,8 @@ use Rattle.sporc_play.proofs.Becoming.{ok_then}
 use Rattle.sporc_play.proofs.Kept.{begun_chain, chain_is, compare_tells, first_missing, second_missing, found_by, one_beginning, stands}
 use Rattle.sporc_play.proofs.state.PlayState.compare.Goals as goal
 
-pub compare-verdict-requires-clause-begun : goal.compare-verdict-requires-clause-begun
-compare-verdict-requires-clause-begun c = subst (λ (xs : List (List ℕ)). 0 < length xs) (sym c.hashes.ensures.value) (begun_chain _ (state_of c.in-Some.first.now).entries)
+pub compare-verdict-requires-clause-positive : goal.compare-verdict-requires-clause-positive
+compare-verdict-requires-clause-positive c = subst (λ (xs : List (List ℕ)). 0 < length xs) (sym c.hashes.ensures.value) (begun_chain _ (state_of c.in-Some.first.now).entries)
 
 pub compare-verdict-requires-clause-one_genesis : goal.compare-verdict-requires-clause-one_genesis
 compare-verdict-requires-clause-one_genesis c =

@@ -13,8 +13,8 @@ use Rattle.sporc_play.proofs.state.PlayState.sign.Goals as goal
 pub index_mut-rogue-requires : goal.index_mut-rogue-requires
 index_mut-rogue-requires c = rogue_within c.as_slice.result.now _ c.rogue_at-i.result _ c.as_slice.ensures.len c.rogue_at-i.ensures.value
 
-pub sign-requires-clause-asked : goal.sign-requires-clause-asked
-sign-requires-clause-asked c =
+pub sign-requires-clause-limit : goal.sign-requires-clause-limit
+sign-requires-clause-limit c =
     let old = c.args.self.now in
     let x = c.index_mut-rogue.result.now in
     let at = rogue_read c.as_slice.result.now old.rogues.items c.rogue_at-i.result _ _ x c.as_slice.ensures.value c.first.ensures.value c.rogue_at-i.ensures.value c.index_mut-rogue.ensures.value in

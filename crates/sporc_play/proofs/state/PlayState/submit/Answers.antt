@@ -8,15 +8,15 @@ use Rattle.sporc_play.proofs.state.PlayState.submit.Goals as goal
 pub index_mut-requires : goal.index_mut-requires
 index_mut-requires c = seat_within c.as_slice.result.now _ c.seat_at-i.result _ c.as_slice.ensures.len c.seat_at-i.ensures.value
 
-pub submit-requires-clause-asked : goal.submit-requires-clause-asked
-submit-requires-clause-asked c =
+pub submit-requires-clause-limit : goal.submit-requires-clause-limit
+submit-requires-clause-limit c =
     let old = c.args.self.now in
     let x = c.index_mut.result.now in
     let at = seat_read c.as_slice.result.now old.seats.items c.seat_at-i.result _ x c.as_slice.ensures.value c.seat_at-i.ensures.value c.index_mut.ensures.value in
     (at_place IsReadySeat old.seats.items c.seat_at-i.result x c.requires.can.seats at.there).asked
 
-pub submit-requires-clause-ready : goal.submit-requires-clause-ready
-submit-requires-clause-ready c =
+pub submit-requires-clause-client : goal.submit-requires-clause-client
+submit-requires-clause-client c =
     let old = c.args.self.now in
     let x = c.index_mut.result.now in
     let at = seat_read c.as_slice.result.now old.seats.items c.seat_at-i.result _ x c.as_slice.ensures.value c.seat_at-i.ensures.value c.index_mut.ensures.value in

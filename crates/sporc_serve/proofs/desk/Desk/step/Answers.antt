@@ -10,13 +10,13 @@ use Rattle.sporc_serve.proofs.desk.Desk.step.Goals as goal
 use Rattle.sporc_serve.proofs.desk.Desk.step.Goals.{then-len-before, else-len-before}
 
 pub invariant_of-self-in-Break-branch-2 : goal.invariant_of-self-in-Break-branch-2
-invariant_of-self-in-Break-branch-2 g c = record { matched = search rules; kept = ∥∥₁_map c.args.self.now.kept c.reply_kept.ensures.kept }
+invariant_of-self-in-Break-branch-2 g c = record { matched = search rules; kept = ∥∥₁_map c.args.self.now.kept c.reply_kept.ensures.tail }
 
 pub invariant_of-self-then-len-before-clause-kept : goal.invariant_of-self-then-len-before-clause-kept
-invariant_of-self-then-len-before-clause-kept g c = ∥∥₁_map c.args.self.now.kept c.reply_kept.ensures.kept
+invariant_of-self-then-len-before-clause-kept g c = ∥∥₁_map c.args.self.now.kept c.reply_kept.ensures.tail
 
 pub invariant_of-self-else-len-before-clause-kept : goal.invariant_of-self-else-len-before-clause-kept
-invariant_of-self-else-len-before-clause-kept g c = ∥∥₁_map c.args.self.now.kept c.reply_kept.ensures.kept
+invariant_of-self-else-len-before-clause-kept g c = ∥∥₁_map c.args.self.now.kept c.reply_kept.ensures.tail
 
 pub returns-clause-log : goal.returns-clause-log
 returns-clause-log g c =

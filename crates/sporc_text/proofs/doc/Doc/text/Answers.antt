@@ -10,4 +10,4 @@ loop-chunk-preserved c =
 pub returns : goal.returns
 returns c =
     let ok = all_spelled (string_bytes c.loop-chunk.text) c.deref-chunk-items.result.now _ c.loop-chunk.chunk-index _ c.loop-chunk.invariant (omega arith) c.deref-chunk-items.ensures.value c.self.view_is in
-    record { ok = ok; chars = spelled c.loop-chunk.text _ ok }
+    record { ok = ok; characters = spelled c.loop-chunk.text _ ok }

@@ -12,8 +12,8 @@ behind : (cs found : List (List ℕ)) (kept i offset removed : ℕ) → found �
 behind cs found kept i offset removed is at le =
     omega (arith, at.before, ap (λ (l : List (List ℕ)). length (concat (take i l))) is, ap length (concat-at cs i), length-append (concat (take i cs)) (concat (drop i cs)), le)
 
-pub rewrite-requires-clause-within : goal.rewrite-requires-clause-within
-rewrite-requires-clause-within c =
+pub rewrite-requires-clause-in_bounds : goal.rewrite-requires-clause-in_bounds
+rewrite-requires-clause-in_bounds c =
     behind c.args.chunks.now.items c.as_slice.result.now c.self.inside.kept c.find-i.result.0 c.find-i.result.1 c.self.inside.removed c.as_slice.ensures.value c.find-i.ensures
     (omega (arith, c.self.invariant.within, c.requires.base, ap (λ (r : ReadyTextModel). r.base) c.self.view_is))
 

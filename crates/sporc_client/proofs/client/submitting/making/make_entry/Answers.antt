@@ -16,8 +16,8 @@ returns-in_err-ticket-clause-drawn g c = λ none.
     is_draw g.D.LeafDisk.told c.args.signer.now.leaves c.take_ticket.new.signer.leaves (Err c.in_err-ticket.field-0.0)
     (c.in_err-ticket.ensures.draws none) (c.in_err-ticket.ensures.faults none)
 
-pub returns-in_err-ticket-clause-answer : goal.returns-in_err-ticket-clause-answer
-returns-in_err-ticket-clause-answer g c =
+pub returns-in_err-ticket-clause-value : goal.returns-in_err-ticket-clause-value
+returns-in_err-ticket-clause-value g c =
     let plain = plain_of c.args.signer.now.key c.args.line.now c.args.own.now in
     let random = c.args.random.now in
     let fault = c.in_err-ticket.field-0.0 in

@@ -32,5 +32,5 @@ returns-clause-is_header c =
       base_hash = ap length c.hash.ensures.value ∙ length-hash_of line.genesis line.entries;
       epoch = omega (arith, c.epoch.ensures.value, epoch_le line.entries, ap epoch_of c.heads-heads.ensures.entries);
       leaf = omega arith;
-      kind = c.requires.kind;
+      kind = c.requires.range;
     }

@@ -15,7 +15,7 @@ use Rattle.sporc_client.proofs.SubmitRosters.{all_paired, can_seal, kind_written
 use Rattle.sporc_client.proofs.client.submitting.unsigned.seal.Goals as goal
 
 pub seal_change_at-requires : goal.seal_change_at-requires
-seal_change_at-requires c = record { epoch = omega (arith, c.epoch.ensures.value, ap epoch_of c.heads-heads.ensures.entries, epoch_le c.args.line.now.entries, c.requires.can_take.room) }
+seal_change_at-requires c = record { limit = omega (arith, c.epoch.ensures.value, ap epoch_of c.heads-heads.ensures.entries, epoch_le c.args.line.now.entries, c.requires.can_take.room) }
 
 pub returns-in-Ok-clause-value : goal.returns-in-Ok-clause-value
 returns-in-Ok-clause-value c = λ key own.

@@ -46,7 +46,7 @@ pub record CountsSame (k k' : Known Item) : Type 0 where
   pub joined : k'.joined ≡ k.joined
 
 -- It did these acts, and beside them wrote, received and drew no more than this
-pub record Course (a b : Stand) (acts : List Act) (written : List ℕ) (answers : List ToClient) (words : List (List ℕ)) : Type 0 where
+pub record Trace (a b : Stand) (acts : List Act) (written : List ℕ) (answers : List ToClient) (words : List (List ℕ)) : Type 0 where
   pub knows : KnowsMore a.known b.known (all_of items_by acts)
   pub fits : FitAll b.known.seen a.known.start a.known.mine acts
   pub in_order : AreInOrder (length a.known.seen) acts

@@ -1,4 +1,4 @@
--- Courses in a row.
+-- Traces in a row.
 use Rattle.std.proofs.Common.{◌≡◌, ℕ, ◌≤◌, Bool, List, [], ◌++◌, length, Option, Some, None, refl, sym, ap, ◌∙◌, subst, append_assoc, arith}
 use Rattle.std.specs.Prelude.{Result, Ok, Err, ⊤}
 use Rattle.std.proofs.lemmas.List.{append-nil}
@@ -10,7 +10,7 @@ use Rattle.sporc_wire.specs.declared.to_client.ToClient.{ToClient}
 use Rattle.sporc_shared.specs.declared.fault.SessionFault.{SessionFault}
 use Rattle.sporc_shared.specs.declared.fault.SessionFault.TheVariants as faults
 use Rattle.sporc_shared.specs.Acts.{Act, items_by, messages_by, answers_by, words_by, all_of, FitAll}
-use Rattle.sporc_shared.specs.Courses.{Stand, KnowsMore, Course}
+use Rattle.sporc_shared.specs.Traces.{Stand, KnowsMore, Trace}
 use Rattle.sporc_shared.specs.Endings.{Cause, Did, Stopped}
 use Rattle.sporc_shared.specs.Items.{Item}
 use Rattle.sporc_shared.specs.Outcomes.{DidOrStopped}
@@ -40,8 +40,8 @@ spelled_row xs ys more =
     ∙ sym (append_assoc (spelled (all_of messages_by xs)) (spelled (all_of messages_by ys)) more)
     ∙ ap (λ l. l ++ more) (sym (spelled_append (all_of messages_by xs) (all_of messages_by ys)) ∙ ap spelled (sym (all_of_append messages_by xs ys)))
 
-pub course_none : (a : Stand) → Course a a [] [] [] []
-course_none a = record {
+pub trace_none : (a : Stand) → Trace a a [] [] [] []
+trace_none a = record {
   knows = knows_none a.known;
   fits = tt;
   in_order = tt;
@@ -50,9 +50,9 @@ course_none a = record {
   chance = omega arith;
 }
 
-pub course_then : {a b c : Stand} {xs ys : List Act} {written : List ℕ} {answers : List ToClient} {words : List (List ℕ)} → Course a b xs [] [] [] → Course b c ys written answers words
-    → Course a c (xs ++ ys) written answers words
-course_then {a} {b} {c} {xs} {ys} {written} {answers} {words} f g =
+pub trace_then : {a b c : Stand} {xs ys : List Act} {written : List ℕ} {answers : List ToClient} {words : List (List ℕ)} → Trace a b xs [] [] [] → Trace b c ys written answers words
+    → Trace a c (xs ++ ys) written answers words
+trace_then {a} {b} {c} {xs} {ys} {written} {answers} {words} f g =
     let link : Exchanged a.link c.link ((spelled (all_of messages_by xs) ++ []) ++ (spelled (all_of messages_by ys) ++ written)) ((all_of answers_by xs ++ []) ++ (all_of answers_by ys ++ answers)) =
     exchanged_then a.link b.link c.link (spelled (all_of messages_by xs) ++ []) (spelled (all_of messages_by ys) ++ written) (all_of answers_by xs ++ []) (all_of answers_by ys ++ answers) f.link g.link in
     let link' : Exchanged a.link c.link (spelled (all_of messages_by (xs ++ ys)) ++ written) ((all_of answers_by xs ++ []) ++ (all_of answers_by ys ++ answers)) =
@@ -68,12 +68,12 @@ course_then {a} {b} {c} {xs} {ys} {written} {answers} {words} f g =
     }
 
 pub did_none : {ready : ℕ → ℕ → Bool} {a : Stand} {m : Mode} → Did ready a a m m
-did_none {a = a} = record { acts = []; course = course_none a; leads = refl }
+did_none {a = a} = record { acts = []; trace = trace_none a; leads = refl }
 
 pub did_then : {ready : ℕ → ℕ → Bool} {a b c : Stand} {m k m' : Mode} → Did ready a b m k → Did ready b c k m' → Did ready a c m m'
 did_then {ready} {m = m} {k = k} {m' = m'} f g = record {
   acts = f.acts ++ g.acts;
-  course = course_then f.course g.course;
+  trace = trace_then f.trace g.trace;
   leads = leads_append ready m k m' f.acts g.acts f.leads g.leads;
 }
 
@@ -104,11 +104,11 @@ did_stopped {ready} {a} {b} {c} {m} {k} {rounds} {fault} f g = record {
   written = g.written;
   answers = g.answers;
   words = g.words;
-  course = course_then f.course g.course;
+  trace = trace_then f.trace g.trace;
   leads = leads_append ready m k g.reached f.acts g.acts f.leads g.leads;
   within = g.within;
   beside = g.beside;
-  cause = cause_earlier a b c g.reached g.written g.answers g.words fault f.course.link.count f.course.chance g.cause;
+  cause = cause_earlier a b c g.reached g.written g.answers g.words fault f.trace.link.count f.trace.chance g.cause;
 }
 
 -- with no more rounds than these, nor than more
@@ -119,7 +119,7 @@ stopped_within rounds more low s = record {
   written = s.written;
   answers = s.answers;
   words = s.words;
-  course = s.course;
+  trace = s.trace;
   leads = s.leads;
   within = omega (arith, low, s.within);
   beside = s.beside;

@@ -82,7 +82,7 @@ module _ (genesis : Genesis) where
     pub faults : a.faults ≤ b.faults
 
   -- and all of the answers were sent, none of which closes the session
-  pub record ServerCourse (a b : ServerStand) (bytes : List ℕ) (xs : List Exchange) : Type 0 where
+  pub record ServerTrace (a b : ServerStand) (bytes : List ℕ) (xs : List Exchange) : Type 0 where
     pub did : Did a b bytes xs
     pub none_closes : NoneCloses (answers_of false xs)
     pub sent : Appends a.written b.written (sent_of (answers_of false xs))
@@ -96,7 +96,7 @@ module _ (genesis : Genesis) where
 
   -- each whole message of the bytes was answered
   pub record AllAnswered (a b : ServerStand) (bytes : List ℕ) (xs : List Exchange) : Type 0 where
-    pub course : ServerCourse a b bytes xs
+    pub trace : ServerTrace a b bytes xs
     pub none_left : (next to_server_of b.unread).answer ≡ Ok None
 
   -- of the last answer not all bytes were sent
@@ -108,11 +108,11 @@ module _ (genesis : Genesis) where
   EndsAs a b Closed = (bytes : List ℕ) × (xs : List Exchange) × (before : List Answer) × Broken a b bytes xs before Close 0
   EndsAs a b LinkEnded = (bytes : List ℕ) × (xs : List Exchange) × AllAnswered a b bytes xs × IsAtEnd b.left
   EndsAs a b LinkFault = (bytes : List ℕ) × (xs : List Exchange) × (AllAnswered a b bytes xs ⊎ IsCut a b bytes xs) × Rose a.faults b.faults
-  EndsAs a b BadFrame = (bytes : List ℕ) × (xs : List Exchange) × (fault : FrameFault) × ServerCourse a b bytes xs
+  EndsAs a b BadFrame = (bytes : List ℕ) × (xs : List Exchange) × (fault : FrameFault) × ServerTrace a b bytes xs
       × ((next to_server_of b.unread).answer ≡ Err fault)
-  EndsAs a b (Worn ticket) = (bytes : List ℕ) × (xs : List Exchange) × ServerCourse a b bytes xs × (ticket ≡ MAX_TICKETS)
-  EndsAs a b Memory = (bytes : List ℕ) × (xs : List Exchange) × (ServerCourse a b bytes xs ⊎ IsCut a b bytes xs)
-  EndsAs a b Unkept = (bytes : List ℕ) × (xs : List Exchange) × ServerCourse a b bytes xs
+  EndsAs a b (Worn ticket) = (bytes : List ℕ) × (xs : List Exchange) × ServerTrace a b bytes xs × (ticket ≡ MAX_TICKETS)
+  EndsAs a b Memory = (bytes : List ℕ) × (xs : List Exchange) × (ServerTrace a b bytes xs ⊎ IsCut a b bytes xs)
+  EndsAs a b Unkept = (bytes : List ℕ) × (xs : List Exchange) × ServerTrace a b bytes xs
 
 -- a stand of these
 abbrev pub stand : Known Item → Option (List ℕ) → Option (List ℕ) → ℕ → Unread → Bool → ServerStand
@@ -125,19 +125,19 @@ IsEnd genesis a b end = (unread : Unread) × (greeted : Bool) × EndsAs genesis 
 
 -- a session that went on from its beginning to here, or ended
 abbrev pub GoesOn : Genesis → ServerStand → ServerStand → Option SessionEnd → Type 0
-GoesOn genesis a b None = (bytes : List ℕ) × (xs : List Exchange) × ServerCourse genesis a b bytes xs
+GoesOn genesis a b None = (bytes : List ℕ) × (xs : List Exchange) × ServerTrace genesis a b bytes xs
 GoesOn genesis a b (Some end) = IsEnd genesis a b end
 
 -- a session that went on from any beginning to here goes on to there, or ends
 abbrev pub Carries : ServerStand → ServerStand → Option SessionEnd → Type 0
 Carries b b' end =
-    (genesis : Genesis) (a : ServerStand) (bytes : List ℕ) (xs : List Exchange) → IsLogOf genesis b.known.seen → ServerCourse genesis a b bytes xs
+    (genesis : Genesis) (a : ServerStand) (bytes : List ℕ) (xs : List Exchange) → IsLogOf genesis b.known.seen → ServerTrace genesis a b bytes xs
     → GoesOn genesis a b' end
 
 -- a session that went on to here from any beginning whose log is of a document goes on to there, or ends
 abbrev pub Leads : ServerStand → ServerStand → Option SessionEnd → Type 0
 Leads b b' end =
-    (genesis : Genesis) (a : ServerStand) (bytes : List ℕ) (xs : List Exchange) → IsLogOf genesis a.known.seen → ServerCourse genesis a b bytes xs
+    (genesis : Genesis) (a : ServerStand) (bytes : List ℕ) (xs : List Exchange) → IsLogOf genesis a.known.seen → ServerTrace genesis a b bytes xs
     → GoesOn genesis a b' end
 
 -- by what the link tells

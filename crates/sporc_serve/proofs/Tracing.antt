@@ -17,7 +17,7 @@ use Rattle.sporc_serve.specs.declared.item.Item.TheVariants.{Placed}
 use Rattle.sporc_serve.specs.Logs.{order_at, added_of, placed_by}
 use Rattle.sporc_serve.specs.Sending.{bytes_of, sent_of}
 use Rattle.sporc_serve.specs.Turns.{IsAnswered, LeavesUnanswered}
-use Rattle.sporc_serve.specs.Courses.{Exchange, ServerStand, stand, messages_of, step_at, greeted_after, answers_of, entries_of, Grows, NoneCloses, Did, ServerCourse}
+use Rattle.sporc_serve.specs.Traces.{Exchange, ServerStand, stand, messages_of, step_at, greeted_after, answers_of, entries_of, Grows, NoneCloses, Did, ServerTrace}
 
 -- ---- lists that begin with others
 
@@ -85,9 +85,9 @@ module _ (g : Genesis) where
   -- ---- a session goes on
 
   -- nothing was done yet
-  pub course_begins : (known : Known Item) (left written : Option (List ℕ)) (faults : ℕ)
-      → ServerCourse g (stand known left written faults (stream_of []) false) (stand known left written faults (stream_of []) false) [] []
-  course_begins known left written faults = record {
+  pub trace_begins : (known : Known Item) (left written : Option (List ℕ)) (faults : ℕ)
+      → ServerTrace g (stand known left written faults (stream_of []) false) (stand known left written faults (stream_of []) false) [] []
+  trace_begins known left written faults = record {
     did = record {
       taken = Consumes-nil left;
       reads = refl;
@@ -103,10 +103,10 @@ module _ (g : Genesis) where
   }
 
   -- a piece more of the stream
-  pub course_fed : (a b : ServerStand) (bytes piece : List ℕ) (xs : List Exchange) (left : Option (List ℕ)) (faults : ℕ) (unread : Unread)
-      → ServerCourse g a b bytes xs → Consumes b.left left piece → b.faults ≤ faults → unread ≡ fed piece b.unread
-      → ServerCourse g a (record b { left = left; faults = faults; unread = unread }) (bytes ++ piece) xs
-  course_fed a b bytes piece xs left faults unread c taken more is = record {
+  pub trace_fed : (a b : ServerStand) (bytes piece : List ℕ) (xs : List Exchange) (left : Option (List ℕ)) (faults : ℕ) (unread : Unread)
+      → ServerTrace g a b bytes xs → Consumes b.left left piece → b.faults ≤ faults → unread ≡ fed piece b.unread
+      → ServerTrace g a (record b { left = left; faults = faults; unread = unread }) (bytes ++ piece) xs
+  trace_fed a b bytes piece xs left faults unread c taken more is = record {
     did = record {
       taken = Consumes-trans a.left b.left left bytes piece c.did.taken taken;
       reads = subst (λ (u : Unread). HandsOut to_server_of (stream_of (bytes ++ piece)) (messages_of xs) u) (sym is)
@@ -124,7 +124,7 @@ module _ (g : Genesis) where
 
   -- a message more, answered
   pub did_more : (a b : ServerStand) (bytes : List ℕ) (xs : List Exchange) (m : ToServer) (known : Known Item) (unread : Unread) (greeted : Bool)
-      (answer : Answer) (found : List Item) → ServerCourse g a b bytes xs → (next to_server_of b.unread).answer ≡ Ok (Some m)
+      (answer : Answer) (found : List Item) → ServerTrace g a b bytes xs → (next to_server_of b.unread).answer ≡ Ok (Some m)
       → unread ≡ (next to_server_of b.unread).after → IsAnswered g b.known known b.greeted greeted m answer found
       → (written : Option (List ℕ)) (faults : ℕ) → b.faults ≤ faults
       → Did g a (record b { known = known; written = written; faults = faults; unread = unread; greeted = greeted }) bytes
@@ -163,9 +163,9 @@ module _ (g : Genesis) where
       answers_more false xs x ∙ ap (λ (a : Answer). answers_of g false xs ++ a ∷ []) (sym (h.answer_is ∙ ap (λ (s : Bool). (step_at g s x).answer) was))
 
   -- a turn without an answer changes nothing of it
-  pub course_unanswered : (a b : ServerStand) (bytes : List ℕ) (xs : List Exchange) (known : Known Item) (s : Bool) (found : List Item)
-      → ServerCourse g a b bytes xs → LeavesUnanswered b.known known b.greeted s found → ServerCourse g a (record b { known = known }) bytes xs
-  course_unanswered a b bytes xs known s found c h = record {
+  pub trace_unanswered : (a b : ServerStand) (bytes : List ℕ) (xs : List Exchange) (known : Known Item) (s : Bool) (found : List Item)
+      → ServerTrace g a b bytes xs → LeavesUnanswered b.known known b.greeted s found → ServerTrace g a (record b { known = known }) bytes xs
+  trace_unanswered a b bytes xs known s found c h = record {
     did = record {
       taken = c.did.taken;
       reads = c.did.reads;
