@@ -1,5 +1,6 @@
 -- A leaf file: a byte for each block of leaves, zero as long as the block is not taken.
-use Rattle.std.specs.Prelude.{◌≡◌, ◌⊎◌, ℕ, ◌+◌, ◌/◌, ◌^◌, ◌<◌, ◌≤◌, ◌==◌, ◌&&◌, List, [], ◌∷◌, if◌then◌else◌}
+use Rattle.std.specs.Prelude.{◌≡◌, ◌⊎◌, ℕ, ◌+◌, ◌/◌, ◌^◌, ◌<◌, ◌≤◌, ◌==◌, ◌&&◌, List, [], ◌∷◌}
+use Rattle.std.specs.Prelude.{if◌then◌else◌}
 use Rattle.sporc_outside.specs.LeafDisk.{IsStable}
 use Rattle.lms_leaf.specs.declared.leaf_file.TheConstants.{LEAVES_PER_BLOCK}
 
@@ -26,7 +27,8 @@ IsTaken images leaf = IsStable images (leaf / LEAVES_PER_BLOCK)
 abbrev pub AreTaken : (List ℕ → Type 0) → ℕ → ℕ → Type 0
 AreTaken images first end = (leaf : ℕ) → first ≤ leaf → leaf < end → IsTaken images leaf
 
--- the block of this leaf or of a later one is taken: whatever a crash leaves, an opening goes on above the leaf
+-- the block of this leaf or of a later one is taken: whatever a crash leaves, an opening goes on
+-- above the leaf
 abbrev pub IsPassed : (List ℕ → Type 0) → ℕ → Type 0
 IsPassed images leaf = (other : ℕ) × (leaf ≤ other) × IsTaken images other
 

@@ -1,5 +1,7 @@
 -- What a value that numbers leaves holds, and what its calls do to the disk and to the next number.
-use Rattle.std.specs.Prelude.{◌≡◌, ◌≢◌, ◌↔◌, ◌⊎◌, ℕ, ◌+◌, ◌*◌, ◌/◌, ◌%◌, ◌<◌, ◌≤◌, Bool, List, length, slice_index, Option, Some, Result, Ok, Err, is_ok, IsTrue, IfOk, IfSome, if◌then◌else◌}
+use Rattle.std.specs.Prelude.{◌≡◌, ◌≢◌, ◌↔◌, ◌⊎◌, ℕ, ◌+◌, ◌*◌, ◌/◌, ◌%◌, ◌<◌, ◌≤◌, Bool, List}
+use Rattle.std.specs.Prelude.{length, slice_index, Option, Some, Result, Ok, Err, is_ok, IsTrue}
+use Rattle.std.specs.Prelude.{IfOk, IfSome, if◌then◌else◌}
 use Rattle.sporc_outside.specs.Counts.{Rose}
 use Rattle.sporc_outside.specs.LeafDisk.{DiskTold, IsStable, KeepsOutside, disk_images}
 use Rattle.lms_leaf.specs.LeafFile.{IsTaken, taken_blocks}
@@ -9,8 +11,8 @@ use Rattle.lms_leaf.specs.declared.faults.LeafFault.TheVariants.{Exhausted, Disk
 use Rattle.lms_leaf.specs.declared.faults.LeafOpenFault.{LeafOpenFault}
 use Rattle.lms_leaf.specs.declared.faults.LeafOpenFault.TheVariants as open_faults
 
--- the disk, the next number and what it was at the opening, how many leaves there are, whether a call of the
--- disk has failed, and the disk's count of faults as it was opened
+-- the disk, the next number and what it was at the opening, how many leaves there are, whether a
+-- call of the disk has failed, and the disk's count of faults as it was opened
 pub record LeavesModel (D : Type 0) : Type 0 where
   pub disk : D
   pub next : ℕ
@@ -19,16 +21,18 @@ pub record LeavesModel (D : Type 0) : Type 0 where
   pub faulty : Bool
   pub faults_at_open : ℕ
 
--- At each moment from the old disk to the new one, a byte that was stable is stable. What a crash could have
--- left before stays as it was.
+-- At each moment from the old disk to the new one, a byte that was stable is stable. What a crash
+-- could have left before stays as it was.
 pub record KeepsStable {D : Type 0} (disk_told : D → DiskTold) (old new : D) : Type 0 where
   pub later : (disk_told old).moment ≤ (disk_told new).moment
-  pub earlier : (m : ℕ) (image : List ℕ) → m ≤ (disk_told old).moment → (disk_told new).images m image ↔ (disk_told old).images m image
+  pub earlier : (m : ℕ) (image : List ℕ) → m ≤ (disk_told old).moment
+      → (disk_told new).images m image ↔ (disk_told old).images m image
   pub each : (at : ℕ) → IsStable (disk_images (disk_told old)) at
-      → (m : ℕ) → (disk_told old).moment ≤ m → m ≤ (disk_told new).moment → IsStable ((disk_told new).images m) at
+      → (m : ℕ) → (disk_told old).moment ≤ m → m ≤ (disk_told new).moment
+      → IsStable ((disk_told new).images m) at
 
--- a draw gives the next number, one from the opening's on, and goes on to the one after it; its block is marked by a
--- one, which is stable then, and no other byte changes
+-- a draw gives the next number, one from the opening's on, and goes on to the one after it; its
+-- block is marked by a one, which is stable then, and no other byte changes
 pub record Draws {D : Type 0} (disk_told : D → DiskTold)
     (old : LeavesModel D) (result : Result ℕ LeafFault) (new : LeavesModel D) : Type 0 where
   pub given : IfOk result (λ leaf. leaf ≡ old.next)
@@ -39,19 +43,24 @@ pub record Draws {D : Type 0} (disk_told : D → DiskTold)
   pub leaf_count : new.leaf_count ≡ old.leaf_count
   pub stable : KeepsStable disk_told old.disk new.disk
   pub taken : IfOk result (λ leaf. IsTaken (disk_images (disk_told new.disk)) leaf)
-  pub marked : IfOk result (λ leaf. leaf % LEAVES_PER_BLOCK ≡ 0
-      → IfSome (disk_told new.disk).stored (λ bytes. slice_index bytes (leaf / LEAVES_PER_BLOCK) ≡ 1))
-  pub others : KeepsOutside (old.next / LEAVES_PER_BLOCK) 1 (disk_told old.disk).stored (disk_told new.disk).stored
+  pub marked : IfOk result (λ leaf. leaf % LEAVES_PER_BLOCK ≡ 0 → IfSome (disk_told new.disk).stored
+      (λ bytes. slice_index bytes (leaf / LEAVES_PER_BLOCK) ≡ 1))
+  pub others : KeepsOutside (old.next / LEAVES_PER_BLOCK) 1 (disk_told old.disk).stored
+      (disk_told new.disk).stored
   -- a draw inside a block, or after a fault, writes nothing
-  pub unwritten : old.next % LEAVES_PER_BLOCK ≢ 0 → (disk_told new.disk).stored ≡ (disk_told old.disk).stored
-  pub unwritten_faulty : IsTrue old.faulty → (disk_told new.disk).stored ≡ (disk_told old.disk).stored
+  pub unwritten : old.next % LEAVES_PER_BLOCK ≢ 0
+      → (disk_told new.disk).stored ≡ (disk_told old.disk).stored
+  pub unwritten_faulty : IsTrue old.faulty
+      → (disk_told new.disk).stored ≡ (disk_told old.disk).stored
 
--- when a draw gives no number: `Exhausted` exactly where all are drawn, and `DiskFault` only where the disk's count
--- of faults rose, in this draw or in an earlier one since the opening
+-- when a draw gives no number: `Exhausted` exactly where all are drawn, and `DiskFault` only where
+-- the disk's count of faults rose, in this draw or in an earlier one since the opening
 pub record DrawFaults {D : Type 0} (disk_told : D → DiskTold)
     (old : LeavesModel D) (result : Result ℕ LeafFault) (new : LeavesModel D) : Type 0 where
-  pub exhausted : (next : ℕ) → (result ≡ Err (Exhausted next)) ↔ ((old.next ≡ old.leaf_count) × (next ≡ old.next))
-  pub now : result ≡ Err DiskFault → IsTrue old.faulty ⊎ Rose (disk_told old.disk).faults (disk_told new.disk).faults
+  pub exhausted : (next : ℕ)
+      → (result ≡ Err (Exhausted next)) ↔ ((old.next ≡ old.leaf_count) × (next ≡ old.next))
+  pub now : result ≡ Err DiskFault
+      → IsTrue old.faulty ⊎ Rose (disk_told old.disk).faults (disk_told new.disk).faults
   pub since_open : result ≡ Err DiskFault → Rose old.faults_at_open (disk_told new.disk).faults
   -- and then until the next opening
   pub still : IsTrue old.faulty → result ≡ Err DiskFault
@@ -76,22 +85,27 @@ abbrev pub disk_after : {D : Type 0} → Result (LeavesModel D) (LeafOpenFault �
 disk_after (Ok leaves) = leaves.disk
 disk_after (Err fault) = fault.1
 
--- an opening goes on behind the last block that is taken, and leaves what the disk stores; no crash takes any of
--- it away then
+-- an opening goes on behind the last block that is taken, and leaves what the disk stores; no crash
+-- takes any of it away then
 pub record Opens {D : Type 0} (disk_told : D → DiskTold)
     (disk : D) (result : Result (LeavesModel D) (LeafOpenFault × D)) : Type 0 where
-  pub next : IfOk result (λ leaves. IfSome (disk_told disk).stored (λ bytes. leaves.next ≡ LEAVES_PER_BLOCK * taken_blocks bytes))
+  pub next : IfOk result (λ leaves. IfSome (disk_told disk).stored
+      (λ bytes. leaves.next ≡ LEAVES_PER_BLOCK * taken_blocks bytes))
   pub stable : KeepsStable disk_told disk (disk_after result)
-  pub synced : IfOk result (λ leaves. IsSynced (disk_told leaves.disk).stored (disk_images (disk_told leaves.disk)))
+  pub synced : IfOk result
+      (λ leaves. IsSynced (disk_told leaves.disk).stored (disk_images (disk_told leaves.disk)))
   -- the sync stands before all that is read
-  pub synced_first : IfOk result (λ leaves. IfSome (disk_told disk).stored (λ bytes. IsSyncedFirst disk_told disk leaves.disk))
+  pub synced_first : IfOk result
+      (λ leaves. IfSome (disk_told disk).stored (λ bytes. IsSyncedFirst disk_told disk leaves.disk))
   pub unwritten : (disk_told (disk_after result)).stored ≡ (disk_told disk).stored
 
--- why a disk that should have so many blocks was not opened, and what came back: `DiskFault` only where the disk's
--- count of faults rose, `BadLength` with another length, and out of memory before any call of the disk
+-- why a disk that should have so many blocks was not opened, and what came back: `DiskFault` only
+-- where the disk's count of faults rose, `BadLength` with another length, and out of memory before
+-- any call of the disk
 pub record OpenFaults {D : Type 0} (disk_told : D → DiskTold)
     (blocks : ℕ) (disk : D) (fault : LeafOpenFault) (back : D) : Type 0 where
-  pub disk_fault : fault ≡ open_faults.DiskFault → Rose (disk_told disk).faults (disk_told back).faults
+  pub disk_fault : fault ≡ open_faults.DiskFault
+      → Rose (disk_told disk).faults (disk_told back).faults
   pub bad_length : (len : ℕ) → fault ≡ open_faults.BadLength len
       → (len ≢ blocks) × IfSome (disk_told disk).stored (λ bytes. len ≡ length bytes)
   pub memory : fault ≡ open_faults.Memory → back ≡ disk

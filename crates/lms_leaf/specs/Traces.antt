@@ -5,8 +5,8 @@ use Rattle.lms_leaf.specs.Leaves.{LeavesModel, Draws, Opens, disk_after}
 use Rattle.lms_leaf.specs.declared.faults.LeafFault.{LeafFault}
 use Rattle.lms_leaf.specs.declared.faults.LeafOpenFault.{LeafOpenFault}
 
--- One thing that happens. A call that a crash cuts off at a moment never answers; its move has what the call
--- would have answered, the moment, and the disk that is found afterwards.
+-- One thing that happens. A call that a crash cuts off at a moment never answers; its move has what
+-- the call would have answered, the moment, and the disk that is found afterwards.
 pub data LeafMove (D : Type 0) : Type 0 where
   Open : Result (LeavesModel D) (LeafOpenFault × D) → LeafMove D
   OpenCut : Result (LeavesModel D) (LeafOpenFault × D) → ℕ → D → LeafMove D
@@ -48,8 +48,10 @@ module _ {D : Type 0} (disk_told : D → DiskTold) where
   abbrev pub IsTrace : FileState D → List (LeafMove D) → Type 0
   IsTrace state [] = Unit {0}
   IsTrace state (Crash found ∷ moves) =
-      IsDiskFound disk_told (disk_of state) (disk_told (disk_of state)).moment found × IsTrace (AtRest found) moves
-  IsTrace (AtRest disk) (Open result ∷ moves) = Opens disk_told disk result × IsTrace (state_opened result) moves
+      IsDiskFound disk_told (disk_of state) (disk_told (disk_of state)).moment found
+      × IsTrace (AtRest found) moves
+  IsTrace (AtRest disk) (Open result ∷ moves) =
+      Opens disk_told disk result × IsTrace (state_opened result) moves
   IsTrace (AtRest disk) (OpenCut result at found ∷ moves) =
       Opens disk_told disk result × IsDuring disk_told disk (disk_after result) at
       × IsDiskFound disk_told (disk_after result) at found × IsTrace (AtRest found) moves

@@ -1,4 +1,5 @@
-//! What holds of leaf numbers over whole traces of a leaf file and over its lives, and the limit in numbers.
+//! What holds of leaf numbers over whole traces of a leaf file and over its lives, and the limit in
+//! numbers.
 
 ghost use Rattle.std.specs.Prelude.{◌≡◌};
 ghost use Rattle.lms_leaf.specs.Laws.{LeavesRise, NoLeafTwice, TracesAreLives};

@@ -1,6 +1,7 @@
 //! The bytes of a leaf file, and the calls that read and write them.
 
-ghost use Rattle.std.specs.Prelude.{◌≡◌, ◌≢◌, ◌^◌, ◌<◌, ◌*◌, ◌/◌, ◌%◌, ◌≤◌, length, slice_index, replicate, IfOk, IfSome, OnOk};
+ghost use Rattle.std.specs.Prelude.{◌≡◌, ◌≢◌, ◌^◌, ◌<◌, ◌*◌, ◌/◌, ◌%◌, ◌≤◌, length, slice_index};
+ghost use Rattle.std.specs.Prelude.{replicate, IfOk, IfSome, OnOk};
 ghost use Rattle.sporc_outside.specs.Counts.{CountsFaults};
 ghost use Rattle.sporc_outside.specs.LeafDisk.{IsStable, KeepsOutside, disk_images};
 ghost use Rattle.lms_leaf.specs.LeafFile.{IsLeafHeight, IsTaken, block_count, taken_blocks};
@@ -57,10 +58,12 @@ pub(crate) fn begin_block<D: LeafDisk>(disk: &mut D, leaf: u32) -> Result<(), Fa
         → IsTaken (disk_images (D.told disk.old)) leaf }
     ensures taken { OnOk result (IsTaken (disk_images (D.told disk.new)) leaf) }
     ensures stable { KeepsStable D.told disk.old disk.new }
-    ensures one { OnOk result (leaf % LEAVES_PER_BLOCK ≡ 0 → IfSome (D.told disk.new).stored (λ bytes.
-        slice_index bytes (leaf / LEAVES_PER_BLOCK) ≡ 1)) }
-    ensures others { KeepsOutside (leaf / LEAVES_PER_BLOCK) 1 (D.told disk.old).stored (D.told disk.new).stored }
-    ensures unwritten { leaf % LEAVES_PER_BLOCK ≢ 0 → (D.told disk.new).stored ≡ (D.told disk.old).stored }
+    ensures one { OnOk result (leaf % LEAVES_PER_BLOCK ≡ 0 → IfSome (D.told disk.new).stored
+        (λ bytes. slice_index bytes (leaf / LEAVES_PER_BLOCK) ≡ 1)) }
+    ensures others { KeepsOutside (leaf / LEAVES_PER_BLOCK) 1 (D.told disk.old).stored
+        (D.told disk.new).stored }
+    ensures unwritten { leaf % LEAVES_PER_BLOCK ≢ 0
+        → (D.told disk.new).stored ≡ (D.told disk.old).stored }
     ensures count { CountsFaults (D.told disk.old).faults (D.told disk.new).faults result }
 {
     if leaf % LEAVES_PER_BLOCK != 0 {
@@ -75,7 +78,8 @@ fn take_block<D: LeafDisk>(disk: &mut D, block: u32) -> Result<(), Failed>
         (block < length bytes) × (slice_index bytes block ≡ 0)) }
     ensures taken { OnOk result (IsStable (disk_images (D.told disk.new)) block) }
     ensures stable { KeepsStable D.told disk.old disk.new }
-    ensures one { OnOk result (IfSome (D.told disk.new).stored (λ bytes. slice_index bytes block ≡ 1)) }
+    ensures one { OnOk result
+        (IfSome (D.told disk.new).stored (λ bytes. slice_index bytes block ≡ 1)) }
     ensures others { KeepsOutside block 1 (D.told disk.old).stored (D.told disk.new).stored }
     ensures count { CountsFaults (D.told disk.old).faults (D.told disk.new).faults result }
 {

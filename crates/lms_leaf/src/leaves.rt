@@ -1,9 +1,12 @@
 //! The leaves of a key, drawn in order.
 
-ghost use Rattle.std.specs.Prelude.{◌≡◌, ℕ, ◌*◌, ◌^◌, ◌≤◌, false, length, OnOk, IfOk, IfErr, IfSome};
+ghost use Rattle.std.specs.Prelude.{◌≡◌, ℕ, ◌*◌, ◌^◌, ◌≤◌, false, length, OnOk, IfOk, IfErr};
+ghost use Rattle.std.specs.Prelude.{IfSome};
 ghost use Rattle.sporc_outside.specs.LeafDisk.{disk_images};
-ghost use Rattle.lms_leaf.specs.LeafFile.{IsLeafHeight, ArePassed, AreTaken, block_count, taken_blocks};
-ghost use Rattle.lms_leaf.specs.Leaves.{KeepsStable, IsSynced, IsSyncedFirst, Draws, DrawFaults, Opens, OpenFaults, disk_after};
+ghost use Rattle.lms_leaf.specs.LeafFile.{IsLeafHeight, ArePassed, AreTaken, block_count};
+ghost use Rattle.lms_leaf.specs.LeafFile.{taken_blocks};
+ghost use Rattle.lms_leaf.specs.Leaves.{KeepsStable, IsSynced, IsSyncedFirst, Draws, DrawFaults};
+ghost use Rattle.lms_leaf.specs.Leaves.{Opens, OpenFaults, disk_after};
 ghost use Rattle.lms_leaf.specs.declared.leaf_file.TheConstants.{LEAVES_PER_BLOCK};
 
 use crate::faults::{LeafFault, LeafOpenFault};

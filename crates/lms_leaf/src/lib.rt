@@ -16,12 +16,13 @@
 //! [`LeafDisk`](sporc_outside::LeafDisk) says: no number is given twice, over any openings, draws,
 //! failed calls and crashes ([`laws::no_leaf_is_drawn_twice`]), nor over runs of a program, of each
 //! of which only its start and its end are known ([`laws::leaves_rise_over_lives`]); what each call
-//! gives, and when it fails; that an opening syncs before it reads; that no crash makes the block of
-//! a leaf drawn since the opening free again, and that whatever a crash leaves, a later opening goes
-//! on at the next leaf or above it. There is one file per key, which one program at a time opens and
-//! nobody sets back.
+//! gives, and when it fails; that an opening syncs before it reads; that no crash makes the block
+//! of a leaf drawn since the opening free again, and that whatever a crash leaves, a later opening
+//! goes on at the next leaf or above it. There is one file per key, which one program at a time
+//! opens and nobody sets back.
 //!
-//! Only tested: that calls succeed with ample memory. Neither: that a real file behaves as the model.
+//! Only tested: that calls succeed with ample memory. Neither: that a real file behaves as the
+//! model.
 #![tactic(auto)]
 
 mod faults;

@@ -1,5 +1,7 @@
--- A string of bytes as a row of small numbers, and their checksum (RFC 8554, sections 3.1.3 and 4.4).
-use Rattle.std.specs.Prelude.{◌≡◌, ℕ, zero, suc, ◌+◌, ◌-◌, ◌*◌, ◌/◌, ◌%◌, ◌^◌, List, ◌++◌, slice_index, ◌⊎◌}
+-- A string of bytes as a row of small numbers, and their checksum (RFC 8554, sections 3.1.3 and
+-- 4.4).
+use Rattle.std.specs.Prelude.{◌≡◌, ℕ, zero, suc, ◌+◌, ◌-◌, ◌*◌, ◌/◌, ◌%◌, ◌^◌, List, ◌++◌}
+use Rattle.std.specs.Prelude.{slice_index, ◌⊎◌}
 use Rattle.std.specs.Int.{w16, to_be_bytes}
 use Rattle.lms_ots.specs.declared.ots_type.OtsType.{OtsType}
 use Rattle.lms_ots.specs.OtsType.{width_of, checksum_shift_of}

@@ -7,4 +7,5 @@ use Rattle.lms_ots.specs.Signatures.{ots_public_of, ots_signature_of, ots_candid
 abbrev pub SignaturesLeadToPublicKeys : Type 0
 SignaturesLeadToPublicKeys =
     (t : OtsType) (id : List ℕ) (q : ℕ) (seed c message : List ℕ) → length c ≡ 32
-    → ots_candidate_of t id q message (ots_signature_of t id q seed c message) ≡ Ok (ots_public_of t id q seed)
+    → ots_candidate_of t id q message (ots_signature_of t id q seed c message)
+    ≡ Ok (ots_public_of t id q seed)

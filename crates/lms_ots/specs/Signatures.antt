@@ -1,5 +1,6 @@
 -- LM-OTS public keys, signatures and their verification (RFC 8554, sections 4.3 to 4.6).
-use Rattle.std.specs.Prelude.{ℕ, ◌+◌, ◌-◌, ◌*◌, ◌^◌, ◌==◌, List, [], ◌∷◌, ◌++◌, length, take, drop, Result, Ok, Err, if◌then◌else◌}
+use Rattle.std.specs.Prelude.{ℕ, ◌+◌, ◌-◌, ◌*◌, ◌^◌, ◌==◌, List, [], ◌∷◌, ◌++◌, length, take, drop}
+use Rattle.std.specs.Prelude.{Result, Ok, Err, if◌then◌else◌}
 use Rattle.std.specs.Int.{w32, to_be_bytes, from_be_bytes}
 use Rattle.sha2.specs.Sha256.{sha256}
 use Rattle.lms_ots.specs.declared.ots_type.OtsType.{OtsType}
@@ -19,7 +20,8 @@ public_part t id q seed i = chain_of id q i 0 (2 ^ width_of t - 1) (secret_part 
 
 -- K, the public key of a seed (section 4.3)
 unfoldable pub ots_public_of : OtsType → List ℕ → ℕ → List ℕ → List ℕ
-ots_public_of t id q seed = sha256 (public_prefix id q ++ concatenated (public_part t id q seed) (part_count_of t))
+ots_public_of t id q seed =
+    sha256 (public_prefix id q ++ concatenated (public_part t id q seed) (part_count_of t))
 
 -- Q, the digest of a message under the randomizer c
 abbrev pub message_digest : List ℕ → ℕ → List ℕ → List ℕ → List ℕ
@@ -27,13 +29,15 @@ message_digest id q c message = sha256 (id ++ to_be_bytes w32 q ++ 0x81 ∷ 0x81
 
 -- part i of a signature of a string: chain i from its start, as far as the i-th coefficient says
 abbrev pub signed_part : OtsType → List ℕ → ℕ → List ℕ → List ℕ → ℕ → List ℕ
-signed_part t id q seed string i = chain_of id q i 0 (coef_of string i (width_of t)) (secret_part id q i seed)
+signed_part t id q seed string i =
+    chain_of id q i 0 (coef_of string i (width_of t)) (secret_part id q i seed)
 
 -- the signature of a message under the randomizer c (section 4.5)
 unfoldable pub ots_signature_of : OtsType → List ℕ → ℕ → List ℕ → List ℕ → List ℕ → List ℕ
 ots_signature_of t id q seed c message =
     let string = with_checksum (message_digest id q c message) t in
-    to_be_bytes w32 (ots_code_of t) ++ c ++ concatenated (signed_part t id q seed string) (part_count_of t)
+    to_be_bytes w32 (ots_code_of t) ++ c
+    ++ concatenated (signed_part t id q seed string) (part_count_of t)
 
 -- the type code that a signature begins with
 abbrev pub code_in : List ℕ → ℕ
@@ -57,9 +61,11 @@ ended_part t id q string signature i =
 unfoldable pub candidate_key : OtsType → List ℕ → ℕ → List ℕ → List ℕ → List ℕ
 candidate_key t id q message signature =
     let string = with_checksum (message_digest id q (randomizer_in signature) message) t in
-    sha256 (public_prefix id q ++ concatenated (ended_part t id q string signature) (part_count_of t))
+    sha256
+    (public_prefix id q ++ concatenated (ended_part t id q string signature) (part_count_of t))
 
--- the public key to which a signature leads, or what is wrong with its form (section 4.6, algorithm 4b)
+-- the public key to which a signature leads, or what is wrong with its form (section 4.6, algorithm
+-- 4b)
 abbrev pub ots_candidate_of : OtsType → List ℕ → ℕ → List ℕ → List ℕ → Result (List ℕ) OtsFault
 ots_candidate_of t id q message signature =
     if length signature == ots_signature_len_of t

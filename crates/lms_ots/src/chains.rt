@@ -1,6 +1,6 @@
 //! The hash chains of a one-time key. Each string that is hashed here has 55 bytes, the most that
-//! one compression of SHA-256 takes: I, q, the chain's number `i`, a byte and 32 bytes more. Its first
-//! 22 bytes are written once for a chain.
+//! one compression of SHA-256 takes: I, q, the chain's number `i`, a byte and 32 bytes more. Its
+//! first 22 bytes are written once for a chain.
 
 ghost use Rattle.std.specs.Prelude.{◌≡◌, ◌-◌, ◌≤◌, ◌∷◌, ◌++◌, take};
 ghost use Rattle.sha2.specs.Sha256.{sha256};

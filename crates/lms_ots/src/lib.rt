@@ -15,9 +15,10 @@
 //! assert_eq!(rt; candidate, ots_public(OtsType::W4, &id, q, &seed));
 //! ```
 //!
-//! Proved: each call answers exactly what the RFC's text, written as definitions in `specs/`, gives for its arguments; and
-//! every signature leads to the public key of its seed ([`laws`]). Only tested: that these definitions, with the trees
-//! of `lms_tree`, make the signatures that another implementation makes. Neither: that signatures can't be forged.
+//! Proved: each call answers exactly what the RFC's text, written as definitions in `specs/`, gives
+//! for its arguments; and every signature leads to the public key of its seed ([`laws`]). Only
+//! tested: that these definitions, with the trees of `lms_tree`, make the signatures that another
+//! implementation makes. Neither: that signatures can't be forged.
 #![tactic(auto)]
 
 mod chains;

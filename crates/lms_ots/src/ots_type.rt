@@ -14,7 +14,8 @@ pub enum OtsType {
 
 impl OtsType {
     ghost use Rattle.lms_ots.specs.declared.ots_type.OtsType.{OtsType};
-    ghost use Rattle.lms_ots.specs.OtsType.{checksum_shift_of, ots_code_of, ots_signature_len_of, ots_type_with_code, part_count_of, width_of};
+    ghost use Rattle.lms_ots.specs.OtsType.{checksum_shift_of, ots_code_of, ots_signature_len_of};
+    ghost use Rattle.lms_ots.specs.OtsType.{ots_type_with_code, part_count_of, width_of};
 
     /// The type with this type code.
     pub fn from_code(code: u32) -> Option<OtsType>

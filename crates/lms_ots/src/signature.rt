@@ -2,7 +2,8 @@
 
 ghost use Rattle.std.specs.Prelude.{◌≡◌, ◌≢◌, ◌↔◌, ◌++◌, length, IfOk, IsErrOf};
 ghost use Rattle.lms_ots.specs.OtsType.{ots_code_of, ots_signature_len_of};
-ghost use Rattle.lms_ots.specs.Signatures.{candidate_key, code_in, message_digest, ots_candidate_of, ots_public_of, ots_signature_of};
+ghost use Rattle.lms_ots.specs.Signatures.{candidate_key, code_in, message_digest};
+ghost use Rattle.lms_ots.specs.Signatures.{ots_candidate_of, ots_public_of, ots_signature_of};
 
 use crate::chains::{chain, secret_part};
 use crate::coefficients::{coef, with_checksum};
@@ -47,7 +48,8 @@ pub fn ots_sign(
     c: &[u8; 32],
     message: &[u8],
 ) -> Result<Vec<u8>, Memory>
-    ensures value { IfOk result (λ v. v.items ≡ ots_signature_of t id.now q seed.now c.now message.now) }
+    ensures value { IfOk result
+        (λ v. v.items ≡ ots_signature_of t id.now q seed.now c.now message.now) }
     ensures leads_to_public { IfOk result (λ v.
         ots_candidate_of t id.now q message.now v.items ≡ Ok (ots_public_of t id.now q seed.now)) }
 {
@@ -65,8 +67,8 @@ pub fn ots_sign(
     Ok(signature)
 }
 
-/// The public key to which a signature of its type's length leads, where `prefix` and then `message` were
-/// signed as one message: steps 3 and 4 of algorithm 4b of RFC 8554, section 4.6.
+/// The public key to which a signature of its type's length leads, where `prefix` and then
+/// `message` were signed as one message: steps 3 and 4 of algorithm 4b of RFC 8554, section 4.6.
 pub fn ots_candidate_key(
     t: OtsType,
     id: &[u8; 16],
@@ -103,9 +105,11 @@ pub fn ots_candidate(
     signature: &[u8],
 ) -> Result<[u8; 32], OtsFault>
     ensures value { result ≡ ots_candidate_of t id.now q message.now signature.now }
-    ensures bad_length { IsErrOf result OtsFault.BadLength ↔ (length signature.now ≢ ots_signature_len_of t) }
+    ensures bad_length { IsErrOf result OtsFault.BadLength
+        ↔ (length signature.now ≢ ots_signature_len_of t) }
     ensures bad_type { IsErrOf result OtsFault.BadType
-        ↔ ((length signature.now ≡ ots_signature_len_of t) × (code_in signature.now ≢ ots_code_of t)) }
+        ↔ ((length signature.now ≡ ots_signature_len_of t)
+        × (code_in signature.now ≢ ots_code_of t)) }
 {
     if signature.len() != t.signature_len() {
         return Err(OtsFault::BadLength);

@@ -2,8 +2,8 @@
 //!
 //! A [`Signer`] joins a tree of keys and the leaf numbers of its leaf file. It draws [`Ticket`]s,
 //! and a ticket signs one message: the signature that succeeds spends it, and a ticket that is not
-//! to sign is given up. A ticket has no `Drop`, so none is forgotten on the way; a [`KeptTicket`] has, for
-//! a value that holds one over several calls.
+//! to sign is given up. A ticket has no `Drop`, so none is forgotten on the way; a [`KeptTicket`]
+//! has, for a value that holds one over several calls.
 //!
 //! ```text
 //! let mut signer = Signer::open(tree, leaves);
@@ -16,8 +16,8 @@
 //!
 //! Proved: a draw gives the next leaf of the file, with the faults of `lms_leaf`; a signature is
 //! RFC 8554's by the ticket's leaf, and verifies under the public key. Only tested: that one
-//! signature is Bouncy Castle's. Neither: that a ticket is given to the signer that drew it, as it has
-//! to be, since another has other keys.
+//! signature is Bouncy Castle's. Neither: that a ticket is given to the signer that drew it, as it
+//! has to be, since another has other keys.
 #![tactic(auto)]
 
 mod signer;

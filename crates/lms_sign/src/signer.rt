@@ -90,9 +90,9 @@ impl<D: LeafDisk> Signer<D> {
         self.tree.public()
     }
 
-    /// The leaf that the next draw gives, or the count of leaves if all are drawn. No crash makes the
-    /// blocks of the leaves drawn since the opening of the leaf file free again, and whatever a crash
-    /// leaves, a later opening goes on at this leaf or above it.
+    /// The leaf that the next draw gives, or the count of leaves if all are drawn. No crash makes
+    /// the blocks of the leaves drawn since the opening of the leaf file free again, and whatever a
+    /// crash leaves, a later opening goes on at this leaf or above it.
     pub fn next_leaf(&self) -> u32
         ensures value { result ≡ self.now.leaves.next }
         ensures forward { self.now.leaves.next_at_open ≤ result }
@@ -105,8 +105,8 @@ impl<D: LeafDisk> Signer<D> {
         self.leaves.next()
     }
 
-    /// Gives the disk of the leaf file back. No crash makes the blocks of the leaves drawn since its
-    /// opening free again, and a later opening goes on at the next leaf or above it.
+    /// Gives the disk of the leaf file back. No crash makes the blocks of the leaves drawn since
+    /// its opening free again, and a later opening goes on at the next leaf or above it.
     pub fn close(self) -> D
         ensures value { result ≡ self.leaves.disk }
         ensures taken { AreTaken (disk_images (D.told result))

@@ -14,4 +14,5 @@ SignaturesVerify =
 
 -- the test that computes is true exactly where the signature verifies
 abbrev pub VerificationComputes : Type 0
-VerificationComputes = (key : LmsPublic) (message signature : List ℕ) → IsTrue (verifies key message signature) ↔ Verifies key message signature
+VerificationComputes = (key : LmsPublic) (message signature : List ℕ)
+    → IsTrue (verifies key message signature) ↔ Verifies key message signature

@@ -1,5 +1,6 @@
 -- The nodes of a tree (RFC 8554, section 5.3), and the way up from a leaf (section 5.4.2).
-use Rattle.std.specs.Prelude.{ℕ, zero, suc, ◌+◌, ◌-◌, ◌*◌, ◌/◌, ◌%◌, ◌^◌, ◌==◌, List, ◌∷◌, ◌++◌, take, drop, if◌then◌else◌}
+use Rattle.std.specs.Prelude.{ℕ, zero, suc, ◌+◌, ◌-◌, ◌*◌, ◌/◌, ◌%◌, ◌^◌, ◌==◌, List, ◌∷◌, ◌++◌}
+use Rattle.std.specs.Prelude.{take, drop, if◌then◌else◌}
 use Rattle.std.specs.Int.{w32, to_be_bytes}
 use Rattle.sha2.specs.Sha256.{sha256}
 use Rattle.lms_ots.specs.declared.ots_type.OtsType.{OtsType}
@@ -16,7 +17,8 @@ inner_value id r left right = sha256 (id ++ to_be_bytes w32 r ++ 0x83 ∷ 0x83 �
 -- T[r] of a tree of height h, where node r has k levels below it
 unfoldable pub node_of : OtsType → List ℕ → List ℕ → ℕ → ℕ → ℕ → List ℕ
 node_of t id seed h zero r = leaf_value id r (ots_public_of t id (r - 2 ^ h) seed)
-node_of t id seed h (suc k) r = inner_value id r (node_of t id seed h k (2 * r)) (node_of t id seed h k (2 * r + 1))
+node_of t id seed h (suc k) r =
+    inner_value id r (node_of t id seed h k (2 * r)) (node_of t id seed h k (2 * r + 1))
 
 -- the number of the node beside node r
 abbrev pub sibling : ℕ → ℕ

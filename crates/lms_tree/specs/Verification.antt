@@ -1,5 +1,6 @@
 -- When a signature verifies (RFC 8554, section 5.4.2).
-use Rattle.std.specs.Prelude.{◌≡◌, ℕ, ◌+◌, ◌*◌, ◌^◌, ◌<◌, ◌==◌, ◌&&◌, nat_lt, Bool, List, length, take, drop}
+use Rattle.std.specs.Prelude.{◌≡◌, ℕ, ◌+◌, ◌*◌, ◌^◌, ◌<◌, ◌==◌, ◌&&◌, nat_lt, Bool, List, length}
+use Rattle.std.specs.Prelude.{take, drop}
 use Rattle.std.specs.Str.{bytes_eq}
 use Rattle.lms_ots.specs.OtsType.{ots_code_of, ots_signature_len_of}
 use Rattle.lms_ots.specs.Signatures.{candidate_key}
@@ -12,8 +13,8 @@ use Rattle.lms_tree.specs.Nodes.{leaf_value, ancestor_of}
 abbrev pub lms_signature_len_of : LmsPublic → ℕ
 lms_signature_len_of key = 8 + ots_signature_len_of key.ots + 32 * height_of key.lms
 
--- the fields of a signature: the leaf number q, the LM-OTS signature, which begins with its type code, the LMS
--- type code and the path
+-- the fields of a signature: the leaf number q, the LM-OTS signature, which begins with its type
+-- code, the LMS type code and the path
 abbrev pub leaf_in : List ℕ → ℕ
 leaf_in signature = u32_at signature 0
 
@@ -29,7 +30,8 @@ lms_code_in key signature = u32_at signature (4 + ots_signature_len_of key.ots)
 abbrev pub path_in : LmsPublic → List ℕ → List ℕ
 path_in key signature = drop (8 + ots_signature_len_of key.ots) signature
 
--- the signature has the form of one under the key: its length, a leaf of the tree, and the key's type codes
+-- the signature has the form of one under the key: its length, a leaf of the tree, and the key's
+-- type codes
 pub record HasForm (key : LmsPublic) (signature : List ℕ) : Type 0 where
   pub size : length signature ≡ lms_signature_len_of key
   pub leaf : leaf_in signature < 2 ^ height_of key.lms
@@ -42,11 +44,13 @@ root_from key q path candidate =
     let r = 2 ^ height_of key.lms + q in
     ancestor_of key.id r (leaf_value key.id r candidate) path (height_of key.lms)
 
--- the root to which a signature of that form leads, through the one-time public key to which it leads
+-- the root to which a signature of that form leads, through the one-time public key to which it
+-- leads
 unfoldable pub root_in : LmsPublic → List ℕ → List ℕ → List ℕ
 root_in key message signature =
     let q = leaf_in signature in
-    root_from key q (path_in key signature) (candidate_key key.ots key.id q message (ots_signature_in key signature))
+    root_from key q (path_in key signature)
+    (candidate_key key.ots key.id q message (ots_signature_in key signature))
 
 -- the signature of the message verifies under the key
 pub record Verifies (key : LmsPublic) (message signature : List ℕ) : Type 0 where
@@ -62,4 +66,5 @@ has_form key signature =
     && (lms_code_in key signature == lms_code_of key.lms)
 
 unfoldable pub verifies : LmsPublic → List ℕ → List ℕ → Bool
-verifies key message signature = has_form key signature && bytes_eq (root_in key message signature) key.root
+verifies key message signature =
+    has_form key signature && bytes_eq (root_in key message signature) key.root

@@ -4,7 +4,8 @@
 //! public key alone and takes no memory. Which leaf comes next is not this crate's business: a
 //! leaf that signs two messages lets anyone forge a third.
 //!
-//! The leaves are nearly all of a tree's cost: `Tree::build_by_workers` shares them out among threads.
+//! The leaves are nearly all of a tree's cost: `Tree::build_by_workers` shares them out among
+//! threads.
 //!
 //! All numbers in keys, signatures and hashed strings are big-endian.
 //!
@@ -16,11 +17,12 @@
 //! assert!(rt; verify(&tree.public(), b"message", &signature));
 //! ```
 //!
-//! Proved: keys, signatures and verification are exactly those of the RFC's text, written as definitions in `specs/`, and
-//! every signature by every key verifies ([`laws`]); any number of workers builds the tree that one thread builds. Only
-//! tested: that these definitions give the keys and signatures that Bouncy Castle makes, for trees of heights 5 and 10,
-//! and verify its signatures up to height 25. Neither: that signatures can't be forged, that the chance from which seeds
-//! and randomizers come is good, and that seeds are wiped from memory: they are not.
+//! Proved: keys, signatures and verification are exactly those of the RFC's text, written as
+//! definitions in `specs/`, and every signature by every key verifies ([`laws`]); any number of
+//! workers builds the tree that one thread builds. Only tested: that these definitions give the
+//! keys and signatures that Bouncy Castle makes, for trees of heights 5 and 10, and verify its
+//! signatures up to height 25. Neither: that signatures can't be forged, that the chance from which
+//! seeds and randomizers come is good, and that seeds are wiped from memory: they are not.
 #![tactic(auto)]
 
 mod fields;

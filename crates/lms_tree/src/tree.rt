@@ -1,6 +1,7 @@
 //! The nodes of a tree, and what it signs.
 
-ghost use Rattle.std.specs.Prelude.{◌≡◌, ℕ, ◌+◌, ◌*◌, ◌^◌, ◌<◌, ◌≤◌, [], ◌++◌, length, slice_index_or, IfOk};
+ghost use Rattle.std.specs.Prelude.{◌≡◌, ℕ, ◌+◌, ◌*◌, ◌^◌, ◌<◌, ◌≤◌, [], ◌++◌, length};
+ghost use Rattle.std.specs.Prelude.{slice_index_or, IfOk};
 ghost use Rattle.std.specs.Int.{w32, to_be_bytes};
 ghost use Rattle.lms_ots.specs.Chains.{concatenated};
 ghost use Rattle.lms_ots.specs.Signatures.{ots_public_of};
@@ -37,7 +38,8 @@ impl Model for Tree {
 
     ghost view = { λ t. record { lms = t.lms; ots = t.ots; id = t.id; seed = t.seed } };
 
-    ghost invariant = { λ t. HasNodes (record { lms = t.lms; ots = t.ots; id = t.id; seed = t.seed }) t.nodes.items 1 };
+    ghost invariant = { λ t. HasNodes
+        (record { lms = t.lms; ots = t.ots; id = t.id; seed = t.seed }) t.nodes.items 1 };
 }
 
 // The value of leaf `q`, which is node `leaves + q`.
@@ -57,8 +59,9 @@ fn leaves_of(
     lms: LmsType,
     ots: OtsType,
 ) -> Result<Vec<[u8; 32]>, Memory>
-    ensures { IfOk result (λ nodes.
-        HasNodes (record { lms = lms; ots = ots; id = id.now; seed = seed.now }) nodes.items (2 ^ height_of lms)) }
+    ensures { IfOk result
+        (λ nodes. HasNodes (record { lms = lms; ots = ots; id = id.now; seed = seed.now })
+        nodes.items (2 ^ height_of lms)) }
 {
     let leaves = 1usize << lms.height();
     let mut nodes = vec![in alloc; [0u8; 32]; 2 * leaves]?;
@@ -102,8 +105,9 @@ fn leaves_by<R: Threads + Sync>(
     workers: u32,
 ) -> Result<Vec<[u8; 32]>, Memory>
     requires { 0 < workers }
-    ensures { IfOk result (λ nodes.
-        HasNodes (record { lms = lms; ots = ots; id = id.now; seed = seed.now }) nodes.items (2 ^ height_of lms)) }
+    ensures { IfOk result
+        (λ nodes. HasNodes (record { lms = lms; ots = ots; id = id.now; seed = seed.now })
+        nodes.items (2 ^ height_of lms)) }
 {
     let count = 1usize << lms.height();
     let mut nodes = vec![in alloc; [0u8; 32]; 2 * count]?;
@@ -128,8 +132,8 @@ fn assembled(
     code: u32,
     path: &[[u8; 32]],
 ) -> Result<Vec<u8>, Memory>
-    ensures { IfOk result (λ v. v.items ≡ to_be_bytes w32 q ++ ots_signature.now ++ to_be_bytes w32 code
-        ++ concatenated (value_at path.now) (length path.now)) }
+    ensures { IfOk result (λ v. v.items ≡ to_be_bytes w32 q ++ ots_signature.now
+        ++ to_be_bytes w32 code ++ concatenated (value_at path.now) (length path.now)) }
 {
     let len = ots_signature
         .len()
@@ -146,8 +150,8 @@ fn assembled(
 }
 
 impl Tree {
-    /// The tree of a seed. It computes the public key of every leaf, about 1,100 compressions of SHA-256 with W4 and
-    /// 8,700 with W8, and keeps `64 * 2^height` bytes.
+    /// The tree of a seed. It computes the public key of every leaf, about 1,100 compressions of
+    /// SHA-256 with W4 and 8,700 with W8, and keeps `64 * 2^height` bytes.
     pub fn build(
         alloc: Global,
         seed: &[u8; 32],
@@ -155,14 +159,16 @@ impl Tree {
         lms: LmsType,
         ots: OtsType,
     ) -> Result<Tree, Memory>
-        ensures ok { IfOk result (λ tree. tree ≡ record { lms = lms; ots = ots; id = id.now; seed = seed.now }) }
+        ensures ok { IfOk result
+            (λ tree. tree ≡ record { lms = lms; ots = ots; id = id.now; seed = seed.now }) }
     {
         let nodes = leaves_of(alloc, seed, id, lms, ots)?;
         Ok(Tree::above(seed, id, lms, ots, nodes))
     }
 
-    /// The tree that [`Tree::build`] builds. Its leaves are shared out among so many threads, in parts of equal length;
-    /// where no thread can be made for a part, the thread that was to start it computes the part itself.
+    /// The tree that [`Tree::build`] builds. Its leaves are shared out among so many threads, in
+    /// parts of equal length; where no thread can be made for a part, the thread that was to start
+    /// it computes the part itself.
     pub fn build_by_workers<R: Threads + Sync>(
         rt: &R,
         alloc: Global,
@@ -173,7 +179,8 @@ impl Tree {
         workers: u32,
     ) -> Result<Tree, Memory>
         requires range { 1 ≤ workers × workers ≤ 64 }
-        ensures ok { IfOk result (λ tree. tree ≡ record { lms = lms; ots = ots; id = id.now; seed = seed.now }) }
+        ensures ok { IfOk result
+            (λ tree. tree ≡ record { lms = lms; ots = ots; id = id.now; seed = seed.now }) }
     {
         let nodes = leaves_by(rt, alloc, seed, id, lms, ots, workers)?;
         Ok(Tree::above(seed, id, lms, ots, nodes))
@@ -187,7 +194,8 @@ impl Tree {
         ots: OtsType,
         mut nodes: Vec<[u8; 32]>,
     ) -> Tree
-        requires { HasNodes (record { lms = lms; ots = ots; id = id.now; seed = seed.now }) nodes.items (2 ^ height_of lms) }
+        requires { HasNodes (record { lms = lms; ots = ots; id = id.now; seed = seed.now })
+            nodes.items (2 ^ height_of lms) }
         ensures { result ≡ record { lms = lms; ots = ots; id = id.now; seed = seed.now } }
     {
         let leaves = 1usize << lms.height();
@@ -221,7 +229,8 @@ impl Tree {
     /// many as the tree is high.
     pub fn path(&self, alloc: Global, q: u32) -> Result<Vec<[u8; 32]>, Memory>
         requires { q < 2 ^ height_of self.now.lms }
-        ensures ok { IfOk result (λ path. path.items ≡ path_of self.now q (height_of self.now.lms)) }
+        ensures ok { IfOk result
+            (λ path. path.items ≡ path_of self.now q (height_of self.now.lms)) }
     {
         let height = self.lms.height();
         let mut path = Vec::with_capacity(alloc, height as usize)?;
@@ -244,7 +253,8 @@ impl Tree {
     ) -> Result<Vec<u8>, Memory>
         requires { q < 2 ^ height_of self.now.lms }
         ensures value { IfOk result (λ v. v.items ≡ lms_signature_of self.now q c.now message.now) }
-        ensures verifies { IfOk result (λ v. Verifies (lms_public_of self.now) message.now v.items) }
+        ensures verifies { IfOk result
+            (λ v. Verifies (lms_public_of self.now) message.now v.items) }
     {
         let ots_signature = ots_sign(alloc, self.ots, &self.id, q, &self.seed, c, message)?;
         let path = self.path(alloc, q)?;

@@ -10,7 +10,8 @@ use crate::public_key::LmsPublic;
 use lms_ots::ots_candidate_key;
 use sporc_base::is_same;
 
-// Whether a signature has the length that the key's types give, a leaf of the tree and the key's type codes.
+// Whether a signature has the length that the key's types give, a leaf of the tree and the key's
+// type codes.
 fn has_form(key: &LmsPublic, signature: &[u8]) -> bool
     ensures { IsTrue result ↔ HasForm key.now signature.now }
 {

@@ -41,8 +41,9 @@ fn main(rt: HostRuntime) -> ExitCode {
     }
 }
 
-// Files that stand, to the program's end, in the place of standard streams that are closed: the system gives the lowest free
-// number to each file that is opened, and what is written to standard output must reach no other file or link.
+// Files that stand, to the program's end, in the place of standard streams that are closed: the
+// system gives the lowest free number to each file that is opened, and what is written to standard
+// output must reach no other file or link.
 fn hold_streams(rt: &HostRuntime) -> [Option<File>; 3] {
     [hold_stream(rt), hold_stream(rt), hold_stream(rt)]
 }

@@ -1,5 +1,6 @@
 -- The first fault of a list of checks.
-use Rattle.std.specs.Prelude.{◌≡◌, ◌≢◌, Bool, true, false, List, [], ◌∷◌, Option, None, Some, Result, Ok, Err}
+use Rattle.std.specs.Prelude.{◌≡◌, ◌≢◌, Bool, true, false, List, [], ◌∷◌, Option, None, Some}
+use Rattle.std.specs.Prelude.{Result, Ok, Err}
 
 -- the fault, if a test fails
 abbrev pub unless : {F : Type 0} → Bool → F → Option F

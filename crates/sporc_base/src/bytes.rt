@@ -1,6 +1,7 @@
 //! Byte strings and tables.
 
-ghost use Rattle.std.specs.Prelude.{◌≡◌, ℕ, ◌↔◌, ◌+◌, ◌≤◌, ◌++◌, false, IsTrue, IfOk, length, take, drop, bytes_eq, slice_index_or};
+ghost use Rattle.std.specs.Prelude.{◌≡◌, ℕ, ◌↔◌, ◌+◌, ◌≤◌, ◌++◌, false, IsTrue, IfOk, length, take};
+ghost use Rattle.std.specs.Prelude.{drop, bytes_eq, slice_index_or};
 
 use crate::Memory;
 use std::alloc::Global;
@@ -18,7 +19,8 @@ pub fn is_same(a: &[u8], b: &[u8]) -> bool
 pub fn put_at(bytes: &mut [u8], place: usize, field: &[u8])
     requires in_bounds { place + length field.now ≤ length bytes.old }
     ensures value { take (place + length field.now) bytes.new ≡ take place bytes.old ++ field.now }
-    ensures rest { drop (place + length field.now) bytes.new ≡ drop (place + length field.now) bytes.old }
+    ensures rest { drop (place + length field.now) bytes.new
+        ≡ drop (place + length field.now) bytes.old }
 {
     bytes[place..place + field.len()].copy_from_slice(field);
 }

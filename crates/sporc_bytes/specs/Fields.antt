@@ -1,7 +1,9 @@
--- Fields read from the first byte on. Reading gives a value and what is left, or the first fault. Of a field the fault is
--- the place of its first byte, if it is cut short or has a forbidden value; `fault_as` makes any other fault of that.
--- Numbers are big-endian.
-use Rattle.std.specs.Prelude.{◌≡◌, ℕ, zero, suc, ◌+◌, ◌&&◌, Bool, true, false, nat_lt, nat_le, List, [], ◌∷◌, ◌++◌, length, take, drop, Option, None, Some, Result, Ok, Err, if◌then◌else◌}
+-- Fields read from the first byte on. Reading gives a value and what is left, or the first fault.
+-- Of a field the fault is the place of its first byte, if it is cut short or has a forbidden value;
+-- `fault_as` makes any other fault of that. Numbers are big-endian.
+use Rattle.std.specs.Prelude.{◌≡◌, ℕ, zero, suc, ◌+◌, ◌&&◌, Bool, true, false, nat_lt, nat_le, List}
+use Rattle.std.specs.Prelude.{[], ◌∷◌, ◌++◌, length, take, drop, Option, None, Some, Result, Ok}
+use Rattle.std.specs.Prelude.{Err, if◌then◌else◌}
 use Rattle.std.specs.Int.{Width, w32, byte_len, from_be_bytes, to_be_bytes}
 use Rattle.sporc_bytes.specs.declared.cursor.Short.{Short}
 

@@ -1,8 +1,10 @@
 //! Reading fields from the first byte on.
 
-ghost use Rattle.std.specs.Prelude.{◌≡◌, ◌<◌, ◌≤◌, ◌^◌, ◌+◌, ◌++◌, ◌↔◌, IsTrue, [], length, Ok, Err, IfOk, IfErr, OnErr};
+ghost use Rattle.std.specs.Prelude.{◌≡◌, ◌<◌, ◌≤◌, ◌^◌, ◌+◌, ◌++◌, ◌↔◌, IsTrue, [], length, Ok};
+ghost use Rattle.std.specs.Prelude.{Err, IfOk, IfErr, OnErr};
 ghost use Rattle.std.specs.Int.{w8, w16, w32, w64, to_be_bytes, from_be_bytes};
-ghost use Rattle.sporc_bytes.specs.Fields.{Reads, number_at, number_within, bytes_at, counted_at, counted, end_at};
+ghost use Rattle.sporc_bytes.specs.Fields.{Reads, number_at, number_within, bytes_at, counted_at};
+ghost use Rattle.sporc_bytes.specs.Fields.{counted, end_at};
 
 use std::marker::Model;
 use thiserror::Error;
@@ -141,7 +143,8 @@ impl<'a> Cursor<'a> {
         Ok(u16::from_be_bytes(bytes))
     }
 
-    /// The next two bytes as a number. `Short` exactly if fewer are left or the number isn't from `low` to `high`.
+    /// The next two bytes as a number. `Short` exactly if fewer are left or the number isn't from
+    /// `low` to `high`.
     #[tactic(auto, unfolding(crate::specs::Fields::number_within))]
     pub fn u16_within(&mut self, low: u32, high: u32) -> Result<u16, Short>
         ensures value { Reads (λ n. (n, self.new)) result (number_within low high w16 self.old) }
@@ -195,13 +198,15 @@ impl<'a> Cursor<'a> {
         Ok(<[u8; N]>::try_from(bytes).unwrap())
     }
 
-    /// The next counted string, of at most `limit` bytes. Its length and its bytes are two fields: `Short` has the place
-    /// of the length if that is cut short or above the limit, else the place of the bytes if they are cut short.
+    /// The next counted string, of at most `limit` bytes. Its length and its bytes are two fields:
+    /// `Short` has the place of the length if that is cut short or above the limit, else the place
+    /// of the bytes if they are cut short.
     #[tactic(auto, unfolding(crate::specs::Fields::counted_at))]
     pub fn counted(&mut self, limit: u32) -> Result<&'a [u8], Short>
         ensures ok { IfOk result (λ bytes. counted_at limit self.old ≡ Ok (bytes.now, self.new)) }
         ensures err { IfErr result (λ short. counted_at limit self.old ≡ Err short.0) }
-        ensures spelled { IfOk result (λ bytes. self.old.rest ≡ counted bytes.now ++ self.new.rest) }
+        ensures spelled { IfOk result
+            (λ bytes. self.old.rest ≡ counted bytes.now ++ self.new.rest) }
         ensures within { IfOk result (λ bytes. length bytes.now ≤ limit) }
         ensures unchanged { OnErr result (self.new ≡ self.old) }
     {

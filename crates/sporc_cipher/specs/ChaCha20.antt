@@ -1,7 +1,8 @@
--- The block function of ChaCha20 (RFC 8439, sections 2.1 to 2.3), in the cipher's original layout: 64 bits of
--- block number and 64 bits of stream number, where the RFC has 32 bits of counter and 96 of nonce. A word is
--- a number below 2 ^ 32, and a state is a list of 16 words.
-use Rattle.std.specs.Prelude.{ℕ, zero, suc, ◌+◌, ◌*◌, ◌/◌, ◌%◌, ◌^◌, List, [], ◌∷◌, bit_xor, slice_index}
+-- The block function of ChaCha20 (RFC 8439, sections 2.1 to 2.3), in the cipher's original layout:
+-- 64 bits of block number and 64 bits of stream number, where the RFC has 32 bits of counter and 96
+-- of nonce. A word is a number below 2 ^ 32, and a state is a list of 16 words.
+use Rattle.std.specs.Prelude.{ℕ, zero, suc, ◌+◌, ◌*◌, ◌/◌, ◌%◌, ◌^◌, List, [], ◌∷◌, bit_xor}
+use Rattle.std.specs.Prelude.{slice_index}
 use Rattle.std.specs.Int.{w32, rotate_left}
 
 -- the sum of two words, with the carry dropped
@@ -27,7 +28,8 @@ quarter_round a b c d =
 
 -- the quarter round on four words of a state (section 2.2)
 abbrev pub quarter_at : List ℕ → ℕ → ℕ → ℕ → ℕ → ℕ × ℕ × ℕ × ℕ
-quarter_at x a b c d = quarter_round (slice_index x a) (slice_index x b) (slice_index x c) (slice_index x d)
+quarter_at x a b c d =
+    quarter_round (slice_index x a) (slice_index x b) (slice_index x c) (slice_index x d)
 
 -- the quarter round on each column of the state, read as four rows of four words
 unfoldable pub column_round : List ℕ → List ℕ
@@ -60,7 +62,8 @@ key_word key i =
     slice_index key (4 * i) + slice_index key (4 * i + 1) * 2 ^ 8
     + slice_index key (4 * i + 2) * 2 ^ 16 + slice_index key (4 * i + 3) * 2 ^ 24
 
--- the constants, the eight words of the key, the block number and the stream number, low words first
+-- the constants, the eight words of the key, the block number and the stream number, low words
+-- first
 unfoldable pub first_state : List ℕ → ℕ → ℕ → List ℕ
 first_state key stream block =
     0x61707865 ∷ 0x3320646e ∷ 0x79622d32 ∷ 0x6b206574
@@ -68,7 +71,8 @@ first_state key stream block =
     ∷ key_word key 4 ∷ key_word key 5 ∷ key_word key 6 ∷ key_word key 7
     ∷ block % 2 ^ 32 ∷ block / 2 ^ 32 ∷ stream % 2 ^ 32 ∷ stream / 2 ^ 32 ∷ []
 
--- word i of a block of the stream: that of the state after 20 rounds, added to that of the first state
+-- word i of a block of the stream: that of the state after 20 rounds, added to that of the first
+-- state
 unfoldable pub block_word : List ℕ → ℕ → ℕ → ℕ → ℕ
 block_word key stream block i =
     let x = first_state key stream block in

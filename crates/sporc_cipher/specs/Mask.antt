@@ -11,7 +11,8 @@ stream_byte key stream place =
 -- the bytes from a place on, masked
 unfoldable pub mask_from : List ℕ → ℕ → ℕ → List ℕ → List ℕ
 mask_from key stream place [] = []
-mask_from key stream place (b ∷ bs) = bit_xor b (stream_byte key stream place) ∷ mask_from key stream (place + 1) bs
+mask_from key stream place (b ∷ bs) =
+    bit_xor b (stream_byte key stream place) ∷ mask_from key stream (place + 1) bs
 
 -- the bytes, masked from the first byte of the stream on
 abbrev pub mask_of : List ℕ → ℕ → List ℕ → List ℕ

@@ -12,9 +12,10 @@
 //! mask(&key, 3, &mut bytes);      // b"hello" again
 //! ```
 //!
-//! Proved: the mask is exactly the exclusive or with that stream, written as a definition from the RFC's text in `specs/`;
-//! a mask put on twice is taken off ([`laws`]). Only tested: that this definition gives the streams that OpenSSL gives.
-//! Neither: that nobody can tell a masked text from chance.
+//! Proved: the mask is exactly the exclusive or with that stream, written as a definition from the
+//! RFC's text in `specs/`; a mask put on twice is taken off ([`laws`]). Only tested: that this
+//! definition gives the streams that OpenSSL gives. Neither: that nobody can tell a masked text
+//! from chance.
 #![tactic(auto)]
 
 ghost use Rattle.std.specs.Prelude.{◌≡◌, ◌≤◌, length, bit_xor, slice_index, EachIndex};

@@ -1,5 +1,6 @@
 -- What all clients of a run agree on: the headline.
-use Rattle.std.specs.Prelude.{◌≡◌, ◌↔◌, ℕ, ◌+◌, ◌≤◌, true, false, List, [], ◌++◌, take, Some, IsSome, IsSomeAnd, Contains, Ok, slice_get}
+use Rattle.std.specs.Prelude.{◌≡◌, ◌↔◌, ℕ, ◌+◌, ◌≤◌, true, false, List, [], ◌++◌, take, Some}
+use Rattle.std.specs.Prelude.{IsSome, IsSomeAnd, Contains, Ok, slice_get}
 use Rattle.lms_tree.specs.LmsPublic.{public_key_in}
 use Rattle.lms_tree.specs.Verification.{verifies}
 use Rattle.sporc_hash.specs.Strings.{CollisionFree}
@@ -21,7 +22,8 @@ use Rattle.sporc_line.specs.Operations.{operations}
 use Rattle.sporc_client.specs.declared.fault.AcceptFault.TheVariants.{Refused}
 use Rattle.sporc_client.specs.PlainClient.{PlainClient, committed_of, shown_of}
 use Rattle.sporc_client.specs.Answers.{accept_fault, is_out}
-use Rattle.sporc_client.specs.Run.{Setup, Signing, Move, Give, start, after, after_all, world_at, IsAt}
+use Rattle.sporc_client.specs.Run.{Setup, Signing, Move, Give, start, after, after_all, world_at}
+use Rattle.sporc_client.specs.Run.{IsAt}
 use Rattle.sporc_client.specs.Genuine.{Genuine, HasSigned, IsUnderKeyOf}
 
 -- what a client reads off its history

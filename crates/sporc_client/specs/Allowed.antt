@@ -1,5 +1,7 @@
 -- Logs that a client can come to by its own calls.
-use Rattle.std.specs.Prelude.{ℕ, ◌+◌, ◌^◌, ◌==◌, nat_lt, Bool, true, false, ◌&&◌, List, [], ◌∷◌, ◌++◌, length, drop, take, is_none, unwrap_or, Option, None, Some, replicate, Result, Ok, Err}
+use Rattle.std.specs.Prelude.{ℕ, ◌+◌, ◌^◌, ◌==◌, nat_lt, Bool, true, false, ◌&&◌, List, [], ◌∷◌}
+use Rattle.std.specs.Prelude.{◌++◌, length, drop, take, is_none, unwrap_or, Option, None, Some}
+use Rattle.std.specs.Prelude.{replicate, Result, Ok, Err}
 use Rattle.std.specs.Str.{bytes_eq}
 use Rattle.std.specs.FinMap.{get}
 use Rattle.lms_tree.specs.LmsType.{height_of}
@@ -19,18 +21,21 @@ use Rattle.sporc_client.specs.Answers.{accept_fault, change_fault, discard_fault
 use Rattle.sporc_client.specs.Log.{Logged, Edit, Change, Submit, Dropped, Accept, Discard}
 use Rattle.sporc_client.specs.PlainClient.{Opening, PlainClient, opened}
 use Rattle.sporc_client.specs.Step.{step}
-use Rattle.sporc_client.specs.Submissions.{Due, Waiting, Nothing, Drop, Refuse, Sign, due, submission}
+use Rattle.sporc_client.specs.Submissions.{Due, Waiting, Nothing, Drop, Refuse, Sign, due}
+use Rattle.sporc_client.specs.Submissions.{submission}
 
 -- ---- what an entry shows of how it was made
 
--- the randomizer: a signature begins with its leaf and the type of its one-time key, each in four bytes
+-- the randomizer: a signature begins with its leaf and the type of its one-time key, each in four
+-- bytes
 abbrev pub randomizer_in : Entry → List ℕ
 randomizer_in e = take 32 (drop 8 e.signature)
 
 -- the key that is sealed in the first wrap, which its author can open
 abbrev pub first_sealed : Keys → ℕ → List Wrap → List ℕ
 first_sealed pairs stream [] = replicate 32 0
-first_sealed pairs stream (wrap ∷ wraps) = mask_of (unwrap_or (get pairs wrap.member) []) stream wrap.sealed
+first_sealed pairs stream (wrap ∷ wraps) =
+    mask_of (unwrap_or (get pairs wrap.member) []) stream wrap.sealed
 
 abbrev pub new_key_of : Keys → ℕ → Option ChangeBody → List ℕ
 new_key_of pairs stream None = replicate 32 0
@@ -52,9 +57,8 @@ is_entry bytes (Err fault) = false
 -- a submission makes exactly these bytes, with the leaf and the random bytes that they show
 abbrev pub is_made : PlainClient → List ℕ → Result Entry ℕ → Bool
 is_made c bytes (Err at) = false
-is_made c bytes (Ok e) =
-    nat_lt e.header.leaf (2 ^ height_of c.opening.key.lms)
-    && is_entry bytes (submission c (randomizer_in e ++ new_key_in c.opening.kit.pairs e) (Ok e.header.leaf))
+is_made c bytes (Ok e) = nat_lt e.header.leaf (2 ^ height_of c.opening.key.lms) && is_entry bytes
+    (submission c (randomizer_in e ++ new_key_in c.opening.kit.pairs e) (Ok e.header.leaf))
 
 -- a submission takes the first pending item off for this fault
 abbrev pub is_drop : ChangeFault → Due → Bool

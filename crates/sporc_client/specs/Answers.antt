@@ -1,5 +1,7 @@
 -- What the calls of a client answer: edits, changes, entries that come, and going back.
-use Rattle.std.specs.Prelude.{ℕ, ◌==◌, nat_le, nat_lt, Bool, not, ◌&&◌, is_some, List, [], ◌∷◌, length, Option, None, Some, option_map, Result, Ok, Err, if◌then◌else◌}
+use Rattle.std.specs.Prelude.{ℕ, ◌==◌, nat_le, nat_lt, Bool, not, ◌&&◌, is_some, List, [], ◌∷◌}
+use Rattle.std.specs.Prelude.{length, Option, None, Some, option_map, Result, Ok, Err}
+use Rattle.std.specs.Prelude.{if◌then◌else◌}
 use Rattle.std.specs.Option.{option_or}
 use Rattle.sporc_base.specs.FirstFault.{unless, first_of}
 use Rattle.sporc_delta.specs.Format.{delta_bytes}
@@ -23,7 +25,8 @@ use Rattle.sporc_client.specs.PlainClient.{PlainClient, me_of, shown_after}
 abbrev pub is_out : PlainClient → Bool
 is_out c = is_removed c.opening.kit.me c.entries
 
--- whether the client's device is live and its member may make entries of this kind, 1 for edits and 2 for changes
+-- whether the client's device is live and its member may make entries of this kind, 1 for edits and
+-- 2 for changes
 abbrev pub has_right : PlainClient → ℕ → Bool
 has_right c kind =
     allows_member kind (member_at (roster_of c.opening.genesis c.entries) (me_of c).member)
@@ -43,12 +46,11 @@ room_checks pending events =
 -- the checks of an edit, which is stated on the text that was shown after so many events
 abbrev pub edit_checks : PlainClient → ℕ → List Mark → List (Option EditFault)
 edit_checks c seen marks =
-    unless (not (is_out c)) edits.Removed
-    ∷ unless (has_right c 1) edits.NoRight
+    unless (not (is_out c)) edits.Removed ∷ unless (has_right c 1) edits.NoRight
     ∷ unless (nat_le seen (length c.shown)) (edits.SeenAhead (length c.shown))
     ∷ unless (base_len marks == length (shown_after seen c)) edits.WrongLength
-    ∷ unless (nat_le (length (delta_bytes marks)) MAX_EDIT_BYTES) (edits.TooLong (length (delta_bytes marks)))
-    ∷ room_checks (length c.pending) (length c.shown)
+    ∷ unless (nat_le (length (delta_bytes marks)) MAX_EDIT_BYTES)
+    (edits.TooLong (length (delta_bytes marks))) ∷ room_checks (length c.pending) (length c.shown)
 
 unfoldable pub edit_fault : PlainClient → ℕ → List Mark → Option EditFault
 edit_fault c seen marks = first_of (edit_checks c seen marks)

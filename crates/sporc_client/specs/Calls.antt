@@ -1,5 +1,5 @@
--- Calls of clients as moves of a run. What a call did is what its contract says of the log: it added events, or it began it
--- anew.
+-- Calls of clients as moves of a run. What a call did is what its contract says of the log: it
+-- added events, or it began it anew.
 use Rattle.std.specs.Prelude.{◌≡◌, ◌≢◌, List, map, Some}
 use Rattle.sporc_member.specs.declared.device.Device.{Device}
 use Rattle.sporc_client.specs.Log.{Logged}
@@ -10,8 +10,11 @@ use Rattle.sporc_client.specs.Run.{Setup, World, Move, Happen, IsRun, after_all}
 abbrev pub events_of : Device → List Logged → List Move
 events_of who log = map (Happen who) log
 
--- moves that may happen in a world, and lead to this client of a device, and leave all other clients
-pub record LeadTo (s : Setup) (w : World) (moves : List Move) (who : Device) (c : PlainClient) : Type 0 where
+-- moves that may happen in a world, and lead to this client of a device, and leave all other
+-- clients
+pub record LeadTo (s : Setup) (w : World) (moves : List Move) (who : Device)
+    (c : PlainClient) : Type 0 where
   pub run : IsRun s w moves
   pub client : (after_all s w moves).clients who ≡ Some c
-  pub others : (other : Device) → other ≢ who → (after_all s w moves).clients other ≡ w.clients other
+  pub others : (other : Device) → other ≢ who
+      → (after_all s w moves).clients other ≡ w.clients other

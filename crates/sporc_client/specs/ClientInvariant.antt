@@ -12,7 +12,8 @@ use Rattle.sporc_client.specs.Small.{IsSmall}
 use Rattle.sporc_client.specs.Soundness.{IsSound}
 use Rattle.sporc_client.specs.Workspace.{WorkspaceModel}
 
-abbrev pub client_model : {D : Type 0} → LineModel → SignerModel D → Option ℕ → WorkspaceModel → ClientModel D
+abbrev pub client_model : {D : Type 0} → LineModel → SignerModel D → Option ℕ → WorkspaceModel
+    → ClientModel D
 client_model line signer ticket own = record {
   opening = record { genesis = line.genesis; kit = line.kit; key = signer.key };
   log = log_of line.entries own.journal;
@@ -35,12 +36,15 @@ pub record Stores (log : List Logged) (line : LineModel) (own : WorkspaceModel) 
   pub entries : line.entries ≡ accepted_in log
   pub journal : own.journal ≡ journal_of log
 
-pub record ClientInvariant {D : Type 0} (line : LineModel) (signer : SignerModel D) (ticket : Option ℕ) (own : WorkspaceModel) : Type 0 where
+pub record ClientInvariant {D : Type 0} (line : LineModel) (signer : SignerModel D)
+    (ticket : Option ℕ) (own : WorkspaceModel) : Type 0 where
   pub stores : Stores (log_of line.entries own.journal) line own
   -- the fields are what the log makes of them
   pub state : plain_of signer.key line own ≡ state_of (client_model line signer ticket own)
-  pub allowed : is_allowed (client_model line signer ticket own).opening (log_of line.entries own.journal) ≡ true
+  pub allowed : is_allowed (client_model line signer ticket own).opening
+      (log_of line.entries own.journal) ≡ true
   pub sound : IsSound (plain_of signer.key line own)
   pub small : IsSmall (plain_of signer.key line own)
   pub unspent : IfSome ticket (λ leaf. leaf < 2 ^ height_of signer.key.lms)
-  pub leaves : AreInOrder signer.leaves.next_at_open signer.leaves.next ticket (leaves_of (log_of line.entries own.journal))
+  pub leaves : AreInOrder signer.leaves.next_at_open signer.leaves.next ticket
+      (leaves_of (log_of line.entries own.journal))

@@ -1,5 +1,6 @@
 -- What contracts see of a client, and of its leaves.
-use Rattle.std.specs.Prelude.{◌≡◌, ℕ, ◌+◌, ◌-◌, ◌<◌, ◌≤◌, List, [], ◌∷◌, length, Option, None, Some, IfSome, ⊤}
+use Rattle.std.specs.Prelude.{◌≡◌, ℕ, ◌+◌, ◌-◌, ◌<◌, ◌≤◌, List, [], ◌∷◌, length, Option, None, Some}
+use Rattle.std.specs.Prelude.{IfSome, ⊤}
 use Rattle.std.specs.List.{filter_map}
 use Rattle.std.specs.Option.{option_map}
 use Rattle.std.specs.Result.{result_ok}
@@ -39,7 +40,8 @@ abbrev pub kept_count : Option ℕ → ℕ
 kept_count None = 0
 kept_count (Some leaf) = 1
 
--- The leaf that was next as the log began. So each leaf that was drawn since signed one of its submissions, or is kept.
+-- The leaf that was next as the log began. So each leaf that was drawn since signed one of its
+-- submissions, or is kept.
 abbrev pub first_leaf_of : {D : Type 0} → ClientModel D → ℕ
 first_leaf_of c = c.leaves.next - (length (leaves_of c.log) + kept_count c.ticket)
 
@@ -49,8 +51,8 @@ pub record IsKept (first end : ℕ) (signed : List ℕ) (leaf : ℕ) : Type 0 wh
   pub last : leaf + 1 ≡ end
   pub unsigned : Rise first leaf signed
 
--- the leaves that signed rise, from a base on that is not below the first, and below the end; that of a kept ticket comes
--- after them; and no other one was drawn from the base on
+-- the leaves that signed rise, from a base on that is not below the first, and below the end; that
+-- of a kept ticket comes after them; and no other one was drawn from the base on
 pub record AreInOrder (first end : ℕ) (ticket : Option ℕ) (signed : List ℕ) : Type 0 where
   pub base : ℕ
   pub opened : first ≤ base

@@ -10,7 +10,9 @@ use Rattle.lms_tree.specs.declared.lms_type.LmsType.TheVariants.{H5, H10, H15, H
 use Rattle.lms_tree.specs.LmsPrivate.{LmsPrivate}
 use Rattle.sporc_delta.specs.Marks.{Mark, Keep, Remove, Insert}
 use Rattle.sporc_member.specs.declared.change.Change.{Change as MemberChange}
-use Rattle.sporc_member.specs.declared.change.Change.TheVariants.{Add, Remove as RemoveMember, SetRole, AddDevice, DropDevice, Upgrade}
+use Rattle.sporc_member.specs.declared.change.Change.TheVariants.{Add, Remove as RemoveMember}
+use Rattle.sporc_member.specs.declared.change.Change.TheVariants.{SetRole, AddDevice, DropDevice}
+use Rattle.sporc_member.specs.declared.change.Change.TheVariants.{Upgrade}
 use Rattle.sporc_member.specs.declared.change.ChangeFault.{ChangeFault}
 use Rattle.sporc_member.specs.declared.change.ChangeFault.TheVariants as faults
 use Rattle.sporc_member.specs.ChangeFault.{change_fault_code_of}
@@ -32,7 +34,9 @@ lms_number H20 = 3
 lms_number H25 = 4
 
 abbrev pub lms_numbered : ℕ → LmsType
-lms_numbered n = if n == 0 then H5 else (if n == 1 then H10 else (if n == 2 then H15 else (if n == 3 then H20 else H25)))
+lms_numbered n =
+    if n == 0 then H5
+    else (if n == 1 then H10 else (if n == 2 then H15 else (if n == 3 then H20 else H25)))
 
 pub lms_again : (t : LmsType) → lms_numbered (lms_number t) ≡ t
 lms_again H5 = refl
@@ -63,9 +67,10 @@ abbrev pub ots_code : Coded OtsType
 ots_code = code_by ℕ coded_ℕ ots_number ots_numbered ots_again
 
 abbrev pub private_code : Coded LmsPrivate
-private_code =
-    code_by (LmsType × (OtsType × (List ℕ × List ℕ))) (coded× lms_code (coded× ots_code (coded× (coded_list coded_ℕ) (coded_list coded_ℕ))))
-    (λ k. (k.lms, (k.ots, (k.id, k.seed)))) (λ p. record { lms = p.0; ots = p.1.0; id = p.1.1.0; seed = p.1.1.1 }) (λ _. refl)
+private_code = code_by (LmsType × (OtsType × (List ℕ × List ℕ)))
+    (coded× lms_code (coded× ots_code (coded× (coded_list coded_ℕ) (coded_list coded_ℕ))))
+    (λ k. (k.lms, (k.ots, (k.id, k.seed))))
+    (λ p. record { lms = p.0; ots = p.1.0; id = p.1.1.0; seed = p.1.1.1 }) (λ _. refl)
 
 -- ---- logs
 
@@ -113,7 +118,9 @@ change_again (DropDevice member device) = refl
 change_again Upgrade = refl
 
 abbrev pub change_code : Coded MemberChange
-change_code = code_by ChangeParts (coded× coded_ℕ (coded× coded_ℕ (coded× coded_ℕ (coded_list coded_ℕ)))) change_parts change_of_parts change_again
+change_code =
+    code_by ChangeParts (coded× coded_ℕ (coded× coded_ℕ (coded× coded_ℕ (coded_list coded_ℕ))))
+    change_parts change_of_parts change_again
 
 abbrev pub fault_of_number : ℕ → ChangeFault
 fault_of_number n =
@@ -151,7 +158,8 @@ abbrev pub LoggedParts : Type 0
 LoggedParts = ℕ × (ℕ × (ℕ × (List Mark × (MemberChange × (ChangeFault × List ℕ)))))
 
 abbrev pub logged_parts : Logged → LoggedParts
-logged_parts (Edit by seen marks) = (0, (by, (seen, (marks, (RemoveMember 0, (faults.NumberUsed, []))))))
+logged_parts (Edit by seen marks) =
+    (0, (by, (seen, (marks, (RemoveMember 0, (faults.NumberUsed, []))))))
 logged_parts (Change by change) = (1, (by, (0, ([], (change, (faults.NumberUsed, []))))))
 logged_parts (Submit by bytes) = (2, (by, (0, ([], (RemoveMember 0, (faults.NumberUsed, bytes))))))
 logged_parts (Dropped by fault) = (3, (by, (0, ([], (RemoveMember 0, (fault, []))))))
@@ -176,24 +184,33 @@ logged_again (Accept by bytes) = refl
 logged_again (Discard by) = refl
 
 abbrev pub logged_code : Coded Logged
-logged_code =
-    code_by LoggedParts (coded× coded_ℕ (coded× coded_ℕ (coded× coded_ℕ (coded× (coded_list mark_code) (coded× change_code (coded× fault_code (coded_list coded_ℕ)))))))
+logged_code = code_by LoggedParts (coded× coded_ℕ (coded× coded_ℕ (coded× coded_ℕ
+    (coded× (coded_list mark_code) (coded× change_code (coded× fault_code (coded_list coded_ℕ)))))))
     logged_parts logged_of_parts logged_again
 
 -- ---- clients
 
 abbrev pub opening_code : Coded Opening
-opening_code =
-    code_by (Genesis × (Kit × LmsPrivate)) (coded× genesis_code (coded× kit_code private_code))
-    (λ o. (o.genesis, (o.kit, o.key))) (λ p. record { genesis = p.0; kit = p.1.0; key = p.1.1 }) (λ _. refl)
+opening_code = code_by (Genesis × (Kit × LmsPrivate))
+    (coded× genesis_code (coded× kit_code private_code)) (λ o. (o.genesis, (o.kit, o.key)))
+    (λ p. record { genesis = p.0; kit = p.1.0; key = p.1.1 }) (λ _. refl)
 
 abbrev pub leaves_code : {D : Type 0} → Coded D → Coded (LeavesModel D)
-leaves_code {D} disk =
-    code_by (D × (ℕ × (ℕ × (ℕ × (Bool × ℕ))))) (coded× disk (coded× coded_ℕ (coded× coded_ℕ (coded× coded_ℕ (coded× coded_bool coded_ℕ)))))
+leaves_code {D} disk = code_by (D × (ℕ × (ℕ × (ℕ × (Bool × ℕ)))))
+    (coded× disk (coded× coded_ℕ (coded× coded_ℕ (coded× coded_ℕ (coded× coded_bool coded_ℕ)))))
     (λ l. (l.disk, (l.next, (l.next_at_open, (l.leaf_count, (l.faulty, l.faults_at_open))))))
-    (λ p. record { disk = p.0; next = p.1.0; next_at_open = p.1.1.0; leaf_count = p.1.1.1.0; faulty = p.1.1.1.1.0; faults_at_open = p.1.1.1.1.1 }) (λ _. refl)
+    (λ p. record {
+      disk = p.0;
+      next = p.1.0;
+      next_at_open = p.1.1.0;
+      leaf_count = p.1.1.1.0;
+      faulty = p.1.1.1.1.0;
+      faults_at_open = p.1.1.1.1.1;
+    }) (λ _. refl)
 
 abbrev pub client_code : {D : Type 0} → Coded D → Coded (ClientModel D)
 client_code {D} disk =
-    code_by (Opening × (List Logged × (LeavesModel D × Option ℕ))) (coded× opening_code (coded× (coded_list logged_code) (coded× (leaves_code disk) (coded_option coded_ℕ))))
-    (λ c. (c.opening, (c.log, (c.leaves, c.ticket)))) (λ p. record { opening = p.0; log = p.1.0; leaves = p.1.1.0; ticket = p.1.1.1 }) (λ _. refl)
+    code_by (Opening × (List Logged × (LeavesModel D × Option ℕ))) (coded× opening_code
+    (coded× (coded_list logged_code) (coded× (leaves_code disk) (coded_option coded_ℕ))))
+    (λ c. (c.opening, (c.log, (c.leaves, c.ticket))))
+    (λ p. record { opening = p.0; log = p.1.0; leaves = p.1.1.0; ticket = p.1.1.1 }) (λ _. refl)

@@ -7,13 +7,15 @@ use Rattle.sporc_client.specs.declared.pending.Pending.{Pending}
 use Rattle.sporc_client.specs.Passing.{CanAllBecome, all_became}
 use Rattle.sporc_client.specs.Rebasing.{beyond, rebased}
 
--- it is the entry on its way, or another change, or another edit, with the pending items behind it, by the member or not
+-- it is the entry on its way, or another change, or another edit, with the pending items behind it,
+-- by the member or not
 pub data Effect : Type 0 where
   Own : Effect
   Change : Effect
   Edit : List Pending → Bool → Effect
 
--- by whether it is the entry on its way, whether it is a change, whether it is one of the member's own, and its form
+-- by whether it is the entry on its way, whether it is a change, whether it is one of the member's
+-- own, and its form
 abbrev pub coming_of : (on_its_way change own : Bool) → List Mark → List Pending → Effect
 coming_of on_its_way change own form pending =
     if on_its_way then Own

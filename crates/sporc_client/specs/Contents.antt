@@ -21,12 +21,13 @@ use Rattle.sporc_client.specs.Log.{Submit}
 use Rattle.sporc_client.specs.PlainClient.{PlainClient}
 use Rattle.sporc_client.specs.Soundness.{IsInFlight}
 
--- an edit has few enough bytes; a change is accepted by the members, with a pairwise key for each of them after it
+-- an edit has few enough bytes; a change is accepted by the members, with a pairwise key for each
+-- of them after it
 abbrev pub Fits : LineModel → Pending → Type 0
 Fits line (Edit marks) = length (delta_bytes marks) ≤ MAX_HEAD_BYTES
-Fits line (Change change) =
-    (change_fault_of (roster_of line.genesis line.entries) change ≡ None)
-    × (least_unpaired line.kit.pairs (numbers_of (after_change (roster_of line.genesis line.entries) change).members) ≡ None)
+Fits line (Change change) = (change_fault_of (roster_of line.genesis line.entries) change ≡ None)
+    × (least_unpaired line.kit.pairs
+    (numbers_of (after_change (roster_of line.genesis line.entries) change).members) ≡ None)
 
 -- the history is good and has room, it doesn't remove the device, which is live, and the item fits
 pub record CanTake (line : LineModel) (item : Pending) : Type 0 where
@@ -39,9 +40,12 @@ pub record CanTake (line : LineModel) (item : Pending) : Type 0 where
 -- what the entry of an item holds is spelled as its format has it
 abbrev pub IsSpelled : PlainClient → Chosen → Pending → Type 0
 IsSpelled c chosen (Edit marks) = IsTypedDelta marks
-IsSpelled c chosen (Change change) = IsChangeBody (version_of (roster_of c.opening.genesis c.entries).upgraded) (body_sealed (sealing_of c chosen change) c.opening.kit.pairs)
+IsSpelled c chosen (Change change) =
+    IsChangeBody (version_of (roster_of c.opening.genesis c.entries).upgraded)
+    (body_sealed (sealing_of c chosen change) c.opening.kit.pairs)
 
--- a client can submit these bytes, signed by this leaf: its log allows them, and they are the entry of its first item
+-- a client can submit these bytes, signed by this leaf: its log allows them, and they are the entry
+-- of its first item
 pub record IsSubmission (c : PlainClient) (leaf : ℕ) (bytes : List ℕ) : Type 0 where
   pub allowed : is_made c bytes (entry_of bytes) ≡ true
   pub leaf_is : leaf_in (Submit 0 bytes) ≡ Some leaf

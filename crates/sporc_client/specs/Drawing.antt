@@ -1,5 +1,6 @@
 -- The leaf of a submission: that of the ticket that is kept, or else one that is drawn.
-use Rattle.std.specs.Prelude.{◌≡◌, ℕ, ◌^◌, ◌<◌, ◌==◌, Bool, true, false, ◌&&◌, is_none, if◌then◌else◌, Option, None, Some, Result, Ok, Err, ⊤}
+use Rattle.std.specs.Prelude.{◌≡◌, ℕ, ◌^◌, ◌<◌, ◌==◌, Bool, true, false, ◌&&◌, is_none}
+use Rattle.std.specs.Prelude.{if◌then◌else◌, Option, None, Some, Result, Ok, Err, ⊤}
 use Rattle.sporc_outside.specs.LeafDisk.{DiskTold}
 use Rattle.lms_tree.specs.LmsType.{height_of}
 use Rattle.lms_leaf.specs.Leaves.{DrawFaults, Draws, LeavesModel}
@@ -19,7 +20,8 @@ drawn old new =
     else if new.faulty then Err DiskFault
     else Ok old.next
 
--- what the drawing of a leaf may answer a client: a leaf of its key, or that all of them are drawn, with their number
+-- what the drawing of a leaf may answer a client: a leaf of its key, or that all of them are drawn,
+-- with their number
 abbrev pub MayDraw : PlainClient → Result ℕ LeafFault → Type 0
 MayDraw c (Ok leaf) = leaf < 2 ^ height_of c.opening.key.lms
 MayDraw c (Err (Exhausted next)) = next ≡ 2 ^ height_of c.opening.key.lms

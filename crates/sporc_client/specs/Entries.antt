@@ -18,7 +18,8 @@ use Rattle.sporc_client.specs.declared.pending.Pending.{Pending}
 use Rattle.sporc_client.specs.declared.pending.Pending.TheVariants.{Edit, Change}
 use Rattle.sporc_client.specs.PlainClient.{PlainClient, me_of}
 
--- the leaf that signs, and the random bytes: 32 for the signature, and 32 that are the next epoch's key if it is a change
+-- the leaf that signs, and the random bytes: 32 for the signature, and 32 that are the next epoch's
+-- key if it is a change
 pub record Chosen : Type 0 where
   pub leaf : ℕ
   pub randomizer : List ℕ
@@ -26,7 +27,8 @@ pub record Chosen : Type 0 where
 
 -- the key of the history's epoch
 abbrev pub current_key : PlainClient → List ℕ
-current_key c = unwrap_or (epoch_key c.opening.genesis c.opening.kit c.entries (epoch_of c.entries)) []
+current_key c =
+    unwrap_or (epoch_key c.opening.genesis c.opening.kit c.entries (epoch_of c.entries)) []
 
 -- 1 for an edit, 2 for a change
 abbrev pub kind_of : Pending → ℕ
@@ -63,17 +65,23 @@ sealing_of c chosen change = record {
 
 -- the body: an edit's bytes masked under the epoch's key, or a change with the sealed keys
 abbrev pub body_of : PlainClient → Chosen → Pending → List ℕ
-body_of c chosen (Edit marks) = mask_of (current_key c) (entry_stream (me_of c) chosen.leaf) (delta_bytes marks)
-body_of c chosen (Change change) = change_body_bytes (body_sealed (sealing_of c chosen change) c.opening.kit.pairs)
+body_of c chosen (Edit marks) =
+    mask_of (current_key c) (entry_stream (me_of c) chosen.leaf) (delta_bytes marks)
+body_of c chosen (Change change) =
+    change_body_bytes (body_sealed (sealing_of c chosen change) c.opening.kit.pairs)
 
 abbrev pub unsigned_entry : PlainClient → Chosen → Pending → Entry
-unsigned_entry c chosen item = record { header = next_header c chosen.leaf item; body = body_of c chosen item; signature = [] }
+unsigned_entry c chosen item =
+    record { header = next_header c chosen.leaf item; body = body_of c chosen item; signature = [] }
 
 -- the one entry that a client makes of an item
 unfoldable pub entry_made : PlainClient → Chosen → Pending → Entry
 entry_made c chosen item =
     let unsigned = unsigned_entry c chosen item in
-    record unsigned { signature = lms_signature_of c.opening.key chosen.leaf chosen.randomizer (signed_string unsigned) }
+    record unsigned {
+      signature = lms_signature_of c.opening.key chosen.leaf chosen.randomizer
+          (signed_string unsigned);
+    }
 
 -- and its bytes
 abbrev pub bytes_made : PlainClient → Chosen → Pending → List ℕ

@@ -1,9 +1,11 @@
 -- Which leaves a client's entries are signed by, over all its calls.
-use Rattle.std.specs.Prelude.{◌≡◌, ℕ, ◌+◌, ◌≤◌, List, [], ◌∷◌, Option, None, Some, Result, Ok, Err, ◌⊎◌, ⊤, refl}
+use Rattle.std.specs.Prelude.{◌≡◌, ℕ, ◌+◌, ◌≤◌, List, [], ◌∷◌, Option, None, Some, Result, Ok, Err}
+use Rattle.std.specs.Prelude.{◌⊎◌, ⊤, refl}
 use Rattle.std.specs.List.{filter_map}
 use Rattle.sporc_client.specs.declared.fault.SubmitFault.{SubmitFault}
 use Rattle.sporc_client.specs.declared.submitted.Submitted.{Submitted}
-use Rattle.sporc_client.specs.declared.submitted.Submitted.TheVariants.{Waiting, Nothing, Dropped, Entry}
+use Rattle.sporc_client.specs.declared.submitted.Submitted.TheVariants.{Waiting, Nothing, Dropped}
+use Rattle.sporc_client.specs.declared.submitted.Submitted.TheVariants.{Entry}
 use Rattle.sporc_client.specs.ClientModel.{ClientModel, leaf_in}
 use Rattle.sporc_client.specs.Log.{Submit}
 
@@ -23,16 +25,19 @@ leaf_given (Ok (Dropped fault)) = None
 leaf_given (Ok (Entry bytes)) = leaf_in (Submit 0 bytes)
 leaf_given (Err fault) = None
 
--- what a call did to the supply, by the kept ticket and the next leaf before it, and the leaf of the entry that it gave
+-- what a call did to the supply, by the kept ticket and the next leaf before it, and the leaf of
+-- the entry that it gave
 abbrev pub Uses : Option ℕ → ℕ → Option ℕ → LeafSupply → Type 0
 -- an entry spends the kept ticket
-Uses (Some kept) next (Some leaf) new = (leaf ≡ kept) × (new ≡ record { next = next; ticket = None })
+Uses (Some kept) next (Some leaf) new =
+    (leaf ≡ kept) × (new ≡ record { next = next; ticket = None })
 -- or, if there is none, the next leaf
 Uses None next (Some leaf) new = (leaf ≡ next) × (new ≡ record { next = next + 1; ticket = None })
 -- without an entry a kept ticket stays
 Uses (Some kept) next None new = new ≡ record { next = next; ticket = Some kept }
 -- and a leaf that is drawn is kept
-Uses None next None new = (new ≡ record { next = next; ticket = None }) ⊎ (new ≡ record { next = next + 1; ticket = Some next })
+Uses None next None new = (new ≡ record { next = next; ticket = None })
+    ⊎ (new ≡ record { next = next + 1; ticket = Some next })
 
 abbrev pub IsUse : LeafSupply → Option ℕ → LeafSupply → Type 0
 IsUse old leaf new = Uses old.ticket old.next leaf new
@@ -53,13 +58,15 @@ pub record IsReopening (old : LeafSupply) (call : LeafUse) : Type 0 where
 -- calls one behind another
 abbrev pub AreUses : LeafSupply → List LeafUse → Type 0
 AreUses s [] = ⊤
-AreUses s (call ∷ uses) = (IsUse s call.leaf call.after ⊎ IsReopening s call) × AreUses call.after uses
+AreUses s (call ∷ uses) =
+    (IsUse s call.leaf call.after ⊎ IsReopening s call) × AreUses call.after uses
 
 -- the leaves of the entries that calls gave
 abbrev pub leaves_used : List LeafUse → List ℕ
 leaves_used uses = filter_map (λ call. call.leaf) uses
 
--- ---- worked example: a submission runs out of memory behind its draw, the next spends the ticket, the one after it draws
+-- ---- worked example: a submission runs out of memory behind its draw, the next spends the ticket,
+-- the one after it draws
 
 abbrev three_calls : List LeafUse
 three_calls =

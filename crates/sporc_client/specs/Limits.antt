@@ -1,6 +1,8 @@
 -- The numbers of the limits.
 use Rattle.std.specs.Prelude.{◌≡◌, ◌^◌, refl}
-use Rattle.sporc_client.specs.declared.limits.TheConstants.{MAX_EDIT_BYTES, MAX_EVENTS, MAX_HEAD_BYTES, MAX_PENDING, MAX_SHOWN_LEN}
+use Rattle.sporc_client.specs.declared.limits.TheConstants.{MAX_EDIT_BYTES, MAX_EVENTS}
+use Rattle.sporc_client.specs.declared.limits.TheConstants.{MAX_HEAD_BYTES, MAX_PENDING}
+use Rattle.sporc_client.specs.declared.limits.TheConstants.{MAX_SHOWN_LEN}
 
 pending_items : MAX_PENDING ≡ 1024
 pending_items = refl

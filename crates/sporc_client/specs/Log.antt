@@ -1,5 +1,6 @@
 -- The log of a client: its journal, with the bytes of each entry that was accepted.
-use Rattle.std.specs.Prelude.{ℕ, ◌+◌, ◌-◌, ◌==◌, List, [], ◌∷◌, ◌++◌, length, map, filter, slice_index_or}
+use Rattle.std.specs.Prelude.{ℕ, ◌+◌, ◌-◌, ◌==◌, List, [], ◌∷◌, ◌++◌, length, map, filter}
+use Rattle.std.specs.Prelude.{slice_index_or}
 use Rattle.sporc_delta.specs.Marks.{Mark}
 use Rattle.sporc_member.specs.declared.change.Change.{Change as MemberChange}
 use Rattle.sporc_member.specs.declared.change.ChangeFault.{ChangeFault}
@@ -46,7 +47,8 @@ abbrev pub accepted_in : List Logged → List (List ℕ)
 accepted_in [] = []
 accepted_in (event ∷ log) = entries_by event ++ accepted_in log
 
--- an event as the journal has it, behind so many accepted entries: an accepted entry is named by its place
+-- an event as the journal has it, behind so many accepted entries: an accepted entry is named by
+-- its place
 abbrev pub stored_event : ℕ → Logged → Event
 stored_event accepted (Edit by seen marks) = events.Edit by seen marks
 stored_event accepted (Change by change) = events.Change by change
@@ -58,7 +60,8 @@ stored_event accepted (Discard by) = events.Discard by
 -- the journal of a log, behind so many accepted entries
 abbrev pub journal_from : ℕ → List Logged → List Event
 journal_from accepted [] = []
-journal_from accepted (event ∷ log) = stored_event accepted event ∷ journal_from (accepted + length (entries_by event)) log
+journal_from accepted (event ∷ log) =
+    stored_event accepted event ∷ journal_from (accepted + length (entries_by event)) log
 
 abbrev pub journal_of : List Logged → List Event
 journal_of log = journal_from 0 log

@@ -1,4 +1,5 @@
--- A client: a history, and what of the client's own is not committed yet. Everything else is computed from these.
+-- A client: a history, and what of the client's own is not committed yet. Everything else is
+-- computed from these.
 use Rattle.std.specs.Prelude.{ℕ, List, [], take, Option, None, fold}
 use Rattle.lms_tree.specs.LmsPrivate.{LmsPrivate}
 use Rattle.sporc_delta.specs.Marks.{Mark, apply}

@@ -9,7 +9,8 @@ use Rattle.sporc_client.specs.Step.{replay}
 use Rattle.sporc_client.specs.Allowed.{is_allowed}
 use Rattle.sporc_client.specs.Run.{Setup, opening_of}
 
--- a client that a device of a run opened: its history is good, and its state is the replay of a log that it allows
+-- a client that a device of a run opened: its history is good, and its state is the replay of a log
+-- that it allows
 pub record IsReached (s : Setup) (who : Device) (c : PlainClient) : Type 0 where
   pub is_device : Contains s.devices who
   pub ring : Keys

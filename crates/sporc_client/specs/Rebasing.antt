@@ -20,10 +20,12 @@ beyond form (Change change ∷ items) = beyond form items
 -- each edit is stated on the text after those before it
 abbrev pub AreStated : List ℕ → List Pending → Type 0
 AreStated text [] = ⊤
-AreStated text (Edit marks ∷ items) = (base_len marks ≡ length text) × AreStated (apply marks text) items
+AreStated text (Edit marks ∷ items) =
+    (base_len marks ≡ length text) × AreStated (apply marks text) items
 AreStated text (Change change ∷ items) = AreStated text items
 
--- each edit is stated on a text as long as the one after those before it, from a text of this length on
+-- each edit is stated on a text as long as the one after those before it, from a text of this
+-- length on
 abbrev pub AreOver : ℕ → List Pending → Type 0
 AreOver len [] = ⊤
 AreOver len (Edit marks ∷ items) = (base_len marks ≡ len) × AreOver (out_len marks) items

@@ -1,5 +1,6 @@
 -- Clients of one document, under a server that hands any bytes to anyone.
-use Rattle.std.specs.Prelude.{◌≡◌, ℕ, ◌≤◌, true, List, [], ◌∷◌, ◌++◌, length, take, Option, None, Some, if◌then◌else◌, IsSomeAnd, Contains, fold, ⊤}
+use Rattle.std.specs.Prelude.{◌≡◌, ℕ, ◌≤◌, true, List, [], ◌∷◌, ◌++◌, length, take, Option, None}
+use Rattle.std.specs.Prelude.{Some, if◌then◌else◌, IsSomeAnd, Contains, fold, ⊤}
 use Rattle.std.specs.Option.{option_map_or}
 use Rattle.std.specs.FinMap.{get}
 use Rattle.lms_tree.specs.LmsPrivate.{LmsPrivate, lms_public_of}

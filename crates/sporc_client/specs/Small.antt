@@ -3,7 +3,9 @@ use Rattle.std.specs.Prelude.{◌*◌, ◌≤◌, List, [], ◌∷◌, length, �
 use Rattle.sporc_delta.specs.Marks.{inserted_len}
 use Rattle.sporc_suffix.specs.Forms.{all_inserted}
 use Rattle.sporc_head.specs.declared.limits.TheConstants.{MAX_ENTRIES}
-use Rattle.sporc_client.specs.declared.limits.TheConstants.{MAX_EDIT_BYTES, MAX_EVENTS, MAX_HEAD_BYTES, MAX_PENDING, MAX_SHOWN_LEN}
+use Rattle.sporc_client.specs.declared.limits.TheConstants.{MAX_EDIT_BYTES, MAX_EVENTS}
+use Rattle.sporc_client.specs.declared.limits.TheConstants.{MAX_HEAD_BYTES, MAX_PENDING}
+use Rattle.sporc_client.specs.declared.limits.TheConstants.{MAX_SHOWN_LEN}
 use Rattle.sporc_client.specs.declared.pending.Pending.{Pending}
 use Rattle.sporc_client.specs.declared.pending.Pending.TheVariants.{Edit, Change}
 use Rattle.sporc_client.specs.PlainClient.{PlainClient, committed_of}

@@ -16,12 +16,15 @@ use Rattle.sporc_client.specs.declared.pending.Pending.TheVariants.{Edit, Change
 use Rattle.sporc_client.specs.PlainClient.{PlainClient, committed_of, shown_of}
 use Rattle.sporc_client.specs.Rebasing.{AreStated}
 
--- an entry is an edit with these marks, once those that it holds are restated behind the forms since its base
+-- an entry is an edit with these marks, once those that it holds are restated behind the forms
+-- since its base
 pub record IsEditOf (c : PlainClient) (e : Entry) (marks : List Mark) : Type 0 where
   pub no_change : change_of e ≡ None
   pub held : List Mark
-  pub reads : edit_marks (epoch_key c.opening.genesis c.opening.kit c.entries e.header.epoch) e ≡ Some held
-  pub restated : later_over held (drop e.header.base (forms_of c.opening.genesis c.opening.kit c.entries)) ≡ marks
+  pub reads : edit_marks (epoch_key c.opening.genesis c.opening.kit c.entries e.header.epoch) e
+      ≡ Some held
+  pub restated : later_over held
+      (drop e.header.base (forms_of c.opening.genesis c.opening.kit c.entries)) ≡ marks
 
 -- an entry makes this change
 pub record IsChangeOf (e : Entry) (change : MemberChange) : Type 0 where
@@ -38,7 +41,8 @@ abbrev pub IsOfFirst : PlainClient → Entry → List Pending → Type 0
 IsOfFirst c e [] = ⊥
 IsOfFirst c e (item ∷ items) = IsEntryOf c e item
 
--- the entry on its way: it can be read, its base and its epoch are there, and it is that of the first pending item
+-- the entry on its way: it can be read, its base and its epoch are there, and it is that of the
+-- first pending item
 pub record IsInFlight (c : PlainClient) (bytes : List ℕ) : Type 0 where
   pub entry : Entry
   pub reads : entry_of bytes ≡ Ok entry

@@ -1,5 +1,6 @@
 -- What each event does to a client, and the replay of a log.
-use Rattle.std.specs.Prelude.{ℕ, ◌++◌, List, [], ◌∷◌, length, drop, map, fold, Bool, false, Option, None, Some, if◌then◌else◌}
+use Rattle.std.specs.Prelude.{ℕ, ◌++◌, List, [], ◌∷◌, length, drop, map, fold, Bool, false, Option}
+use Rattle.std.specs.Prelude.{None, Some, if◌then◌else◌}
 use Rattle.std.specs.Str.{bytes_eq}
 use Rattle.std.specs.Option.{is_some}
 use Rattle.sporc_delta.specs.Marks.{Mark, replacement, keep_marks}
@@ -8,7 +9,8 @@ use Rattle.sporc_head.specs.History.{change_in, is_by}
 use Rattle.sporc_line.specs.Document.{next_form}
 use Rattle.sporc_client.specs.declared.pending.Pending.TheVariants as items
 use Rattle.sporc_client.specs.Log.{Logged, Edit, Change, Submit, Dropped, Accept, Discard}
-use Rattle.sporc_client.specs.PlainClient.{Opening, PlainClient, opened, me_of, committed_of, shown_of}
+use Rattle.sporc_client.specs.PlainClient.{Opening, PlainClient, opened, me_of, committed_of}
+use Rattle.sporc_client.specs.PlainClient.{shown_of}
 use Rattle.sporc_client.specs.Rebasing.{rebased, beyond}
 
 -- the form that an entry gets at the end of the history
@@ -71,7 +73,8 @@ step c (Edit by seen marks) = record c {
   pending = c.pending ++ items.Edit (restated c seen marks) ∷ [];
   shown = c.shown ++ restated c seen marks ∷ [];
 }
-step c (Change by change) = record c { pending = c.pending ++ items.Change change ∷ []; shown = c.shown ++ keeps c ∷ [] }
+step c (Change by change) =
+    record c { pending = c.pending ++ items.Change change ∷ []; shown = c.shown ++ keeps c ∷ [] }
 step c (Submit by bytes) = record c { flight = Some bytes; shown = c.shown ++ keeps c ∷ [] }
 step c (Dropped by fault) = record c { pending = drop 1 c.pending; shown = c.shown ++ keeps c ∷ [] }
 step c (Accept by bytes) = accepted c bytes
@@ -88,6 +91,7 @@ replay_from c log = fold step c log
 unfoldable pub replay : Opening → List Logged → PlainClient
 replay opening log = replay_from (opened opening) log
 
--- the log of a client that has these entries and nothing of its own, as one that was restarted or resumed
+-- the log of a client that has these entries and nothing of its own, as one that was restarted or
+-- resumed
 abbrev pub log_of_entries : List (List ℕ) → List Logged
 log_of_entries entries = map (Accept 0) entries

@@ -1,5 +1,6 @@
 -- What a submission answers.
-use Rattle.std.specs.Prelude.{ℕ, nat_le, nat_lt, Bool, true, false, not, List, [], ◌∷◌, length, drop, take, Option, None, Some, Result, Ok, Err}
+use Rattle.std.specs.Prelude.{ℕ, nat_le, nat_lt, Bool, true, false, not, List, [], ◌∷◌, length}
+use Rattle.std.specs.Prelude.{drop, take, Option, None, Some, Result, Ok, Err}
 use Rattle.sporc_base.specs.FirstFault.{unless, first_of}
 use Rattle.lms_leaf.specs.declared.faults.LeafFault.{LeafFault}
 use Rattle.lms_leaf.specs.declared.faults.LeafFault.TheVariants as leaves
@@ -15,7 +16,10 @@ use Rattle.sporc_client.specs.declared.client.submitting.due.Due.{Due as Step}
 use Rattle.sporc_client.specs.declared.client.submitting.due.Due.TheVariants as steps
 use Rattle.sporc_client.specs.declared.limits.TheConstants.{MAX_HEAD_BYTES}
 use Rattle.sporc_client.specs.declared.fault.SubmitFault.{SubmitFault}
-use Rattle.sporc_client.specs.declared.fault.SubmitFault.TheVariants.{Removed, NoRight, HistoryFull, JournalFull, HeadTooLong, NoPairKey, Exhausted, LeafFault as DiskFault}
+use Rattle.sporc_client.specs.declared.fault.SubmitFault.TheVariants.{Removed, NoRight, HistoryFull}
+use Rattle.sporc_client.specs.declared.fault.SubmitFault.TheVariants.{JournalFull, HeadTooLong}
+use Rattle.sporc_client.specs.declared.fault.SubmitFault.TheVariants.{NoPairKey, Exhausted}
+use Rattle.sporc_client.specs.declared.fault.SubmitFault.TheVariants.{LeafFault as DiskFault}
 use Rattle.sporc_client.specs.declared.pending.Pending.{Pending}
 use Rattle.sporc_client.specs.declared.pending.Pending.TheVariants.{Edit, Change}
 use Rattle.sporc_client.specs.declared.submitted.Submitted.{Submitted}
@@ -49,17 +53,18 @@ no_pair_key (Some member) = Some (NoPairKey member)
 -- a change that the members accept needs a pairwise key with each member after it
 abbrev pub change_due : PlainClient → MemberChange → Option ChangeFault → Due
 change_due c change (Some fault) = Drop fault
-change_due c change None =
-    or_due (no_pair_key (least_unpaired c.opening.kit.pairs (numbers_of (after_change (roster_of c.opening.genesis c.entries) change).members)))
+change_due c change None = or_due (no_pair_key (least_unpaired c.opening.kit.pairs
+    (numbers_of (after_change (roster_of c.opening.genesis c.entries) change).members)))
     (Sign (Change change))
 
 abbrev pub edit_due : List Mark → Due
-edit_due marks =
-    or_due (unless (nat_le (length (delta_bytes marks)) MAX_HEAD_BYTES) (HeadTooLong (length (delta_bytes marks)))) (Sign (Edit marks))
+edit_due marks = or_due (unless (nat_le (length (delta_bytes marks)) MAX_HEAD_BYTES)
+    (HeadTooLong (length (delta_bytes marks)))) (Sign (Edit marks))
 
 abbrev pub item_due : PlainClient → Pending → Due
 item_due c (Edit marks) = edit_due marks
-item_due c (Change change) = change_due c change (change_fault_of (roster_of c.opening.genesis c.entries) change)
+item_due c (Change change) =
+    change_due c change (change_fault_of (roster_of c.opening.genesis c.entries) change)
 
 -- the checks of a submission of an item, whatever the item says
 abbrev pub submit_checks : PlainClient → Pending → List (Option SubmitFault)
@@ -103,9 +108,10 @@ draw_fault (leaves.Exhausted next) = Exhausted next
 draw_fault leaves.DiskFault = DiskFault
 
 -- the entry of an item, by the leaf that was drawn and 64 random bytes
-abbrev pub signed : PlainClient → List ℕ → Pending → Result ℕ LeafFault → Result Submitted SubmitFault
-signed c random item (Ok leaf) =
-    Ok (submitted.Entry (bytes_made c (record { leaf = leaf; randomizer = take 32 random; new_key = drop 32 random }) item))
+abbrev pub signed : PlainClient → List ℕ → Pending → Result ℕ LeafFault
+    → Result Submitted SubmitFault
+signed c random item (Ok leaf) = Ok (submitted.Entry (bytes_made c
+    (record { leaf = leaf; randomizer = take 32 random; new_key = drop 32 random }) item))
 signed c random item (Err fault) = Err (draw_fault fault)
 
 abbrev pub answered : PlainClient → List ℕ → Result ℕ LeafFault → Due → Result Submitted SubmitFault

@@ -18,11 +18,14 @@ use Rattle.sporc_client.specs.Workspace.{WorkspaceModel}
 
 -- what it does to the pending items and to the entry on its way
 abbrev pub coming_at : LineModel → WorkspaceModel → PreparedModel → Effect
-coming_at line own p = coming_of (is_same_as own.flight p.checked.bytes) (is_some (change_of p.checked.entry)) (same_device (author_device p.checked.entry.header) line.kit.me) p.form own.pending
+coming_at line own p =
+    coming_of (is_same_as own.flight p.checked.bytes) (is_some (change_of p.checked.entry))
+    (same_device (author_device p.checked.entry.header) line.kit.me) p.form own.pending
 
 -- its shown delta
 abbrev pub form_at : WorkspaceModel → PreparedModel → List Mark
-form_at own p = shown_form (is_same_as own.flight p.checked.bytes) (is_some (change_of p.checked.entry)) (length (text_after own.shown)) p.form own.pending
+form_at own p = shown_form (is_same_as own.flight p.checked.bytes)
+    (is_some (change_of p.checked.entry)) (length (text_after own.shown)) p.form own.pending
 
 -- its form and the pending items can pass each other, and one more event may be
 pub record CanSettle (own : WorkspaceModel) (p : PreparedModel) : Type 0 where
@@ -34,7 +37,8 @@ pub record CanSettle (own : WorkspaceModel) (p : PreparedModel) : Type 0 where
   pub room : length own.shown < MAX_EVENTS
 
 -- the line and the own part afterwards
-pub record Takes (line line' : LineModel) (own own' : WorkspaceModel) (by : ℕ) (p : PreparedModel) : Type 0 where
+pub record Takes (line line' : LineModel) (own own' : WorkspaceModel) (by : ℕ)
+    (p : PreparedModel) : Type 0 where
   pub genesis : line'.genesis ≡ line.genesis
   pub kit : line'.kit ≡ line.kit
   pub entries : line'.entries ≡ line.entries ++ p.checked.bytes ∷ []

@@ -1,12 +1,13 @@
--- Moves whose values are such as the code's types have: bytes below 256, keys of epochs of 32 bytes, numbers of members and of
--- devices, and public keys, of the sizes of their fields.
+-- Moves whose values are such as the code's types have: bytes below 256, keys of epochs of 32
+-- bytes, numbers of members and of devices, and public keys, of the sizes of their fields.
 use Rattle.std.specs.Prelude.{◌≡◌, ℕ, ◌<◌, ◌^◌, List, length, IfSome, ⊤}
 use Rattle.std.specs.FinMap.{get}
 use Rattle.std.specs.List.{AllByRecursion}
 use Rattle.sporc_base.specs.Bytes.{IsBytes}
 use Rattle.sporc_delta.specs.Typed.{IsTypedDelta}
 use Rattle.sporc_member.specs.declared.change.Change.{Change as MemberChange}
-use Rattle.sporc_member.specs.declared.change.Change.TheVariants.{Add, Remove, SetRole, AddDevice, DropDevice, Upgrade}
+use Rattle.sporc_member.specs.declared.change.Change.TheVariants.{Add, Remove, SetRole, AddDevice}
+use Rattle.sporc_member.specs.declared.change.Change.TheVariants.{DropDevice, Upgrade}
 use Rattle.sporc_epoch.specs.Keys.{Keys}
 use Rattle.sporc_client.specs.Log.{Logged, Edit, Change, Submit, Dropped, Accept, Discard}
 use Rattle.sporc_client.specs.Run.{Setup, Move, Open, Happen, Give, Restart, IsRun, start}
@@ -16,7 +17,8 @@ abbrev pub IsTypedChange : MemberChange → Type 0
 IsTypedChange (Add member role key) = (member < 2 ^ 16) × (length key ≡ 56)
 IsTypedChange (Remove member) = member < 2 ^ 16
 IsTypedChange (SetRole member role) = member < 2 ^ 16
-IsTypedChange (AddDevice member device key) = (member < 2 ^ 16) × (device < 2 ^ 8) × (length key ≡ 56)
+IsTypedChange (AddDevice member device key) =
+    (member < 2 ^ 16) × (device < 2 ^ 8) × (length key ≡ 56)
 IsTypedChange (DropDevice member device) = (member < 2 ^ 16) × (device < 2 ^ 8)
 IsTypedChange Upgrade = ⊤
 

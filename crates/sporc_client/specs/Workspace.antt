@@ -5,7 +5,8 @@ use Rattle.sporc_client.specs.declared.event.Event.{Event}
 use Rattle.sporc_client.specs.declared.limits.TheConstants.{MAX_EVENTS}
 use Rattle.sporc_client.specs.declared.pending.Pending.{Pending}
 
--- the pending items, the entry on its way, the shown deltas, the journal, and how many more events and items take no memory
+-- the pending items, the entry on its way, the shown deltas, the journal, and how many more events
+-- and items take no memory
 pub record WorkspaceModel : Type 0 where
   pub pending : List Pending
   pub flight : Option (List ℕ)
@@ -14,7 +15,8 @@ pub record WorkspaceModel : Type 0 where
   pub spare : ℕ
 
 -- there is a shown delta for each event, and not too many
-pub record WorkspaceInvariant (base : ℕ) (shown : List (List Mark)) (journal : List Event) : Type 0 where
+pub record WorkspaceInvariant (base : ℕ) (shown : List (List Mark))
+    (journal : List Event) : Type 0 where
   pub base_is : base ≡ 0
   pub each : length shown ≡ length journal
   pub few : length journal ≤ MAX_EVENTS

@@ -1,6 +1,8 @@
 //! A client of a member's device.
 
-ghost use Rattle.std.specs.Prelude.{◌≡◌, ◌≢◌, ◌+◌, ◌<◌, ◌≤◌, ◌∷◌, ◌++◌, ◌&&◌, [], map as map_, drop, take, length, is_some, true, None, Some, IfOk, IfErr, OnOk, OnErr, option_copied};
+ghost use Rattle.std.specs.Prelude.{◌≡◌, ◌≢◌, ◌+◌, ◌<◌, ◌≤◌, ◌∷◌, ◌++◌, ◌&&◌, [], map as map_};
+ghost use Rattle.std.specs.Prelude.{drop, take, length, is_some, true, None, Some, IfOk, IfErr};
+ghost use Rattle.std.specs.Prelude.{OnOk, OnErr, option_copied};
 ghost use Rattle.std.specs.FinMap as map;
 ghost use Rattle.sporc_outside.specs.LeafDisk.{disk_images};
 ghost use Rattle.sporc_hash.specs.Chain.{chain};
@@ -12,7 +14,8 @@ ghost use Rattle.sporc_line.specs.Openings.{open_checks};
 ghost use Rattle.sporc_base.specs.FirstFault.{Answers, AnswersUnless, first_of};
 ghost use Rattle.sporc_client.specs.declared.limits.TheConstants.{MAX_EVENTS, MAX_PENDING};
 ghost use Rattle.sporc_client.specs.Log.{Edit as Edited, Change as Changed, journal_of};
-ghost use Rattle.sporc_client.specs.Answers.{added, change_checks, change_fault, edit_checks, edit_fault, is_out, room_checks};
+ghost use Rattle.sporc_client.specs.Answers.{added, change_checks, change_fault, edit_checks};
+ghost use Rattle.sporc_client.specs.Answers.{edit_fault, is_out, room_checks};
 ghost use Rattle.sporc_head.specs.Examined.{key_for};
 ghost use Rattle.sporc_head.specs.HeadChecks.{allows_member};
 ghost use Rattle.sporc_head.specs.History.{roster_of};
@@ -52,10 +55,11 @@ use sporc_outside::LeafDisk;
 use std::alloc::Global;
 use std::marker::Model;
 
-/// A member's client of a shared text: a history, and the member's own edits and changes that are not committed yet.
+/// A member's client of a shared text: a history, and the member's own edits and changes that are
+/// not committed yet.
 ///
-/// Contracts see what it was opened with, its log (the journal, with the bytes of each accepted entry), its leaf numbers,
-/// and the leaf of a ticket that it keeps. All else follows from the log.
+/// Contracts see what it was opened with, its log (the journal, with the bytes of each accepted
+/// entry), its leaf numbers, and the leaf of a ticket that it keeps. All else follows from the log.
 #[derive(Drop)]
 pub struct Client<D: LeafDisk> {
     alloc: Global,
@@ -82,8 +86,8 @@ impl<D: LeafDisk> Model for Client<D> {
 }
 
 impl<D: LeafDisk> Client<D> {
-    /// The client of a member's device with an empty history, by both numbers, a ring with the key of epoch 0 or a joiner's
-    /// hints, its member's pairwise keys and its signer.
+    /// The client of a member's device with an empty history, by both numbers, a ring with the key
+    /// of epoch 0 or a joiner's hints, its member's pairwise keys and its signer.
     pub fn open(
         alloc: Global,
         genesis: Genesis,
@@ -95,16 +99,22 @@ impl<D: LeafDisk> Client<D> {
     ) -> Result<Client<D>, (ClientOpenFault, Signer<D>)>
         requires genesis { IsGenesis genesis }
         ensures ok { OnOk result (first_of (open_checks genesis (map.get ring.keys 0)) ≡ None) }
-        ensures err { IfErr result (λ e. e.0 ≢ LineOpenFault.Memory → first_of (open_checks genesis (map.get ring.keys 0)) ≡ Some e.0) }
+        ensures err { IfErr result (λ e. e.0 ≢ LineOpenFault.Memory
+            → first_of (open_checks genesis (map.get ring.keys 0)) ≡ Some e.0) }
         ensures returned { IfErr result (λ e. e.1 ≡ signer) }
         ensures value { IfOk result (λ client. client ≡ record {
-          opening = record { genesis = genesis; kit = kit_of (record { member = me; number = device }) ring.keys (pairs_in pairs); key = signer.key };
+          opening = record {
+            genesis = genesis;
+            kit = kit_of (record { member = me; number = device }) ring.keys (pairs_in pairs);
+            key = signer.key;
+          };
           log = [];
           leaves = signer.leaves;
           ticket = None;
         }) }
     {
-        // No draw: what the signer says here of its leaves is what the order of the client's leaves rests on.
+        // No draw: what the signer says here of its leaves is what the order of the client's leaves
+        // rests on.
         let _next = signer.next_leaf();
         match opened(alloc, genesis, me, device, ring, pairs) {
             Ok((line, own)) => Ok(Client {
@@ -118,19 +128,24 @@ impl<D: LeafDisk> Client<D> {
         }
     }
 
-    /// The journal. Each of its events is one that the client's own calls make there; and what it shows is the committed
-    /// text with the pending edits. Each of its submissions has a leaf of its own, of those drawn since the opening of the
-    /// leaf file, and no crash makes the blocks of these free again. From the leaf that was next as the journal began, each
-    /// one that was drawn signed one of its submissions, or is kept.
+    /// The journal. Each of its events is one that the client's own calls make there; and what it
+    /// shows is the committed text with the pending edits. Each of its submissions has a leaf of
+    /// its own, of those drawn since the opening of the leaf file, and no crash makes the blocks of
+    /// these free again. From the leaf that was next as the journal began, each one that was drawn
+    /// signed one of its submissions, or is kept.
     pub fn journal(&self) -> &[Event]
         ensures value { result.now ≡ journal_of self.now.log }
         ensures allowed { is_allowed self.now.opening self.now.log ≡ true }
         ensures sound { IsSound (state_of self.now) }
-        ensures leaves { Rise self.now.leaves.next_at_open self.now.leaves.next (leaves_of self.now.log) }
-        ensures drawn { Rise (first_leaf_of self.now) self.now.leaves.next (leaves_of self.now.log) }
+        ensures leaves { Rise self.now.leaves.next_at_open self.now.leaves.next
+            (leaves_of self.now.log) }
+        ensures drawn { Rise (first_leaf_of self.now) self.now.leaves.next
+            (leaves_of self.now.log) }
         ensures since_open { self.now.leaves.next_at_open ≤ first_leaf_of self.now }
-        ensures taken { AreTaken (disk_images (D.told self.now.leaves.disk)) self.now.leaves.next_at_open self.now.leaves.next }
-        ensures passed { ArePassed (disk_images (D.told self.now.leaves.disk)) self.now.leaves.next }
+        ensures taken { AreTaken (disk_images (D.told self.now.leaves.disk))
+            self.now.leaves.next_at_open self.now.leaves.next }
+        ensures passed { ArePassed
+            (disk_images (D.told self.now.leaves.disk)) self.now.leaves.next }
         ensures within { length result.now ≤ MAX_EVENTS }
     {
         let _taken = self.signer.next_leaf();
@@ -146,7 +161,8 @@ impl<D: LeafDisk> Client<D> {
 
     /// The values of the chain after 0, 1, .. and all entries.
     pub fn hashes(&self) -> &[Digest32]
-        ensures value { result.now ≡ chain (genesis_bytes self.now.opening.genesis) (state_of self.now).entries }
+        ensures value { result.now
+            ≡ chain (genesis_bytes self.now.opening.genesis) (state_of self.now).entries }
     {
         self.line.hashes()
     }
@@ -161,15 +177,18 @@ impl<D: LeafDisk> Client<D> {
 
     /// The members after the last entry.
     pub fn roster(&self) -> &Roster
-        ensures value { result.now.roster ≡ roster_of self.now.opening.genesis (state_of self.now).entries }
+        ensures value { result.now.roster
+            ≡ roster_of self.now.opening.genesis (state_of self.now).entries }
     {
         self.line.heads().roster()
     }
 
-    /// The key under which the check of an entry's signature verifies it at this history: that of its author's device. None
-    /// exactly if the bytes are no entry, or its author has no such live device. It takes no memory and makes no event.
+    /// The key under which the check of an entry's signature verifies it at this history: that of
+    /// its author's device. None exactly if the bytes are no entry, or its author has no such live
+    /// device. It takes no memory and makes no event.
     pub fn key_for(&self, entry: &[u8]) -> Option<[u8; 56]>
-        ensures value { result ≡ key_for (roster_of self.now.opening.genesis (state_of self.now).entries) entry.now }
+        ensures value { result
+            ≡ key_for (roster_of self.now.opening.genesis (state_of self.now).entries) entry.now }
     {
         self.line.key_for(entry)
     }
@@ -217,15 +236,17 @@ impl<D: LeafDisk> Client<D> {
         self.own.flight()
     }
 
-    /// Gives the signer back, with its disk. A ticket that is kept is given up. On that disk the blocks of all leaves drawn
-    /// since its opening are taken, and so those of the leaves of all submissions, each of which has one of its own. Whatever
-    /// a crash leaves of it, a later opening goes on at the next leaf or above it.
+    /// Gives the signer back, with its disk. A ticket that is kept is given up. On that disk the
+    /// blocks of all leaves drawn since its opening are taken, and so those of the leaves of all
+    /// submissions, each of which has one of its own. Whatever a crash leaves of it, a later
+    /// opening goes on at the next leaf or above it.
     pub fn close(self) -> Signer<D>
         ensures value { result ≡ record { key = self.opening.key; leaves = self.leaves } }
         ensures leaves { Rise result.leaves.next_at_open result.leaves.next (leaves_of self.log) }
         ensures drawn { Rise (first_leaf_of self) result.leaves.next (leaves_of self.log) }
         ensures since_open { result.leaves.next_at_open ≤ first_leaf_of self }
-        ensures taken { AreTaken (disk_images (D.told result.leaves.disk)) result.leaves.next_at_open result.leaves.next }
+        ensures taken { AreTaken (disk_images (D.told result.leaves.disk))
+            result.leaves.next_at_open result.leaves.next }
         ensures passed { ArePassed (disk_images (D.told result.leaves.disk)) result.leaves.next }
     {
         let _taken = self.signer.next_leaf();
@@ -242,9 +263,11 @@ impl<D: LeafDisk> Client<D> {
 
     /// Edits the text that was shown after `seen` events. The length of the journal.
     pub fn edit(&mut self, by: u32, seen: u64, delta: &Delta) -> Result<u64, EditFault>
-        ensures fault { AnswersUnless EditFault.Memory result (edit_fault (state_of self.old) seen delta.now) }
+        ensures fault { AnswersUnless EditFault.Memory result
+            (edit_fault (state_of self.old) seen delta.now) }
         ensures ok { IfOk result (λ n. n ≡ length self.new.log) }
-        ensures log { self.new ≡ record self.old { log = self.old.log ++ added result (Edited by seen delta.now) } }
+        ensures log { self.new
+            ≡ record self.old { log = self.old.log ++ added result (Edited by seen delta.now) } }
     {
         check_edit(&self.line, &self.own, seen, delta)?;
         record_edit(&mut self.own, by, seen as u32, delta)?;
@@ -255,7 +278,8 @@ impl<D: LeafDisk> Client<D> {
     pub fn change(&mut self, by: u32, change: Change) -> Result<u64, EditFault>
         ensures fault { AnswersUnless EditFault.Memory result (change_fault (state_of self.old)) }
         ensures ok { IfOk result (λ n. n ≡ length self.new.log) }
-        ensures log { self.new ≡ record self.old { log = self.old.log ++ added result (Changed by change) } }
+        ensures log { self.new
+            ≡ record self.old { log = self.old.log ++ added result (Changed by change) } }
     {
         check_change(&self.line, &self.own)?;
         let ready = ready_keep(self.alloc, &mut self.own)?;
@@ -274,9 +298,11 @@ fn opened(
     pairs: Pairs,
 ) -> Result<(Line, Workspace), LineOpenFault>
     requires { IsGenesis genesis }
-    ensures fault { AnswersUnless LineOpenFault.Memory result (first_of (open_checks genesis (map.get ring.keys 0))) }
+    ensures fault { AnswersUnless LineOpenFault.Memory result
+        (first_of (open_checks genesis (map.get ring.keys 0))) }
     ensures genesis { IfOk result (λ both. both.0.genesis ≡ genesis) }
-    ensures kit { IfOk result (λ both. both.0.kit ≡ kit_of (record { member = me; number = device }) ring.keys (pairs_in pairs)) }
+    ensures kit { IfOk result (λ both. both.0.kit
+        ≡ kit_of (record { member = me; number = device }) ring.keys (pairs_in pairs)) }
     ensures empty { IfOk result (λ both. both.0.entries ≡ []) }
     ensures good { IfOk result (λ both. Good both.0.genesis both.0.kit both.0.entries) }
     ensures pending { IfOk result (λ both. both.1.pending ≡ []) }
@@ -297,7 +323,8 @@ fn opened(
 
 // Whether the device is live and its member has the right to entries of this kind.
 pub(crate) fn has_right(line: &Line, kind: u8) -> bool
-    ensures value { result ≡ (allows_member kind (member_at (roster_of line.now.genesis line.now.entries) line.now.kit.me.member)
+    ensures value { result ≡ (allows_member kind
+        (member_at (roster_of line.now.genesis line.now.entries) line.now.kit.me.member)
         && is_some (key_of (roster_of line.now.genesis line.now.entries) line.now.kit.me)) }
 {
     let roster = line.heads().roster();
@@ -311,7 +338,8 @@ pub(crate) fn has_right(line: &Line, kind: u8) -> bool
 // The checks of an edit.
 fn check_edit(line: &Line, own: &Workspace, seen: u64, delta: &Delta) -> Result<(), EditFault>
     requires follow { Follow 0 own.now.shown }
-    ensures fault { (key : LmsPrivate) → Answers result (first_of (edit_checks (plain_of key line.now own.now) seen delta.now)) }
+    ensures fault { (key : LmsPrivate)
+        → Answers result (first_of (edit_checks (plain_of key line.now own.now) seen delta.now)) }
 {
     if line.removed() {
         return Err(EditFault::Removed);
@@ -337,13 +365,18 @@ fn check_edit(line: &Line, own: &Workspace, seen: u64, delta: &Delta) -> Result<
 fn record_edit(own: &mut Workspace, by: u32, seen: u32, delta: &Delta) -> Result<(), Memory>
     requires in_bounds { seen ≤ length own.old.shown }
     requires base { base_len delta.now ≡ reached 0 (take seen own.old.shown) }
-    requires limit { base_len delta.now + inserted_len delta.now + all_inserted (drop seen own.old.shown) ≤ MAX_TEXT_LEN }
-    requires restated { base_len (later_over delta.now (drop seen own.old.shown)) ≡ reached 0 own.old.shown }
+    requires limit { base_len delta.now + inserted_len delta.now
+        + all_inserted (drop seen own.old.shown) ≤ MAX_TEXT_LEN }
+    requires restated { base_len (later_over delta.now (drop seen own.old.shown))
+        ≡ reached 0 own.old.shown }
     requires events_limit { length own.old.shown < MAX_EVENTS }
-    ensures pending { OnOk result (own.new.pending ≡ own.old.pending ++ Pending.Edit (later_over delta.now (drop seen own.old.shown)) ∷ []) }
+    ensures pending { OnOk result (own.new.pending
+        ≡ own.old.pending ++ Pending.Edit (later_over delta.now (drop seen own.old.shown)) ∷ []) }
     ensures flight { own.new.flight ≡ own.old.flight }
-    ensures shown { OnOk result (own.new.shown ≡ own.old.shown ++ later_over delta.now (drop seen own.old.shown) ∷ []) }
-    ensures journal { OnOk result (own.new.journal ≡ own.old.journal ++ Event.Edit by seen delta.now ∷ []) }
+    ensures shown { OnOk result
+        (own.new.shown ≡ own.old.shown ++ later_over delta.now (drop seen own.old.shown) ∷ []) }
+    ensures journal { OnOk result
+        (own.new.journal ≡ own.old.journal ++ Event.Edit by seen delta.now ∷ []) }
     ensures unchanged { OnErr result (SameOwn own.old own.new) }
 {
     let restated = own.restated(delta, seen)?;
@@ -361,7 +394,8 @@ fn record_edit(own: &mut Workspace, by: u32, seen: u32, delta: &Delta) -> Result
 
 // The checks of a change.
 fn check_change(line: &Line, own: &Workspace) -> Result<(), EditFault>
-    ensures fault { (key : LmsPrivate) → Answers result (first_of (change_checks (plain_of key line.now own.now))) }
+    ensures fault { (key : LmsPrivate)
+        → Answers result (first_of (change_checks (plain_of key line.now own.now))) }
 {
     if line.removed() {
         return Err(EditFault::Removed);
@@ -374,7 +408,8 @@ fn check_change(line: &Line, own: &Workspace) -> Result<(), EditFault>
 
 // Whether one more item may be pending, and one more event be.
 fn check_room(own: &Workspace) -> Result<(), EditFault>
-    ensures fault { Answers result (first_of (room_checks (length own.now.pending) (length own.now.shown))) }
+    ensures fault { Answers result
+        (first_of (room_checks (length own.now.pending) (length own.now.shown))) }
 {
     if own.pending().len() >= MAX_PENDING {
         return Err(EditFault::PendingFull);

@@ -27,8 +27,8 @@ pub(crate) enum Coming {
     Own,
     /// It is another change: the entry on its way has come too late.
     Change,
-    /// It is another edit: this is what the pending items become behind it. One of the device's own takes the number of
-    /// the entry on its way.
+    /// It is another edit: this is what the pending items become behind it. One of the device's own
+    /// takes the number of the entry on its way.
     Edit(Items<Option<Passed>>, bool),
 }
 
@@ -43,10 +43,16 @@ pub(crate) fn settle(
     requires follow { Follow 0 own.now.shown }
     requires text_limit { length (text_after own.now.shown) ≤ MAX_COUNT }
     requires over { AreOver (base_len prepared.now.form) own.now.pending }
-    requires limit { base_len prepared.now.form + inserted_len prepared.now.form + inserted_by own.now.pending ≤ MAX_TEXT_LEN }
-    ensures coming { IfOk result (λ both. effect both.0 own.now.pending ≡ coming_of (is_same_as own.now.flight bytes.now) (is_some (change_of prepared.now.checked.entry)) (same_device (author_device prepared.now.checked.entry.header) me) prepared.now.form own.now.pending) }
+    requires limit { base_len prepared.now.form + inserted_len prepared.now.form
+        + inserted_by own.now.pending ≤ MAX_TEXT_LEN }
+    ensures coming { IfOk result
+        (λ both. effect both.0 own.now.pending ≡ coming_of (is_same_as own.now.flight bytes.now)
+        (is_some (change_of prepared.now.checked.entry)) (same_device
+        (author_device prepared.now.checked.entry.header) me) prepared.now.form own.now.pending) }
     ensures fits { IfOk result (λ both. CanCome both.0 own.now.pending) }
-    ensures form { IfOk result (λ both. both.1 ≡ shown_form (is_same_as own.now.flight bytes.now) (is_some (change_of prepared.now.checked.entry)) (length (text_after own.now.shown)) prepared.now.form own.now.pending) }
+    ensures form { IfOk result (λ both. both.1 ≡ shown_form (is_same_as own.now.flight bytes.now)
+        (is_some (change_of prepared.now.checked.entry))
+        (length (text_after own.now.shown)) prepared.now.form own.now.pending) }
 {
     if own.is_on_its_way(bytes) {
         let keeps = Delta::keep_all(alloc, own.shown_len())?;

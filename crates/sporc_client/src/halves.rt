@@ -1,4 +1,5 @@
-//! The random bytes of a submission, in two halves: those of the signature, and the key of a new epoch.
+//! The random bytes of a submission, in two halves: those of the signature, and the key of a new
+//! epoch.
 
 ghost use Rattle.std.specs.Prelude.{◌≡◌, drop, take};
 

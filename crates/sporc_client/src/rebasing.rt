@@ -12,18 +12,22 @@ use sporc_delta::Delta;
 use sporc_xform::{Passed, compose, pass};
 use std::alloc::Global;
 
-/// What each pending item becomes behind another's form, None if it stays, and the form behind them.
+/// What each pending item becomes behind another's form, None if it stays, and the form behind
+/// them.
 #[derive(Drop)]
 pub(crate) struct Passage {
     pub(crate) passed: Vec<Option<Passed>>,
     pub(crate) form: Delta,
 }
 
-// Passes a form and the pending items by each other, all but the change of the items; the form is ordered earlier.
+// Passes a form and the pending items by each other, all but the change of the items; the form is
+// ordered earlier.
 pub(crate) fn pass_items(alloc: Global, form: &Delta, items: &[Pending]) -> Result<Passage, Memory>
     requires over { AreOver (base_len form.now) items.now }
-    requires limit { base_len form.now + inserted_len form.now + inserted_by items.now ≤ MAX_TEXT_LEN }
-    ensures items { IfOk result (λ passage. all_became passage.passed.items items.now ≡ rebased form.now items.now) }
+    requires limit { base_len form.now + inserted_len form.now + inserted_by items.now
+        ≤ MAX_TEXT_LEN }
+    ensures items { IfOk result
+        (λ passage. all_became passage.passed.items items.now ≡ rebased form.now items.now) }
     ensures fits { IfOk result (λ passage. CanAllBecome passage.passed.items items.now) }
     ensures form { IfOk result (λ passage. passage.form ≡ beyond form.now items.now) }
 {
@@ -42,8 +46,10 @@ pub(crate) fn pass_items(alloc: Global, form: &Delta, items: &[Pending]) -> Resu
 // Passes a form and one item by each other, all but the change of the item.
 fn pass_one(alloc: Global, form: &mut Delta, item: &Pending) -> Result<Option<Passed>, Memory>
     requires over { AreOver (base_len form.old) (item.now ∷ []) }
-    requires limit { base_len form.old + inserted_len form.old + inserted_by (item.now ∷ []) ≤ MAX_TEXT_LEN }
-    ensures item { IfOk result (λ one. item_became one item.now ∷ [] ≡ rebased form.old (item.now ∷ [])) }
+    requires limit { base_len form.old + inserted_len form.old + inserted_by (item.now ∷ [])
+        ≤ MAX_TEXT_LEN }
+    ensures item { IfOk result
+        (λ one. item_became one item.now ∷ [] ≡ rebased form.old (item.now ∷ [])) }
     ensures fits { IfOk result (λ one. ItemCanBecome one item.now) }
     ensures form { OnOk result (form.new ≡ beyond form.old (item.now ∷ [])) }
 {

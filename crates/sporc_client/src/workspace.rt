@@ -1,6 +1,7 @@
 //! A client's own part.
 
-ghost use Rattle.std.specs.Prelude.{◌≡◌, ◌+◌, ◌≤◌, ◌<◌, ◌∷◌, ◌++◌, [], drop, take, length, None, Some, option_copied, IfOk, OnOk};
+ghost use Rattle.std.specs.Prelude.{◌≡◌, ◌+◌, ◌≤◌, ◌<◌, ◌∷◌, ◌++◌, [], drop, take, length, None};
+ghost use Rattle.std.specs.Prelude.{Some, option_copied, IfOk, OnOk};
 ghost use Rattle.sporc_delta.specs.Marks.{base_len, inserted_len, keep_marks};
 ghost use Rattle.sporc_delta.specs.declared.limits.TheConstants.{MAX_COUNT, MAX_TEXT_LEN};
 ghost use Rattle.sporc_suffix.specs.Forms.{Follow, all_inserted, later_over, reached};
@@ -43,7 +44,8 @@ impl Model for Workspace {
       flight = w.flight;
       shown = w.shown.forms;
       journal = w.journal.items;
-      spare = min (min (vec_capacity w.pending - vec_len w.pending) (vec_capacity w.journal - vec_len w.journal)) w.shown.spare;
+      spare = min (min (vec_capacity w.pending - vec_len w.pending)
+          (vec_capacity w.journal - vec_len w.journal)) w.shown.spare;
     } };
 
     ghost invariant = { λ w. WorkspaceInvariant w.shown.base w.shown.forms w.journal.items };
@@ -119,11 +121,13 @@ impl Workspace {
         self.shown.form(events - 1).out_len()
     }
 
-    /// A delta that is stated on the text shown after `seen` events, restated on the text shown now.
+    /// A delta that is stated on the text shown after `seen` events, restated on the text shown
+    /// now.
     pub(crate) fn restated(&self, delta: &Delta, seen: u32) -> Result<Delta, Memory>
         requires in_bounds { seen ≤ length self.now.shown }
         requires base { base_len delta.now ≡ reached 0 (take seen self.now.shown) }
-        requires limit { base_len delta.now + inserted_len delta.now + all_inserted (drop seen self.now.shown) ≤ MAX_TEXT_LEN }
+        requires limit { base_len delta.now + inserted_len delta.now
+            + all_inserted (drop seen self.now.shown) ≤ MAX_TEXT_LEN }
         ensures value { IfOk result (λ d. d ≡ later_over delta.now (drop seen self.now.shown)) }
     {
         behind::<Brand>(Blank::new(1), &self.shown, delta, seen)
@@ -177,14 +181,17 @@ impl Workspace {
         self.shown.put(ready);
     }
 
-    /// Does what an entry that comes does, and appends its event with the shown delta that was made ready.
+    /// Does what an entry that comes does, and appends its event with the shown delta that was made
+    /// ready.
     pub(crate) fn record_coming(&mut self, event: Event, ready: ReadyForm, coming: Coming)
         requires made { IsReadyAt 0 self.old.shown ready }
         requires limit { length self.old.shown < MAX_EVENTS }
         requires room { 0 < self.old.spare }
         requires fits { CanCome coming self.old.pending }
-        ensures pending { self.new.pending ≡ pending_after (effect coming self.old.pending) self.old.pending }
-        ensures flight { self.new.flight ≡ flight_after (effect coming self.old.pending) self.old.flight }
+        ensures pending { self.new.pending
+            ≡ pending_after (effect coming self.old.pending) self.old.pending }
+        ensures flight { self.new.flight
+            ≡ flight_after (effect coming self.old.pending) self.old.flight }
         ensures shown { self.new.shown ≡ self.old.shown ++ ready.form ∷ [] }
         ensures journal { self.new.journal ≡ self.old.journal ++ event ∷ [] }
     {
@@ -230,7 +237,8 @@ impl Workspace {
         self.flight = Some(entry);
     }
 
-    /// Appends an event with the shown delta that was made ready, and takes the first item off, if there is one.
+    /// Appends an event with the shown delta that was made ready, and takes the first item off, if
+    /// there is one.
     pub(crate) fn record_drop(&mut self, event: Event, ready: ReadyForm)
         requires made { IsReadyAt 0 self.old.shown ready }
         requires limit { length self.old.shown < MAX_EVENTS }
@@ -264,7 +272,8 @@ impl Workspace {
 pub(crate) fn ready_keep(alloc: Global, own: &mut Workspace) -> Result<ReadyForm, Memory>
     requires follow { Follow 0 own.old.shown }
     requires limit { length (text_after own.old.shown) ≤ MAX_COUNT }
-    ensures ok { IfOk result (λ ready. ready.form ≡ keep_marks (length (text_after own.old.shown))) }
+    ensures ok { IfOk result
+        (λ ready. ready.form ≡ keep_marks (length (text_after own.old.shown))) }
     ensures made { IfOk result (IsReadyAt 0 own.new.shown) }
     ensures room { OnOk result (0 < own.new.spare) }
     ensures unchanged { SameOwn own.old own.new }
@@ -274,7 +283,8 @@ pub(crate) fn ready_keep(alloc: Global, own: &mut Workspace) -> Result<ReadyForm
     Ok(ready)
 }
 
-// A delta that is stated after the first `seen` forms, restated behind all of them, with no count of steps.
+// A delta that is stated after the first `seen` forms, restated behind all of them, with no count
+// of steps.
 fn behind<L: Ledger>(
     blank: Blank,
     forms: &Blocks,
@@ -286,7 +296,8 @@ fn behind<L: Ledger>(
     requires positive { 0 < blank.parts }
     requires in_bounds { seen ≤ length forms.now.forms }
     requires base { base_len delta.now ≡ reached forms.now.base (take seen forms.now.forms) }
-    requires limit { base_len delta.now + inserted_len delta.now + all_inserted (drop seen forms.now.forms) ≤ MAX_TEXT_LEN }
+    requires limit { base_len delta.now + inserted_len delta.now
+        + all_inserted (drop seen forms.now.forms) ≤ MAX_TEXT_LEN }
     ensures value { IfOk result (λ d. d ≡ later_over delta.now (drop seen forms.now.forms)) }
 {
     let mut steps: Steps<L> = Steps::new(blank);

@@ -6,7 +6,8 @@ use sporc_samples::Cast;
 use std::alloc::Global;
 use std::process::Abort;
 
-// The document has devices from its Upgrade on, and one Upgrade. A device that isn't live has no right.
+// The document has devices from its Upgrade on, and one Upgrade. A device that isn't live has no
+// right.
 const UPGRADED: &str = "
 1 device 2 1 -> event 1
 1 submit -> dropped NotUpgraded
@@ -32,7 +33,8 @@ const UPGRADED: &str = "
 3 give 3 3 -> event 3
 ";
 
-// Both devices edit at once: the entry of each has the number 1, and the other's is another's, which its own on the way outlives.
+// Both devices edit at once: the entry of each has the number 1, and the other's is another's,
+// which its own on the way outlives.
 const MEET: &str = "
 2 insert 1 X -> event 4
 3 insert 1 Y -> event 4
@@ -52,7 +54,8 @@ const MEET: &str = "
 1 give 6 4 -> Refused(WrongNumber)
 ";
 
-// A device is dropped while its entry is on its way, which comes too late; and so does all that its key signs then.
+// A device is dropped while its entry is on its way, which comes too late; and so does all that its
+// key signs then.
 const DROPPED: &str = "
 3 insert 0 q -> event 4
 3 submit -> entry

@@ -8,7 +8,8 @@ use sporc_samples::Cast;
 use std::alloc::Global;
 use std::process::Abort;
 
-// Edits of the text shown now and of older ones: each is restated behind what came since, and at one place comes behind it.
+// Edits of the text shown now and of older ones: each is restated behind what came since, and at
+// one place comes behind it.
 const REBASED: &str = "
 1 insert 0 z -> event 4
 1 append 3 3 d -> event 5
@@ -121,7 +122,8 @@ fn pending_is_limited(rt: &impl Abort, alloc: Global, cast: &Cast) {
     shows_all(rt, room.client(rt, 2));
 }
 
-// Edits are of the text that was shown, only few and short ones may be pending, and all of them pass what another made.
+// Edits are of the text that was shown, only few and short ones may be pending, and all of them
+// pass what another made.
 #[test]
 fn edits_are_pending(rt: HostRuntime) {
     let cast = Cast::new(rt.alloc()).expect(&rt, "a cast");

@@ -1,7 +1,8 @@
-//! The tests of `sporc_client`. They stand in a crate of their own, since a crate with tests is proved twice. No program stands
-//! on it.
+//! The tests of `sporc_client`. They stand in a crate of their own, since a crate with tests is
+//! proved twice. No program stands on it.
 //!
-//! Clients sign by real keys, whose leaf files are in memory. What several clients do stands in rows, which one loop reads.
+//! Clients sign by real keys, whose leaf files are in memory. What several clients do stands in
+//! rows, which one loop reads.
 #![tactic(auto)]
 
 #[cfg(test)]

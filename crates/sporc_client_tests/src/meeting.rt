@@ -3,7 +3,8 @@
 use crate::room::plays;
 use sporc_samples::Cast;
 
-// Another's entry passes two pending edits, the first of which is on its way. That entry then commits what it said.
+// Another's entry passes two pending edits, the first of which is on its way. That entry then
+// commits what it said.
 const PASSED_BY: &str = "
 2 insert 3 d -> event 2
 2 insert 0 < -> event 3

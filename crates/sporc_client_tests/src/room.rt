@@ -1,5 +1,5 @@
-//! Clients of the sample document that act by rows, one a line: the place of a client, which is its member's number unless it is
-//! of a further device, what it is told, and what it answers.
+//! Clients of the sample document that act by rows, one a line: the place of a client, which is its
+//! member's number unless it is of a further device, what it is told, and what it answers.
 //!
 //! | Row | Answer |
 //! |---|---|
@@ -40,8 +40,8 @@ pub(crate) const ABC: &str = "
 2 give 1 1 -> event 1
 ";
 
-/// The clients of the members 1, 2, .. by their first devices and of further devices behind them, and the entries that they
-/// made. A function that owns a room is quick to prove.
+/// The clients of the members 1, 2, .. by their first devices and of further devices behind them,
+/// and the entries that they made. A function that owns a room is quick to prove.
 #[derive(Drop)]
 pub(crate) struct Room {
     clients: Vec<Box<MemoryClient>>,

@@ -58,8 +58,9 @@ fn signer(rt: &impl Abort, alloc: Global, me: Device, calls: Calls) -> Signer<Me
     Signer::open(tree, leaves)
 }
 
-/// The client of a founder's device, of one who shares keys with the first members, just opened, on a disk some of whose calls
-/// fail. It is in a box: a function that owns a client itself is slow to prove.
+/// The client of a founder's device, of one who shares keys with the first members, just opened, on
+/// a disk some of whose calls fail. It is in a box: a function that owns a client itself is slow to
+/// prove.
 pub(crate) fn opened(
     rt: &impl Abort,
     alloc: Global,

@@ -71,7 +71,8 @@ fn all_leaves(rt: &impl Abort, alloc: Global, cast: &Cast) {
     leaves_end(rt, alloc, room.client(rt, 2));
 }
 
-// The opening of a leaf file calls the disk three times; the first draw then writes, which fails here, and would sync.
+// The opening of a leaf file calls the disk three times; the first draw then writes, which fails
+// here, and would sync.
 fn failing_calls(rt: &impl Abort, alloc: Global) -> Calls {
     let mut failing = Vec::new(alloc);
     failing.push(4).expect(rt, "memory");
@@ -95,7 +96,8 @@ fn has_failing_disk(rt: &impl Abort, alloc: Global, cast: &Cast) {
     draw_fails(rt, alloc, room.client(rt, 1));
 }
 
-// A change wants a key for each member, and an entry a leaf, of which there are few and which a failing disk doesn't give.
+// A change wants a key for each member, and an entry a leaf, of which there are few and which a
+// failing disk doesn't give.
 #[test]
 fn an_entry_wants_keys_and_a_leaf(rt: HostRuntime) {
     let cast = Cast::new(rt.alloc()).expect(&rt, "a cast");
@@ -168,7 +170,8 @@ fn remove_all(rt: &impl Abort, alloc: Global, client: &mut MemoryClient) {
     edit(client, &delta).expect(rt, "an event");
 }
 
-// All 60,001 characters are removed in one part of nine bytes. Split at 60,000 places, it has 120,001 parts.
+// All 60,001 characters are removed in one part of nine bytes. Split at 60,000 places, it has
+// 120,001 parts.
 fn head_grows(
     rt: &impl Abort,
     alloc: Global,

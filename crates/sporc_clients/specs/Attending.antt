@@ -50,20 +50,26 @@ module _ (begin : Begin) (saved : Option (List ℕ)) (old : NetTold) where
       -- its saved history is not whole, and no link was asked for
       not_whole : checked_before ≡ Err fault → new ≡ old → NotResumed before after fault
       -- its line was not opened
-      not_opened : checked_before ≡ Ok tt → NotOpened begin old new before after fault → NotResumed before after fault
-      -- the loading of its saved history stopped before the end, or memory ran out: then no stop of it is told
+      not_opened : checked_before ≡ Ok tt → NotOpened begin old new before after fault
+          → NotResumed before after fault
+      -- the loading of its saved history stopped before the end, or memory ran out: then no stop of
+      -- it is told
       not_loaded : {kit : Kit} → checked_before ≡ Ok tt → Opens begin old new kit
-          → AnswersUnlessOutside (λ (line : LineModel). line.entries) ⊥ (Err fault) (entries_with kit) → NotResumed before after fault
+          → AnswersUnlessOutside (λ (line : LineModel). line.entries) ⊥ (Err fault)
+          (entries_with kit) → NotResumed before after fault
 
   module _ (new : NetTold) where
     -- a session led the member's client from its line to another past
-    pub record IsAttended (wanted : Wanted) (signs : Signs) (after : Past) (chance chance' : ChanceTold) (result : Result ⊤ SessionFault) : Type 0 where
+    pub record IsAttended (wanted : Wanted) (signs : Signs) (after : Past)
+        (chance chance' : ChanceTold) (result : Result ⊤ SessionFault) : Type 0 where
       pub between : NetTold
       pub line : LineModel
       pub resumed : IsResumed between line
-      pub work : IsWork wanted begin.address (past_with line signs) after between new chance chance' result
+      pub work : IsWork wanted begin.address
+          (past_with line signs) after between new chance chance' result
 
     -- why none began
     pub data NotAttended (before after : ℕ) (fault : Fault) : Type 0 where
       not_resumed : NotResumed new before after fault → NotAttended before after fault
-      not_begun : {between : NetTold} {line : LineModel} → IsResumed between line → NotBegun begin.address between new before after fault → NotAttended before after fault
+      not_begun : {between : NetTold} {line : LineModel} → IsResumed between line
+          → NotBegun begin.address between new before after fault → NotAttended before after fault

@@ -1,5 +1,6 @@
 -- What is saved and printed once a session has ended, and what stands of the leaf file.
-use Rattle.std.specs.Prelude.{◌≡◌, ◌+◌, ◌<◌, ◌≤◌, ℕ, List, length, Option, option_map, Result, Ok, Err, ⊤}
+use Rattle.std.specs.Prelude.{◌≡◌, ◌+◌, ◌<◌, ◌≤◌, ℕ, List, length, Option, option_map, Result, Ok}
+use Rattle.std.specs.Prelude.{Err, ⊤}
 use Rattle.std.specs.Io.KnownBytes.{Appends}
 use Rattle.lms_leaf.specs.LeafFile.{ArePassed, AreTaken}
 use Rattle.sporc_client.specs.ClientModel.{Rise, leaves_of}
@@ -36,26 +37,32 @@ files_use told old new = record {
 abbrev pub history_bytes : Past → List ℕ
 history_bytes past = saved_bytes past.opening.genesis.document (client_of past).entries
 
--- What was saved of a client, whatever its session came to: all its entries, as the file with this name, and nothing else. Or a call of the
--- folder failed, and anything may stand there; or nothing was written, since the file would be too long, or since memory ran out as its
--- bytes were made
+-- What was saved of a client, whatever its session came to: all its entries, as the file with this
+-- name, and nothing else. Or a call of the folder failed, and anything may stand there; or nothing
+-- was written, since the file would be too long, or since memory ran out as its bytes were made
 abbrev pub SaveOutcome : Past → List ℕ → FilesUse → Result ⊤ Fault → Type 0
-SaveOutcome past name files (Ok done) = files.after ≡ option_map (λ old. with_file old name (history_bytes past)) files.before
-SaveOutcome past name files (Err faults.Outside) = Rose files.faults_before files.faults_after × ChangesFile files.before files.after name
-SaveOutcome past name files (Err faults.FullFile) = (MAX_FILE < length (history_bytes past)) × (files.after ≡ files.before)
+SaveOutcome past name files (Ok done) =
+    files.after ≡ option_map (λ old. with_file old name (history_bytes past)) files.before
+SaveOutcome past name files (Err faults.Outside) =
+    Rose files.faults_before files.faults_after × ChangesFile files.before files.after name
+SaveOutcome past name files (Err faults.FullFile) =
+    (MAX_FILE < length (history_bytes past)) × (files.after ≡ files.before)
 SaveOutcome past name files (Err faults.Memory) = files.after ≡ files.before
 SaveOutcome past name files (Err fault) = ⊥
 
--- What was printed of a client, whatever its session and its saving came to: journal and report, and nothing else. Or a call of the sink failed
--- behind a prefix of them; or memory ran out as they were made, before any call of the sink
+-- What was printed of a client, whatever its session and its saving came to: journal and report,
+-- and nothing else. Or a call of the sink failed behind a prefix of them; or memory ran out as they
+-- were made, before any call of the sink
 abbrev pub PrintOutcome : Past → Use StreamTold → Result ⊤ Fault → Type 0
 PrintOutcome past out (Ok done) = Appends out.before.written out.after.written (report_of past)
-PrintOutcome past out (Err faults.Outside) = Rose out.before.faults out.after.faults × AppendsPrefix out.before.written out.after.written (report_of past)
+PrintOutcome past out (Err faults.Outside) = Rose out.before.faults out.after.faults
+    × AppendsPrefix out.before.written out.after.written (report_of past)
 PrintOutcome past out (Err faults.Memory) = IsUnwritten out
 PrintOutcome past out (Err fault) = ⊥
 
--- the leaves of a log's submissions rise from the first on, each once, and one more at most was drawn; no crash makes the blocks of any of them free
--- again; whatever a crash leaves, a later opening goes on at the next leaf or above it
+-- the leaves of a log's submissions rise from the first on, each once, and one more at most was
+-- drawn; no crash makes the blocks of any of them free again; whatever a crash leaves, a later
+-- opening goes on at the next leaf or above it
 pub record LeavesAreTaken (images : List ℕ → Type 0) (past : Past) : Type 0 where
   pub next : ℕ
   pub forward : past.first_leaf ≤ next

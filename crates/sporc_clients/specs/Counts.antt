@@ -13,7 +13,8 @@ pub record CountsAround : Type 0 where
   pub chance_before : ℕ
   pub chance_after : ℕ
 
--- those of a net, or of its link, and of a chance, by the counts of the links and what the chance told
+-- those of a net, or of its link, and of a chance, by the counts of the links and what the chance
+-- told
 abbrev pub counts_around : ℕ → ℕ → Use ChanceTold → CountsAround
 counts_around before after chance = record {
   links_before = before;

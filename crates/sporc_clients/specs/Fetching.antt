@@ -23,10 +23,14 @@ module _ (address document : List ℕ) (member : ℕ) (old new : NetTold) where
     pub last : StreamTold
     pub uses : UsesLink old new address first last
     pub inbox : InboxModel
-    pub fetch : IsFetch (link_at (link_told first) empty_inbox) (link_at (link_told last) inbox) document member fetched
+    pub fetch : IsFetch (link_at (link_told first) empty_inbox)
+        (link_at (link_told last) inbox) document member fetched
 
-  -- Why they were not, where the net's count of faults went from `before` to `after`: no link was made, or a fault came over it, which is the same
-  -- whatever a disk counted
+  -- Why they were not, where the net's count of faults went from `before` to `after`: no link was
+  -- made, or a fault came over it, which is the same whatever a disk counted
   pub data NotFetched (before after : ℕ) (fault : Fault) : Type 0 where
-    unreached : MakesNoLink old new address → Rose before after → fault ≡ faults.Outside → NotFetched before after fault
-    broken : {cause : SessionFault} → IsFetchAt (Err cause) → ((disk_faults : ℕ) → fault ≡ fault_of_session disk_faults cause) → NotFetched before after fault
+    unreached : MakesNoLink old new address → Rose before after → fault ≡ faults.Outside
+        → NotFetched before after fault
+    broken : {cause : SessionFault} → IsFetchAt (Err cause)
+        → ((disk_faults : ℕ) → fault ≡ fault_of_session disk_faults cause)
+        → NotFetched before after fault

@@ -16,17 +16,21 @@ use Rattle.sporc_files.specs.Names.{FileNames, file_name}
 abbrev pub IsLendFault : Option (List NamedFile) → ℕ → ℕ → FileNames → Device → Fault → Type 0
 IsLendFault files before after names device faults.Memory = Unit {0}
 IsLendFault files before after names device faults.Outside = Rose before after
-IsLendFault files before after names device (faults.Missing other) = (other ≡ Leaf device) × HasNoFile files (file_name names (Leaf device))
-IsLendFault files before after names device (faults.TooLong other) = (other ≡ Leaf device) × (len : ℕ) × IsTooLong files (file_name names (Leaf device)) len
+IsLendFault files before after names device (faults.Missing other) =
+    (other ≡ Leaf device) × HasNoFile files (file_name names (Leaf device))
+IsLendFault files before after names device (faults.TooLong other) =
+    (other ≡ Leaf device) × (len : ℕ) × IsTooLong files (file_name names (Leaf device)) len
 IsLendFault files before after names device fault = ⊥
 
 -- Leaves go on behind the last block that is taken, and nothing was written
-pub record IsOpened {D : Type 0} (stored stored' : Option (List ℕ)) (leaves : LeavesModel D) : Type 0 where
+pub record IsOpened {D : Type 0} (stored stored' : Option (List ℕ))
+    (leaves : LeavesModel D) : Type 0 where
   pub next : IfSome stored (λ bytes. leaves.next ≡ LEAVES_PER_BLOCK * taken_blocks bytes)
   pub first : leaves.next_at_open ≡ leaves.next
   pub unwritten : stored' ≡ stored
 
--- why they don't, of a key whose tree has a height: the disk failed, or it is malformed at its length
+-- why they don't, of a key whose tree has a height: the disk failed, or it is malformed at its
+-- length
 abbrev pub IsLeafFileFault : Option (List ℕ) → ℕ → ℕ → Device → ℕ → Fault → Type 0
 IsLeafFileFault stored before after device height faults.Memory = Unit {0}
 IsLeafFileFault stored before after device height faults.Outside = Rose before after

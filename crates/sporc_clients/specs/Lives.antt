@@ -10,7 +10,8 @@ use Rattle.sporc_clients.specs.Outcome.{ClientUse, DiskOutcome, not_worked, work
 
 module _ {D : Type 0} (disks : D → DiskTold) where
   -- the leaves that signed over a disk: those of the submissions of the session, if one began
-  abbrev pub signed_in : (words : Words) (m : MemberFiles) (did : ClientUse) {first last : D} {answer : Result ⊤ Fault}
+  abbrev pub signed_in :
+      (words : Words) (m : MemberFiles) (did : ClientUse) {first last : D} {answer : Result ⊤ Fault}
       → DiskOutcome disks words m did first last answer → List ℕ
   signed_in words m did (worked w) = leaves_of w.past.log
   signed_in words m did (not_worked why untouched same kept) = []
@@ -26,20 +27,25 @@ module _ {D : Type 0} (disks : D → DiskTold) where
     pub outcome : DiskOutcome disks words member did first last answer
 
   abbrev pub life_of : ClientRun → LeafLife D
-  life_of run = record { lent = run.first; last = run.last; given = signed_in run.words run.member run.did run.outcome }
+  life_of run = record {
+    lent = run.first;
+    last = run.last;
+    given = signed_in run.words run.member run.did run.outcome;
+  }
 
   -- the leaves that signed in runs, in their order
   abbrev pub all_signed : List ClientRun → List ℕ
   all_signed runs = all_given (map life_of runs)
 
 module _ {D : Type 0} (disk_told : D → DiskTold) where
-  -- runs one behind another, over a disk that tells its bytes: each begins with what a read gives of the disk that the one before it left, or with
-  -- what a crash leaves of that
+  -- runs one behind another, over a disk that tells its bytes: each begins with what a read gives
+  -- of the disk that the one before it left, or with what a crash leaves of that
   abbrev pub AreRuns : List (ClientRun disk_told) → Type 0
   AreRuns [] = ⊤
   AreRuns (run ∷ runs) =
       let life = life_of disk_told in
-      IsSome (disk_told run.first).stored × GoesOn disk_told (life run) (map life runs) × AreRuns runs
+      IsSome (disk_told run.first).stored × GoesOn disk_told (life run) (map life runs)
+      × AreRuns runs
 
   -- no leaf signs twice over them
   abbrev pub SignOnce : Type 0

@@ -14,7 +14,8 @@ use Rattle.sporc_base.specs.Numbers.{up_to}
 use Rattle.sporc_files.specs.declared.fault.Fault.{Fault}
 use Rattle.sporc_files.specs.declared.fault.Fault.TheVariants as faults
 use Rattle.sporc_files.specs.declared.file.File.{File}
-use Rattle.sporc_files.specs.declared.file.File.TheVariants.{Genesis as GenesisFile, Key, Ring, Script}
+use Rattle.sporc_files.specs.declared.file.File.TheVariants.{Genesis as GenesisFile, Key, Ring}
+use Rattle.sporc_files.specs.declared.file.File.TheVariants.{Script}
 use Rattle.sporc_files.specs.Names.{FileNames, file_name}
 use Rattle.sporc_files.specs.Reading.{IsFileFault, SaysFile, any_bytes, genesis_file, own_key_file}
 use Rattle.sporc_clients.specs.declared.member_files.MemberFiles.{MemberFiles}
@@ -27,27 +28,35 @@ script_files count = map Script (up_to count)
 
 -- told files have a file with this name that is this script
 abbrev pub SaysScript : Option (List NamedFile) → List ℕ → List EditorLine → Type 0
-SaysScript files name script = (text : List ℕ) × (length text ≤ MAX_FILE) × HasFile files name text × IsEditorScript text script
+SaysScript files name script = (text : List ℕ) × (length text ≤ MAX_FILE) × HasFile files name text
+    × IsEditorScript text script
 
 -- these are the scripts of the editors from this number on
 abbrev pub SayScripts : Option (List NamedFile) → FileNames → ℕ → List (List EditorLine) → Type 0
 SayScripts files names editor [] = ⊤
-SayScripts files names editor (script ∷ scripts) = SaysScript files (file_name names (Script editor)) script × SayScripts files names (editor + 1) scripts
+SayScripts files names editor (script ∷ scripts) =
+    SaysScript files (file_name names (Script editor)) script
+    × SayScripts files names (editor + 1) scripts
 
 -- why the script of an editor was not read: as any file, or a line is the first outside the grammar
-pub data IsScriptFault (files : Option (List NamedFile)) (before after : ℕ) (names : FileNames) (editor : ℕ) (fault : Fault) : Type 0 where
-  unread : IsFileFault any_bytes files before after names (Script editor) fault → IsScriptFault files before after names editor fault
-  no_script : (text : List ℕ) (line : ℕ) → length text ≤ MAX_FILE → HasFile files (file_name names (Script editor)) text → IsEditorFault text line
+pub data IsScriptFault (files : Option (List NamedFile)) (before after : ℕ) (names : FileNames)
+    (editor : ℕ) (fault : Fault) : Type 0 where
+  unread : IsFileFault any_bytes files before after names (Script editor) fault
+      → IsScriptFault files before after names editor fault
+  no_script : (text : List ℕ) (line : ℕ) → length text ≤ MAX_FILE
+      → HasFile files (file_name names (Script editor)) text → IsEditorFault text line
       → fault ≡ faults.EditorLine editor line → IsScriptFault files before after names editor fault
   out_of_memory : fault ≡ faults.Memory → IsScriptFault files before after names editor fault
 
 -- those of so many editors
-pub record SayAllScripts (files : Option (List NamedFile)) (names : FileNames) (count : ℕ) (scripts : List (List EditorLine)) : Type 0 where
+pub record SayAllScripts (files : Option (List NamedFile)) (names : FileNames) (count : ℕ)
+    (scripts : List (List EditorLine)) : Type 0 where
   pub all : length scripts ≡ count
   pub each : SayScripts files names 1 scripts
 
 -- the first that was not read, with those before it
-pub record IsFirstScriptFault (files : Option (List NamedFile)) (before after : ℕ) (names : FileNames) (fault : Fault) : Type 0 where
+pub record IsFirstScriptFault (files : Option (List NamedFile)) (before after : ℕ)
+    (names : FileNames) (fault : Fault) : Type 0 where
   pub read : List (List EditorLine)
   pub each : SayScripts files names 1 read
   pub fault_is : IsScriptFault files before after names (length read + 1) fault
@@ -59,24 +68,36 @@ abbrev pub own_files : Device → ℕ → List File
 own_files device count = GenesisFile ∷ Key device ∷ Ring device.member ∷ script_files count
 
 -- told files say this of a device, and of the scripts of so many editors
-pub record SayMember (files : Option (List NamedFile)) (names : FileNames) (device : Device) (count : ℕ) (m : MemberFiles) : Type 0 where
+pub record SayMember (files : Option (List NamedFile)) (names : FileNames) (device : Device)
+    (count : ℕ) (m : MemberFiles) : Type 0 where
   pub genesis : SaysFile genesis_file files (file_name names GenesisFile) m.genesis
-  pub key : SaysFile (own_key_file m.genesis.founders device) files (file_name names (Key device)) m.tree
-  pub ring : SaysFile (ring_file_of_member device.member) files (file_name names (Ring device.member)) m.ring
+  pub key : SaysFile (own_key_file m.genesis.founders device) files
+      (file_name names (Key device)) m.tree
+  pub ring : SaysFile (ring_file_of_member device.member) files
+      (file_name names (Ring device.member)) m.ring
   pub editors : SayAllScripts files names count m.editors
 
 -- what the genesis and the key of a device say
-pub record SayGenesisAndKey (files : Option (List NamedFile)) (names : FileNames) (device : Device) (genesis : Genesis) (key : LmsPrivate) : Type 0 where
+pub record SayGenesisAndKey (files : Option (List NamedFile)) (names : FileNames) (device : Device)
+    (genesis : Genesis) (key : LmsPrivate) : Type 0 where
   pub genesis_says : SaysFile genesis_file files (file_name names GenesisFile) genesis
-  pub key_says : SaysFile (own_key_file genesis.founders device) files (file_name names (Key device)) key
+  pub key_says : SaysFile (own_key_file genesis.founders device) files
+      (file_name names (Key device)) key
 
 -- the first file that was not read, behind those before it
-pub data IsMemberFault (files : Option (List NamedFile)) (before after : ℕ) (names : FileNames) (device : Device) (fault : Fault) : Type 0 where
-  no_genesis : IsFileFault genesis_file files before after names GenesisFile fault → IsMemberFault files before after names device fault
+pub data IsMemberFault (files : Option (List NamedFile)) (before after : ℕ) (names : FileNames)
+    (device : Device) (fault : Fault) : Type 0 where
+  no_genesis : IsFileFault genesis_file files before after names GenesisFile fault
+      → IsMemberFault files before after names device fault
   no_key : {genesis : Genesis} → SaysFile genesis_file files (file_name names GenesisFile) genesis
-      → IsFileFault (own_key_file genesis.founders device) files before after names (Key device) fault → IsMemberFault files before after names device fault
+      → IsFileFault (own_key_file genesis.founders device) files before after names
+      (Key device) fault → IsMemberFault files before after names device fault
   no_ring : {genesis : Genesis} {key : LmsPrivate} → SayGenesisAndKey files names device genesis key
-      → IsFileFault (ring_file_of_member device.member) files before after names (Ring device.member) fault → IsMemberFault files before after names device fault
-  no_scripts : {genesis : Genesis} {key : LmsPrivate} {ring : RingFile} → SayGenesisAndKey files names device genesis key
-      → SaysFile (ring_file_of_member device.member) files (file_name names (Ring device.member)) ring
-      → IsFirstScriptFault files before after names fault → IsMemberFault files before after names device fault
+      → IsFileFault (ring_file_of_member device.member) files before after names
+      (Ring device.member) fault → IsMemberFault files before after names device fault
+  no_scripts : {genesis : Genesis} {key : LmsPrivate} {ring : RingFile}
+      → SayGenesisAndKey files names device genesis key
+      → SaysFile (ring_file_of_member device.member) files
+      (file_name names (Ring device.member)) ring
+      → IsFirstScriptFault files before after names fault
+      → IsMemberFault files before after names device fault

@@ -11,7 +11,8 @@ use Rattle.sporc_files.specs.Faults.{AnswersUnlessOutside}
 use Rattle.sporc_files.specs.Opening.{kit_by}
 use Rattle.sporc_clients.specs.Fetching.{IsFetchAt, NotFetched}
 
--- what a line is opened by: the document, the device, what its member's ring file says, and where the server is
+-- what a line is opened by: the document, the device, what its member's ring file says, and where
+-- the server is
 pub record Begin : Type 0 where
   pub genesis : Genesis
   pub device : Device
@@ -27,10 +28,14 @@ abbrev pub kit_from : Begin → List (List ℕ) → Result Kit Fault
 kit_from begin entries = kit_by begin.genesis begin.device begin.ring entries
 
 module _ (begin : Begin) (old new : NetTold) where
-  -- the entries that hints are taken from: a founder needs none, and all those of the server were fetched for a joiner
+  -- the entries that hints are taken from: a founder needs none, and all those of the server were
+  -- fetched for a joiner
   pub data HasEntries (entries : List (List ℕ)) : Type 0 where
-    founds : {key : List ℕ} → begin.ring.epoch_key ≡ Some key → new ≡ old → entries ≡ [] → HasEntries entries
-    joins : begin.ring.epoch_key ≡ None → IsFetchAt begin.address begin.genesis.document begin.device.member old new (Ok entries) → HasEntries entries
+    founds : {key : List ℕ} → begin.ring.epoch_key ≡ Some key → new ≡ old → entries ≡ []
+        → HasEntries entries
+    joins : begin.ring.epoch_key ≡ None
+        → IsFetchAt begin.address begin.genesis.document begin.device.member old new (Ok entries)
+        → HasEntries entries
 
   -- the device is given this: its key of epoch 0 is the one that the genesis commits to
   pub record Opens (kit : Kit) : Type 0 where
@@ -38,8 +43,12 @@ module _ (begin : Begin) (old new : NetTold) where
     pub has : HasEntries entries
     pub gives : kit_from begin entries ≡ Ok kit
 
-  -- why it is not, where the net's count of faults went from `before` to `after`: the entries were not fetched for a joiner, or they give no hints, or
-  -- the keys don't open the document, or memory ran out
+  -- why it is not, where the net's count of faults went from `before` to `after`: the entries were
+  -- not fetched for a joiner, or they give no hints, or the keys don't open the document, or memory
+  -- ran out
   pub data NotOpened (before after : ℕ) (fault : Fault) : Type 0 where
-    no_entries : begin.ring.epoch_key ≡ None → NotFetched begin.address begin.genesis.document begin.device.member old new before after fault → NotOpened before after fault
-    no_kit : {entries : List (List ℕ)} → HasEntries entries → AnswersUnlessOutside (λ (line : LineModel). line.kit) ⊥ (Err fault) (kit_from begin entries) → NotOpened before after fault
+    no_entries : begin.ring.epoch_key ≡ None → NotFetched begin.address begin.genesis.document
+        begin.device.member old new before after fault → NotOpened before after fault
+    no_kit : {entries : List (List ℕ)} → HasEntries entries
+        → AnswersUnlessOutside (λ (line : LineModel). line.kit) ⊥ (Err fault)
+        (kit_from begin entries) → NotOpened before after fault

@@ -1,5 +1,6 @@
 -- What the command did.
-use Rattle.std.specs.Prelude.{◌≡◌, ◌≤◌, ℕ, List, [], ◌∷◌, ◌++◌, length, Option, option_map, Result, Err, ⊤}
+use Rattle.std.specs.Prelude.{◌≡◌, ◌≤◌, ℕ, List, [], ◌∷◌, ◌++◌, length, Option, option_map, Result}
+use Rattle.std.specs.Prelude.{Err, ⊤}
 use Rattle.lms_leaf.specs.Leaves.{LeavesModel}
 use Rattle.lms_tree.specs.LmsType.{height_of}
 use Rattle.sporc_member.specs.declared.device.Device.{Device}
@@ -76,7 +77,8 @@ client_files device scripts = own_files device scripts ++ Leaf device ∷ Histor
 
 -- what the line of the member's device is opened by
 abbrev pub begin_of : Words → MemberFiles → Begin
-begin_of words m = record { genesis = m.genesis; device = words.device; ring = m.ring; address = words.address }
+begin_of words m =
+    record { genesis = m.genesis; device = words.device; ring = m.ring; address = words.address }
 
 -- the session
 abbrev pub wanted_of : Words → MemberFiles → Wanted
@@ -88,52 +90,66 @@ signs_with m leaves = record { key = m.tree; first_leaf = leaves.next }
 
 -- ---- a session over the disk of the leaf file
 
-module _ {D : Type 0} (disks : D → DiskTold) (words : Words) (m : MemberFiles) (did : ClientUse) where
-  -- The member's leaves go on behind the last block that is taken on this disk, and this is its saved history, if it has one
+module _ {D : Type 0} (disks : D → DiskTold) (words : Words) (m : MemberFiles)
+    (did : ClientUse) where
+  -- The member's leaves go on behind the last block that is taken on this disk, and this is its
+  -- saved history, if it has one
   pub record IsReady (first : D) (leaves : LeavesModel D) (history : Option (List ℕ)) : Type 0 where
     pub opened : IsOpened (disks first).stored (disks leaves.disk).stored leaves
-    pub says : SaysFileIfThere any_bytes did.folder.before.files (file_name (names_of words) (History words.device)) history
+    pub says : SaysFileIfThere any_bytes did.folder.before.files
+        (file_name (names_of words) (History words.device)) history
 
-  -- A session led the member's client from its saved history to a last past. However it ended, the history of that past was saved, and its journal
-  -- and report were printed, and then the answer is the first fault: out of memory at one of these two, that of the session, of saving, or of printing
+  -- A session led the member's client from its saved history to a last past. However it ended, the
+  -- history of that past was saved, and its journal and report were printed, and then the answer is
+  -- the first fault: out of memory at one of these two, that of the session, of saving, or of
+  -- printing
   pub record Worked (first last : D) (answer : Result ⊤ Fault) : Type 0 where
     pub leaves : LeavesModel D
     pub history : Option (List ℕ)
     pub ready : IsReady first leaves history
     pub past : Past
     pub session : Result ⊤ SessionFault
-    pub attended : IsAttended (begin_of words m) history did.net.before did.net.after (wanted_of words m) (signs_with m leaves) past
+    pub attended : IsAttended (begin_of words m) history did.net.before did.net.after
+        (wanted_of words m) (signs_with m leaves) past
         (chance_before did) (chance_after did) session
     pub causes : RoseIfFailed (counts_of did) session
     pub saved : Result ⊤ Fault
-    pub saves : SaveOutcome past (file_name (names_of words) (History words.device)) (files_of did) saved
+    pub saves : SaveOutcome past (file_name (names_of words) (History words.device))
+        (files_of did) saved
     pub printed : Result ⊤ Fault
     pub prints : PrintOutcome past did.out printed
     pub taken : LeavesAreTaken (disk_images (disks last)) past
     pub answers : answer ≡ ended (disks last).faults session saved printed
 
-  -- why no session began: the leaf file is none of the key's; behind its opening, the saved history was not read; or the client could not go on
-  -- with it
+  -- why no session began: the leaf file is none of the key's; behind its opening, the saved history
+  -- was not read; or the client could not go on with it
   pub data NotWorked (first last : D) (fault : Fault) : Type 0 where
-    no_leaves : IsLeafFileFault (disks first).stored (disks first).faults (disks last).faults words.device (height_of m.tree.lms) fault
+    no_leaves : IsLeafFileFault (disks first).stored (disks first).faults
+        (disks last).faults words.device (height_of m.tree.lms) fault
         → did.net.after ≡ did.net.before → NotWorked first last fault
-    no_history : {leaves : LeavesModel D} → IsOpened (disks first).stored (disks leaves.disk).stored leaves
-        → IsFileFault any_bytes did.folder.before.files did.folder.before.faults did.folder.after.faults (names_of words) (History words.device) fault
+    no_history : {leaves : LeavesModel D}
+        → IsOpened (disks first).stored (disks leaves.disk).stored leaves
+        → IsFileFault any_bytes did.folder.before.files did.folder.before.faults
+        did.folder.after.faults (names_of words) (History words.device) fault
         → did.net.after ≡ did.net.before → NotWorked first last fault
     no_session : {leaves : LeavesModel D} {history : Option (List ℕ)} → IsReady first leaves history
-        → NotAttended (begin_of words m) history did.net.before did.net.after did.net.before.faults did.net.after.faults fault
-        → NotWorked first last fault
+        → NotAttended (begin_of words m) history did.net.before did.net.after did.net.before.faults
+        did.net.after.faults fault → NotWorked first last fault
 
   -- by the answer
   pub data DiskOutcome (first last : D) : Result ⊤ Fault → Type 0 where
     worked : {answer : Result ⊤ Fault} → Worked first last answer → DiskOutcome first last answer
-    not_worked : {fault : Fault} → NotWorked first last fault → IsUntouched did → (disks last).stored ≡ (disks first).stored
-        → KeepsPassed (disk_images (disks first)) (disk_images (disks last)) → DiskOutcome first last (Err fault)
+    not_worked : {fault : Fault} → NotWorked first last fault → IsUntouched did
+        → (disks last).stored ≡ (disks first).stored
+        → KeepsPassed (disk_images (disks first)) (disk_images (disks last))
+        → DiskOutcome first last (Err fault)
 
 -- ---- the whole command
 
--- The disk of the leaf file was lent, with the file's bytes, for the time of a use of the folder, and taken back. Its bytes are the file's
-pub record LendsDisk {D : Type 0} (disks : D → DiskTold) (name : List ℕ) (whole during : Use FolderTold) (first last : D) : Type 0 where
+-- The disk of the leaf file was lent, with the file's bytes, for the time of a use of the folder,
+-- and taken back. Its bytes are the file's
+pub record LendsDisk {D : Type 0} (disks : D → DiskTold) (name : List ℕ)
+    (whole during : Use FolderTold) (first last : D) : Type 0 where
   pub is : IsDiskOf whole.before.files name (disks first).stored
   pub fresh : (disks first).faults ≡ 0
   pub unchanged : during.before.files ≡ whole.before.files
@@ -145,21 +161,27 @@ pub record LendsDisk {D : Type 0} (disks : D → DiskTold) (name : List ℕ) (wh
 
 -- a call with another use of its folder
 abbrev pub with_folder : ClientUse → Use FolderTold → ClientUse
-with_folder did during = record { out = did.out; folder = during; net = did.net; chance = did.chance }
+with_folder did during =
+    record { out = did.out; folder = during; net = did.net; chance = did.chance }
 
 module _ {D : Type 0} (disks : D → DiskTold) (words : Words) (did : ClientUse) where
   -- what told files say of the member and its editors
   abbrev pub Say : MemberFiles → Type 0
   Say m = SayMember did.folder.before.files (names_of words) words.device (length words.scripts) m
 
-  -- What the command did, by its answer: a file of the member was the first that was not read, the disk of its leaf file was not lent, or the
-  -- member worked over that disk
+  -- What the command did, by its answer: a file of the member was the first that was not read, the
+  -- disk of its leaf file was not lent, or the member worked over that disk
   pub data ClientOutcome : Result ⊤ Fault → Type 0 where
-    no_member : {fault : Fault} → IsMemberFault did.folder.before.files did.folder.before.faults did.folder.after.faults (names_of words) words.device fault
+    no_member : {fault : Fault}
+        → IsMemberFault did.folder.before.files did.folder.before.faults did.folder.after.faults
+        (names_of words) words.device fault
         → did.net.after ≡ did.net.before → IsUntouched did → ClientOutcome (Err fault)
     no_disk : {fault : Fault} (m : MemberFiles) → Say m
-        → IsLendFault did.folder.before.files did.folder.before.faults did.folder.after.faults (names_of words) words.device fault
+        → IsLendFault did.folder.before.files did.folder.before.faults did.folder.after.faults
+        (names_of words) words.device fault
         → did.net.after ≡ did.net.before → IsUntouched did → ClientOutcome (Err fault)
-    over_disk : {answer : Result ⊤ Fault} (m : MemberFiles) (first last : D) (during : Use FolderTold) → Say m
-        → LendsDisk disks (file_name (names_of words) (Leaf words.device)) did.folder during first last
-        → DiskOutcome disks words m (with_folder did during) first last answer → ClientOutcome answer
+    over_disk : {answer : Result ⊤ Fault} (m : MemberFiles) (first last : D)
+        (during : Use FolderTold) → Say m → LendsDisk disks
+        (file_name (names_of words) (Leaf words.device)) did.folder during first last
+        → DiskOutcome disks words m (with_folder did during) first last answer
+        → ClientOutcome answer

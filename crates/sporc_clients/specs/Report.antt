@@ -9,4 +9,5 @@ use Rattle.sporc_shared.specs.Items.{Past, client_of}
 abbrev pub report_of : Past → List ℕ
 report_of past =
     let me = past.opening.kit.me in
-    journal_lines (journal_of past.log) ++ (show_line me (client_of past) ++ hash_line me (client_of past))
+    journal_lines (journal_of past.log)
+    ++ (show_line me (client_of past) ++ hash_line me (client_of past))

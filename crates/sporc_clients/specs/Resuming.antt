@@ -22,10 +22,11 @@ entries_by device genesis kit saved = whole (History device) (taken_by genesis k
 -- whether a saved history is whole, if there is one, whoever checks its entries
 abbrev pub read_whole : Device → List ℕ → Option (List ℕ) → Result ⊤ Fault
 read_whole device document None = Ok tt
-read_whole device document (Some bytes) = unless_stopped (History device) (saved_in document bytes).stop tt
+read_whole device document (Some bytes) =
+    unless_stopped (History device) (saved_in document bytes).stop tt
 
--- whether it is whole as far as that is seen before a member's line is opened: a joiner's is read before its hints are fetched, while a founder, who has the
--- key of epoch 0, needs none
+-- whether it is whole as far as that is seen before a member's line is opened: a joiner's is read
+-- before its hints are fetched, while a founder, who has the key of epoch 0, needs none
 abbrev pub whole_before : Device → Option (List ℕ) → List ℕ → Option (List ℕ) → Result ⊤ Fault
 whole_before device None document saved = read_whole device document saved
 whole_before device (Some key) document saved = Ok tt

@@ -27,9 +27,11 @@ link_told link = record { written = link.written; left = link.left; faults = lin
 
 -- what number 0 knows of the client's log, beside what the link and the chance tell
 abbrev pub stand_at : Known Item → InboxModel → LinkTold → ChanceTold → Stand
-stand_at known inbox link chance = stand known (link_stand link.written link.left link.faults inbox) chance.given chance.faults
+stand_at known inbox link chance =
+    stand known (link_stand link.written link.left link.faults inbox) chance.given chance.faults
 
--- what a session is given: the rounds of its first phase, the length that the history is to have, and the editors' lines
+-- what a session is given: the rounds of its first phase, the length that the history is to have,
+-- and the editors' lines
 pub record Wanted : Type 0 where
   pub rounds : ℕ
   pub until : ℕ
@@ -40,12 +42,15 @@ pub record Around : Type 0 where
   pub link : LinkTold
   pub chance : ChanceTold
 
--- A session led a client from one past to another, with this pass at its end: it added events to its log. If it ended since the lock's tickets
--- ran out, the pass has read that
-pub record IsSessionOf (wanted : Wanted) (before after : Past) (found left : Around) (result : Result ⊤ SessionFault) : Type 0 where
+-- A session led a client from one past to another, with this pass at its end: it added events to
+-- its log. If it ended since the lock's tickets ran out, the pass has read that
+pub record IsSessionOf (wanted : Wanted) (before after : Past) (found left : Around)
+    (result : Result ⊤ SessionFault) : Type 0 where
   pub pass : Pass Item
   pub inbox : InboxModel
-  pub session : IsSession (stand_at (first_known (items_of before)) empty_inbox found.link found.chance) (stand_at (known_of pass) inbox left.link left.chance)
+  pub session : IsSession
+      (stand_at (first_known (items_of before)) empty_inbox found.link found.chance)
+      (stand_at (known_of pass) inbox left.link left.chance)
       wanted.rounds wanted.until wanted.editors result
   pub worn : IfErr result (IsWornFor pass)
   pub seen : (known_of pass).seen ≡ items_of after

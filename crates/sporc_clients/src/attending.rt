@@ -35,8 +35,9 @@ pub struct Member {
     pub ring: RingFile,
 }
 
-/// Opens a member's line, loads the history that it saved, if it did, and has its client work with the server at an address. A
-/// joiner's hints are fetched over a link of their own before, unless its saved history is not whole.
+/// Opens a member's line, loads the history that it saved, if it did, and has its client work with
+/// the server at an address. A joiner's hints are fetched over a link of their own before, unless
+/// its saved history is not whole.
 pub(crate) fn attend<
     R: Threads + Wait + Sync,
     D: LeafDisk + Send,
@@ -61,31 +62,33 @@ where
     N::Link: Send,
     requires genesis { IsGenesis member.genesis }
     requires limit { length editors.now ≤ MAX_EDITORS }
-    ensures attended { IfOk result (λ ended. IsAttended
-        (record { genesis = member.genesis; device = member.device; ring = member.ring; address = address.now })
-        (option_map (λ bytes. bytes.items) saved)
-        (N.told net.old)
-        (N.told net.new)
+    ensures attended { IfOk result (λ ended. IsAttended (record {
+      genesis = member.genesis;
+      device = member.device;
+      ring = member.ring;
+      address = address.now;
+    }) (option_map (λ bytes. bytes.items) saved) (N.told net.old) (N.told net.new)
         (record { rounds = rounds; until = until; editors = editors.now })
-        (record { key = signer.key; first_leaf = signer.leaves.next })
-        (past_of ended.client)
-        (C.told chance.old)
-        (C.told chance.new)
-        ended.result) }
-    ensures leaves { IfOk result (λ ended. Rise (past_of ended.client).first_leaf ended.client.leaves.next (leaves_of ended.client.log)) }
-    ensures causes { IfOk result (λ ended. RoseIfFailed (counts_around (N.told net.old).link_faults (N.told net.new).link_faults (use_of C.told chance.old chance.new)) ended.result) }
-    ensures err { IfErr result (λ e. NotAttended
-        (record { genesis = member.genesis; device = member.device; ring = member.ring; address = address.now })
-        (option_map (λ bytes. bytes.items) saved)
-        (N.told net.old)
-        (N.told net.new)
+        (record { key = signer.key; first_leaf = signer.leaves.next }) (past_of ended.client)
+        (C.told chance.old) (C.told chance.new) ended.result) }
+    ensures leaves { IfOk result (λ ended. Rise
+        (past_of ended.client).first_leaf ended.client.leaves.next (leaves_of ended.client.log)) }
+    ensures causes { IfOk result (λ ended. RoseIfFailed (counts_around (N.told net.old).link_faults
+        (N.told net.new).link_faults (use_of C.told chance.old chance.new)) ended.result) }
+    ensures err { IfErr result (λ e. NotAttended (record {
+      genesis = member.genesis;
+      device = member.device;
+      ring = member.ring;
+      address = address.now;
+    }) (option_map (λ bytes. bytes.items) saved) (N.told net.old) (N.told net.new)
         (N.told net.old).faults (N.told net.new).faults e.0) }
     ensures returned { IfErr result (λ e. e.1 ≡ signer) }
     ensures chance { OnErr result (chance.new ≡ chance.old) }
     ensures chance_kept { (C.told chance.old).faults ≤ (C.told chance.new).faults }
     ensures shut { AreShutBehind (N.told net.old).returned (N.told net.new).returned }
     ensures links_out { (N.told net.new).out ≡ (N.told net.old).out }
-    ensures may_ask { AsksAtMost (links_for_hints member.ring + 1) (N.told net.old).asked (N.told net.new).asked address.now }
+    ensures may_ask { AsksAtMost (links_for_hints member.ring + 1) (N.told net.old).asked
+        (N.told net.new).asked address.now }
     ensures net_kept { (N.told net.old).faults ≤ (N.told net.new).faults }
     ensures links_kept { (N.told net.old).link_faults ≤ (N.told net.new).link_faults }
 {

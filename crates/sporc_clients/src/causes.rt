@@ -62,8 +62,8 @@ fn session_end(session: Result<(), SessionFault>, disk_faults: u64) -> Result<()
     }
 }
 
-// What the command answers, by what came of its session, of saving and of printing: the first fault, but for out of memory at a
-// later one.
+// What the command answers, by what came of its session, of saving and of printing: the first
+// fault, but for out of memory at a later one.
 pub(crate) fn end(
     disk_faults: u64,
     session: Result<(), SessionFault>,

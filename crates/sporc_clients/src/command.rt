@@ -1,6 +1,7 @@
 //! The command.
 
-ghost use Rattle.std.specs.Prelude.{◌≡◌, ◌+◌, ◌≤◌, [], ◌∷◌, length, map, option_map, string_bytes, IfErr, IfOk};
+ghost use Rattle.std.specs.Prelude.{◌≡◌, ◌+◌, ◌≤◌, [], ◌∷◌, length, map, option_map, string_bytes};
+ghost use Rattle.std.specs.Prelude.{IfErr, IfOk};
 ghost use Rattle.sporc_outside.specs.Uses.{use_of};
 ghost use Rattle.sporc_outside.specs.Nets.{AreShutBehind};
 ghost use Rattle.lms_leaf.specs.LeafFile.{IsLeafHeight};
@@ -29,8 +30,8 @@ use std::alloc::Global;
 use std::sync::Wait;
 use std::thread::Threads;
 
-/// Has a member's device work with the server at an address, beside its editors, then saves its history, and prints its journal and
-/// report.
+/// Has a member's device work with the server at an address, beside its editors, then saves its
+/// history, and prints its journal and report.
 pub fn client<
     R: Threads + Wait + Sync,
     O: Sink,
@@ -60,10 +61,13 @@ where
           chance = use_of C.told chance.old chance.new;
         })
         result }
-    ensures files_may_ask { AsksOnly (map (file_name (names_of words.now)) (client_files words.now.device (length words.now.scripts))) (F.told files.old).asked (F.told files.new).asked }
+    ensures files_may_ask { AsksOnly (map (file_name (names_of words.now))
+        (client_files words.now.device (length words.now.scripts)))
+        (F.told files.old).asked (F.told files.new).asked }
     ensures lent { (F.told files.new).lent ≡ (F.told files.old).lent }
     ensures files_kept { (F.told files.old).faults ≤ (F.told files.new).faults }
-    ensures net_may_ask { AsksAtMost 2 (N.told net.old).asked (N.told net.new).asked words.now.address }
+    ensures net_may_ask { AsksAtMost 2 (N.told net.old).asked
+        (N.told net.new).asked words.now.address }
     ensures out_kept { (O.told out.old).faults ≤ (O.told out.new).faults }
     ensures shut { AreShutBehind (N.told net.old).returned (N.told net.new).returned }
     ensures links_out { (N.told net.new).out ≡ (N.told net.old).out }
@@ -118,10 +122,13 @@ where
           chance = use_of C.told chance.old chance.new;
         })
         disk result.1 result.0 }
-    ensures files_may_ask { AsksOnly (file_name (names_of words.now) (File.History words.now.device) ∷ []) (F.told files.old).asked (F.told files.new).asked }
+    ensures files_may_ask { AsksOnly
+        (file_name (names_of words.now) (File.History words.now.device) ∷ [])
+        (F.told files.old).asked (F.told files.new).asked }
     ensures lent { (F.told files.new).lent ≡ (F.told files.old).lent }
     ensures files_kept { (F.told files.old).faults ≤ (F.told files.new).faults }
-    ensures net_may_ask { AsksAtMost (links_for_hints member.ring + 1) (N.told net.old).asked (N.told net.new).asked words.now.address }
+    ensures net_may_ask { AsksAtMost (links_for_hints member.ring + 1) (N.told net.old).asked
+        (N.told net.new).asked words.now.address }
     ensures out_kept { (O.told out.old).faults ≤ (O.told out.new).faults }
     ensures shut { AreShutBehind (N.told net.old).returned (N.told net.new).returned }
     ensures links_out { (N.told net.new).out ≡ (N.told net.old).out }
@@ -190,13 +197,16 @@ fn history_of<F: Folder>(
     names: &Names<'_>,
     device: Device,
 ) -> Result<(Option<Vec<u8>>, String), Fault>
-    ensures ok { IfOk result (λ both. SaysFileIfThere any_bytes (F.told files.old).files (file_name names.now (File.History device))
-        (option_map (λ bytes. bytes.items) both.0)) }
-    ensures name { IfOk result (λ both. string_bytes both.1 ≡ file_name names.now (File.History device)) }
-    ensures err { IfErr result (IsFileFault any_bytes (F.told files.old).files (F.told files.old).faults (F.told files.new).faults names.now (File.History device)) }
+    ensures ok { IfOk result (λ both. SaysFileIfThere any_bytes (F.told files.old).files
+        (file_name names.now (File.History device)) (option_map (λ bytes. bytes.items) both.0)) }
+    ensures name { IfOk result
+        (λ both. string_bytes both.1 ≡ file_name names.now (File.History device)) }
+    ensures err { IfErr result (IsFileFault any_bytes (F.told files.old).files
+        (F.told files.old).faults (F.told files.new).faults names.now (File.History device)) }
     ensures files { (F.told files.new).files ≡ (F.told files.old).files }
     ensures lent { (F.told files.new).lent ≡ (F.told files.old).lent }
-    ensures may_ask { AsksOnly (file_name names.now (File.History device) ∷ []) (F.told files.old).asked (F.told files.new).asked }
+    ensures may_ask { AsksOnly (file_name names.now (File.History device) ∷ [])
+        (F.told files.old).asked (F.told files.new).asked }
     ensures kept { (F.told files.old).faults ≤ (F.told files.new).faults }
 {
     let file = File::History(device);

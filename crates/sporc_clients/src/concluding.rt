@@ -6,7 +6,8 @@ ghost use Rattle.sporc_outside.specs.Told.{MayAppend};
 ghost use Rattle.sporc_outside.specs.Uses.{use_of};
 ghost use Rattle.sporc_outside.specs.LeafDisk.{disk_images};
 ghost use Rattle.sporc_shared.specs.Items.{past_of};
-ghost use Rattle.sporc_clients.specs.Concluding.{LeavesAreTaken, PrintOutcome, SaveOutcome, files_use};
+ghost use Rattle.sporc_clients.specs.Concluding.{LeavesAreTaken, PrintOutcome, SaveOutcome};
+ghost use Rattle.sporc_clients.specs.Concluding.{files_use};
 
 use crate::reporting::report;
 use crate::session::Ended;
@@ -30,9 +31,9 @@ pub struct Concluded<D: LeafDisk> {
     pub disk: D,
 }
 
-/// Saves the history of a client as the file with a name, then prints its journal and report, whatever fault ended its session
-/// or comes in between, and closes the client. So what was printed is saved already, if it could be, however long the sink
-/// takes.
+/// Saves the history of a client as the file with a name, then prints its journal and report,
+/// whatever fault ended its session or comes in between, and closes the client. So what was printed
+/// is saved already, if it could be, however long the sink takes.
 pub(crate) fn conclude<D: LeafDisk, O: Sink, F: Folder>(
     alloc: Global,
     ended: Ended<D>,
@@ -40,10 +41,13 @@ pub(crate) fn conclude<D: LeafDisk, O: Sink, F: Folder>(
     files: &mut F,
     name: &str,
 ) -> Concluded<D>
-    requires leaves { Rise (past_of ended.client).first_leaf ended.client.leaves.next (leaves_of ended.client.log) }
+    requires leaves { Rise (past_of ended.client).first_leaf ended.client.leaves.next
+        (leaves_of ended.client.log) }
     ensures session { result.session ≡ ended.result }
-    ensures saved { SaveOutcome (past_of ended.client) name.now (files_use F.told files.old files.new) result.saved }
-    ensures printed { PrintOutcome (past_of ended.client) (use_of O.told out.old out.new) result.printed }
+    ensures saved { SaveOutcome (past_of ended.client) name.now
+        (files_use F.told files.old files.new) result.saved }
+    ensures printed { PrintOutcome (past_of ended.client)
+        (use_of O.told out.old out.new) result.printed }
     ensures disk { result.disk ≡ ended.client.leaves.disk }
     ensures taken { LeavesAreTaken (disk_images (D.told result.disk)) (past_of ended.client) }
     ensures lent { (F.told files.new).lent ≡ (F.told files.old).lent }
@@ -70,7 +74,8 @@ fn save_history<D: LeafDisk, F: Folder>(
     files: &mut F,
     name: &str,
 ) -> Result<(), Fault>
-    ensures saved { SaveOutcome (past_of client.now) name.now (files_use F.told files.old files.new) result }
+    ensures saved { SaveOutcome (past_of client.now) name.now
+        (files_use F.told files.old files.new) result }
     ensures lent { (F.told files.new).lent ≡ (F.told files.old).lent }
     ensures may_ask { MayAppend (F.told files.old).asked (F.told files.new).asked name.now }
     ensures kept { (F.told files.old).faults ≤ (F.told files.new).faults }

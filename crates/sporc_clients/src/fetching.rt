@@ -12,8 +12,8 @@ use sporc_shared::{Entries, fetch};
 use std::alloc::Global;
 use std::sync::Wait;
 
-/// All entries that the server at an address has of a document, for a member who joins. The link to it is shut as soon as they
-/// are fetched, and taken back.
+/// All entries that the server at an address has of a document, for a member who joins. The link to
+/// it is shut as soon as they are fetched, and taken back.
 pub(crate) fn fetch_entries<R: Wait, N: Dial>(
     rt: &R,
     alloc: Global,

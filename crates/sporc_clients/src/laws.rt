@@ -10,13 +10,14 @@ ghost use Rattle.sporc_clients.specs.Outcome.{ClientUse, DiskOutcome};
 
 use sporc_outside::LeafDisk;
 
-/// What `client` did over the disk of a leaf file is a life of that file, whatever came of it, and the leaves given in it are
-/// those that signed.
+/// What `client` did over the disk of a leaf file is a life of that file, whatever came of it, and
+/// the leaves given in it are those that signed.
 ///
-/// The disk is one that tells its bytes, and behaves as [`LeafDisk`] says. Of a disk that tells none, as a real file, this
-/// says nothing.
+/// The disk is one that tells its bytes, and behaves as [`LeafDisk`] says. Of a disk that tells
+/// none, as a real file, this says nothing.
 pub fn runs_are_lives<D: LeafDisk>()
-    ensures life { (words : Words) (m : MemberFiles) (did : ClientUse) (first last : D) (answer : Result ⊤ Fault)
+    ensures life { (words : Words) (m : MemberFiles) (did : ClientUse) (first last : D)
+        (answer : Result ⊤ Fault)
         (outcome : DiskOutcome D.told words m did first last answer)
         → IsSome (D.told first).stored
         → IsLife D.told (record {
@@ -26,8 +27,9 @@ pub fn runs_are_lives<D: LeafDisk>()
         }) }
 {}
 
-/// So over runs of `client` one behind another, whatever came of each, the leaves that sign rise, and none signs twice. Each run
-/// begins with what a read gives of the disk that the one before it left, or with what a crash leaves of that.
+/// So over runs of `client` one behind another, whatever came of each, the leaves that sign rise,
+/// and none signs twice. Each run begins with what a read gives of the disk that the one before it
+/// left, or with what a crash leaves of that.
 pub fn no_leaf_signs_twice<D: LeafDisk>()
     ensures rise { SignOnce D.told }
 {}

@@ -7,7 +7,9 @@ ghost use Rattle.sporc_entry.specs.Genesis.{IsGenesis};
 ghost use Rattle.sporc_files.specs.declared.file.File.{File};
 ghost use Rattle.sporc_files.specs.Names.{file_name};
 ghost use Rattle.sporc_files.specs.Uses.{AsksOnly};
-ghost use Rattle.sporc_clients.specs.MemberFiles.{IsFirstScriptFault, IsMemberFault, IsScriptFault, SayAllScripts, SayMember, SaysScript, own_files, script_files};
+ghost use Rattle.sporc_clients.specs.MemberFiles.{IsFirstScriptFault, IsMemberFault, IsScriptFault};
+ghost use Rattle.sporc_clients.specs.MemberFiles.{SayAllScripts, SayMember, SaysScript, own_files};
+ghost use Rattle.sporc_clients.specs.MemberFiles.{script_files};
 
 use lms_tree::Tree;
 use sporc_base::Items;
@@ -32,8 +34,8 @@ pub struct MemberFiles {
     pub editors: Items<EditorScript>,
 }
 
-/// Reads the files of a device and the scripts of so many editors: the genesis, its key, its member's ring, and then the scripts. The
-/// first that fails decides.
+/// Reads the files of a device and the scripts of so many editors: the genesis, its key, its
+/// member's ring, and then the scripts. The first that fails decides.
 pub fn read_member<R: Threads + Sync, F: Folder>(
     rt: &R,
     alloc: Global,
@@ -45,10 +47,12 @@ pub fn read_member<R: Threads + Sync, F: Folder>(
     ensures ok { IfOk result (SayMember (F.told files.old).files names.now device editors) }
     ensures genesis { IfOk result (λ m. IsGenesis m.genesis) }
     ensures height { IfOk result (λ m. IsLeafHeight (height_of m.tree.lms)) }
-    ensures err { IfErr result (IsMemberFault (F.told files.old).files (F.told files.old).faults (F.told files.new).faults names.now device) }
+    ensures err { IfErr result (IsMemberFault (F.told files.old).files (F.told files.old).faults
+        (F.told files.new).faults names.now device) }
     ensures files { (F.told files.new).files ≡ (F.told files.old).files }
     ensures lent { (F.told files.new).lent ≡ (F.told files.old).lent }
-    ensures may_ask { AsksOnly (map (file_name names.now) (own_files device editors)) (F.told files.old).asked (F.told files.new).asked }
+    ensures may_ask { AsksOnly (map (file_name names.now) (own_files device editors))
+        (F.told files.old).asked (F.told files.new).asked }
     ensures kept { (F.told files.old).faults ≤ (F.told files.new).faults }
 {
     let genesis = read_genesis_file(alloc, files, names)?;
@@ -70,11 +74,14 @@ fn read_scripts<F: Folder>(
     names: &Names<'_>,
     editors: u32,
 ) -> Result<Vec<EditorScript>, Fault>
-    ensures ok { IfOk result (λ scripts. SayAllScripts (F.told files.old).files names.now editors scripts.items) }
-    ensures err { IfErr result (IsFirstScriptFault (F.told files.old).files (F.told files.old).faults (F.told files.new).faults names.now) }
+    ensures ok { IfOk result
+        (λ scripts. SayAllScripts (F.told files.old).files names.now editors scripts.items) }
+    ensures err { IfErr result (IsFirstScriptFault (F.told files.old).files
+        (F.told files.old).faults (F.told files.new).faults names.now) }
     ensures files { (F.told files.new).files ≡ (F.told files.old).files }
     ensures lent { (F.told files.new).lent ≡ (F.told files.old).lent }
-    ensures may_ask { AsksOnly (map (file_name names.now) (script_files editors)) (F.told files.old).asked (F.told files.new).asked }
+    ensures may_ask { AsksOnly (map (file_name names.now) (script_files editors))
+        (F.told files.old).asked (F.told files.new).asked }
     ensures kept { (F.told files.old).faults ≤ (F.told files.new).faults }
 {
     let mut scripts = Vec::new(alloc);
@@ -92,11 +99,14 @@ fn read_script<F: Folder>(
     names: &Names<'_>,
     editor: u32,
 ) -> Result<EditorScript, Fault>
-    ensures ok { IfOk result (SaysScript (F.told files.old).files (file_name names.now (File.Script editor))) }
-    ensures err { IfErr result (IsScriptFault (F.told files.old).files (F.told files.old).faults (F.told files.new).faults names.now editor) }
+    ensures ok { IfOk result
+        (SaysScript (F.told files.old).files (file_name names.now (File.Script editor))) }
+    ensures err { IfErr result (IsScriptFault (F.told files.old).files (F.told files.old).faults
+        (F.told files.new).faults names.now editor) }
     ensures files { (F.told files.new).files ≡ (F.told files.old).files }
     ensures lent { (F.told files.new).lent ≡ (F.told files.old).lent }
-    ensures may_ask { AsksOnly (file_name names.now (File.Script editor) ∷ []) (F.told files.old).asked (F.told files.new).asked }
+    ensures may_ask { AsksOnly (file_name names.now (File.Script editor) ∷ [])
+        (F.told files.old).asked (F.told files.new).asked }
     ensures kept { (F.told files.old).faults ≤ (F.told files.new).faults }
 {
     let text = read_bytes(alloc, files, names, File::Script(editor))?;

@@ -16,8 +16,8 @@ use sporc_outside::Dial;
 use std::alloc::Global;
 use std::sync::Wait;
 
-/// The empty line of a member's device, by what the member's ring file says. A joiner's file has no key of epoch 0: its keys are
-/// those that the entries of the server at an address give it.
+/// The empty line of a member's device, by what the member's ring file says. A joiner's file has no
+/// key of epoch 0: its keys are those that the entries of the server at an address give it.
 pub(crate) fn open_member<R: Wait, N: Dial>(
     rt: &R,
     alloc: Global,
@@ -41,7 +41,8 @@ pub(crate) fn open_member<R: Wait, N: Dial>(
         (N.told net.old).faults (N.told net.new).faults) }
     ensures shut { AreShutBehind (N.told net.old).returned (N.told net.new).returned }
     ensures links_out { (N.told net.new).out ≡ (N.told net.old).out }
-    ensures may_ask { AsksAtMost (links_for_hints ring.now) (N.told net.old).asked (N.told net.new).asked address.now }
+    ensures may_ask { AsksAtMost (links_for_hints ring.now) (N.told net.old).asked
+        (N.told net.new).asked address.now }
     ensures kept { (N.told net.old).faults ≤ (N.told net.new).faults }
     ensures links_kept { (N.told net.old).link_faults ≤ (N.told net.new).link_faults }
 {

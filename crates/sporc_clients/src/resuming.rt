@@ -25,8 +25,8 @@ use std::alloc::Global;
 use std::sync::Wait;
 use std::thread::Threads;
 
-/// The line of a member's device with the entries of its saved history, if there is one. That of a joiner is read to its end
-/// before the entries of a server are fetched for hints.
+/// The line of a member's device with the entries of its saved history, if there is one. That of a
+/// joiner is read to its end before the entries of a server are fetched for hints.
 pub(crate) fn resume_line<R: Threads + Wait + Sync, N: Dial, G: Gate + Sync>(
     rt: &R,
     alloc: Global,
@@ -37,20 +37,23 @@ pub(crate) fn resume_line<R: Threads + Wait + Sync, N: Dial, G: Gate + Sync>(
     gate: &G,
 ) -> Result<Line, Fault>
     requires genesis { IsGenesis member.genesis }
-    ensures ok { IfOk result (IsResumed
-        (record { genesis = member.genesis; device = member.device; ring = member.ring; address = address.now })
-        (option_map (λ bytes. bytes.items) saved)
-        (N.told net.old)
-        (N.told net.new)) }
-    ensures err { IfErr result (NotResumed
-        (record { genesis = member.genesis; device = member.device; ring = member.ring; address = address.now })
-        (option_map (λ bytes. bytes.items) saved)
-        (N.told net.old)
-        (N.told net.new)
+    ensures ok { IfOk result (IsResumed (record {
+      genesis = member.genesis;
+      device = member.device;
+      ring = member.ring;
+      address = address.now;
+    }) (option_map (λ bytes. bytes.items) saved) (N.told net.old) (N.told net.new)) }
+    ensures err { IfErr result (NotResumed (record {
+      genesis = member.genesis;
+      device = member.device;
+      ring = member.ring;
+      address = address.now;
+    }) (option_map (λ bytes. bytes.items) saved) (N.told net.old) (N.told net.new)
         (N.told net.old).faults (N.told net.new).faults) }
     ensures shut { AreShutBehind (N.told net.old).returned (N.told net.new).returned }
     ensures links_out { (N.told net.new).out ≡ (N.told net.old).out }
-    ensures may_ask { AsksAtMost (links_for_hints member.ring) (N.told net.old).asked (N.told net.new).asked address.now }
+    ensures may_ask { AsksAtMost (links_for_hints member.ring) (N.told net.old).asked
+        (N.told net.new).asked address.now }
     ensures kept { (N.told net.old).faults ≤ (N.told net.new).faults }
     ensures links_kept { (N.told net.old).link_faults ≤ (N.told net.new).link_faults }
 {
@@ -71,7 +74,8 @@ fn check_before(
     document: &[u8; 16],
     saved: &Option<Vec<u8>>,
 ) -> Result<(), Fault>
-    ensures value { Gives (λ done. done) result (whole_before device ring.now.epoch_key document.now (option_map (λ bytes. bytes.items) saved.now)) }
+    ensures value { Gives (λ done. done) result (whole_before device ring.now.epoch_key document.now
+        (option_map (λ bytes. bytes.items) saved.now)) }
 {
     match ring.epoch_key {
         Some(_) => Ok(()),
@@ -81,7 +85,8 @@ fn check_before(
 
 // Whether a saved history is whole, if there is one.
 fn read_whole(device: Device, document: &[u8; 16], saved: &Option<Vec<u8>>) -> Result<(), Fault>
-    ensures value { Gives (λ done. done) result (read_whole device document.now (option_map (λ bytes. bytes.items) saved.now)) }
+    ensures value { Gives (λ done. done) result
+        (read_whole device document.now (option_map (λ bytes. bytes.items) saved.now)) }
 {
     match saved {
         Some(bytes) => stopped(
@@ -102,7 +107,8 @@ fn load<R: Threads + Wait + Sync, G: Gate + Sync>(
     gate: &G,
 ) -> Result<Line, Fault>
     requires empty { line.entries ≡ [] }
-    ensures entries { AnswersUnlessOutside (λ full. full.entries) ⊥ result (entries_by device line.genesis line.kit (option_map (λ bytes. bytes.items) saved)) }
+    ensures entries { AnswersUnlessOutside (λ full. full.entries) ⊥ result
+        (entries_by device line.genesis line.kit (option_map (λ bytes. bytes.items) saved)) }
     ensures genesis { IfOk result (λ full. full.genesis ≡ line.genesis) }
     ensures kit { IfOk result (λ full. full.kit ≡ line.kit) }
 {

@@ -24,7 +24,8 @@ pub struct Ended<D: LeafDisk> {
     pub result: Result<(), SessionFault>,
 }
 
-/// Has a client work with a server over a link. If memory runs out before the session begins, the client comes back.
+/// Has a client work with a server over a link. If memory runs out before the session begins, the
+/// client comes back.
 pub(crate) fn run_session<
     R: Threads + Wait + Sync,
     D: LeafDisk + Send,
@@ -43,7 +44,8 @@ pub(crate) fn run_session<
     gate: &G,
 ) -> Result<Ended<D>, (Client<D>, Memory)>
     requires limit { length editors.now ≤ MAX_EDITORS }
-    ensures session { IfOk result (λ ended. IsSessionOf (record { rounds = rounds; until = until; editors = editors.now })
+    ensures session { IfOk result
+        (λ ended. IsSessionOf (record { rounds = rounds; until = until; editors = editors.now })
         (past_of client) (past_of ended.client)
         (record {
           link = link_told (L.told link.old);
@@ -54,8 +56,10 @@ pub(crate) fn run_session<
           chance = C.told chance.new;
         })
         ended.result) }
-    ensures leaves { IfOk result (λ ended. Rise (past_of ended.client).first_leaf ended.client.leaves.next (leaves_of ended.client.log)) }
-    ensures causes { IfOk result (λ ended. RoseIfFailed (counts_around (L.told link.old).faults (L.told link.new).faults (use_of C.told chance.old chance.new)) ended.result) }
+    ensures leaves { IfOk result (λ ended. Rise
+        (past_of ended.client).first_leaf ended.client.leaves.next (leaves_of ended.client.log)) }
+    ensures causes { IfOk result (λ ended. RoseIfFailed (counts_around (L.told link.old).faults
+        (L.told link.new).faults (use_of C.told chance.old chance.new)) ended.result) }
     ensures chance_kept { (C.told chance.old).faults ≤ (C.told chance.new).faults }
     ensures shut { (L.told link.new).is_shut ≡ (L.told link.old).is_shut }
     ensures returned { IfErr result (λ e. e.0 ≡ client) }

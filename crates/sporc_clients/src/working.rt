@@ -19,7 +19,8 @@ use std::alloc::Global;
 use std::sync::Wait;
 use std::thread::Threads;
 
-/// Has a client work with the server at an address. The link to it is shut as soon as the session has ended, and taken back.
+/// Has a client work with the server at an address. The link to it is shut as soon as the session
+/// has ended, and taken back.
 pub(crate) fn work<
     R: Threads + Wait + Sync,
     D: LeafDisk + Send,
@@ -49,9 +50,12 @@ where
         (C.told chance.old)
         (C.told chance.new)
         ended.result) }
-    ensures leaves { IfOk result (λ ended. Rise (past_of ended.client).first_leaf ended.client.leaves.next (leaves_of ended.client.log)) }
-    ensures causes { IfOk result (λ ended. RoseIfFailed (counts_around (N.told net.old).link_faults (N.told net.new).link_faults (use_of C.told chance.old chance.new)) ended.result) }
-    ensures err { IfErr result (λ e. NotBegun address.now (N.told net.old) (N.told net.new) (N.told net.old).faults (N.told net.new).faults e.0) }
+    ensures leaves { IfOk result (λ ended. Rise
+        (past_of ended.client).first_leaf ended.client.leaves.next (leaves_of ended.client.log)) }
+    ensures causes { IfOk result (λ ended. RoseIfFailed (counts_around (N.told net.old).link_faults
+        (N.told net.new).link_faults (use_of C.told chance.old chance.new)) ended.result) }
+    ensures err { IfErr result (λ e. NotBegun address.now (N.told net.old) (N.told net.new)
+        (N.told net.old).faults (N.told net.new).faults e.0) }
     ensures returned { IfErr result (λ e. e.1 ≡ client) }
     ensures chance { OnErr result (chance.new ≡ chance.old) }
     ensures chance_kept { (C.told chance.old).faults ≤ (C.told chance.new).faults }

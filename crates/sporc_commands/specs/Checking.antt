@@ -30,7 +30,8 @@ pub record CheckedFiles : Type 0 where
   pub history : Option (List ℕ)
 
 -- those of an examination as a folder holds them
-pub record AreCheckedFiles (told : Option (List NamedFile)) (names : FileNames) (device : Device) (content : CheckedFiles) : Type 0 where
+pub record AreCheckedFiles (told : Option (List NamedFile)) (names : FileNames) (device : Device)
+    (content : CheckedFiles) : Type 0 where
   pub genesis : IsFileAt told (file_name names files.Genesis) content.genesis
   pub key : IsFileAt told (file_name names (files.Key device)) content.key
   pub ring : IsFileAt told (file_name names (files.Ring device.member)) content.ring
@@ -38,14 +39,18 @@ pub record AreCheckedFiles (told : Option (List NamedFile)) (names : FileNames) 
 
 -- ---- the history
 
--- the entries that a joiner's hints are taken from: those of its own history, which has to be whole; a founder needs none
-abbrev pub entries_for_hints : Device → Option (List ℕ) → List ℕ → List ℕ → Result (List (List ℕ)) Fault
+-- the entries that a joiner's hints are taken from: those of its own history, which has to be
+-- whole; a founder needs none
+abbrev pub entries_for_hints : Device → Option (List ℕ) → List ℕ → List ℕ
+    → Result (List (List ℕ)) Fault
 entries_for_hints device (Some key) document history = Ok []
-entries_for_hints device None document history = whole (files.History device) (saved_in document history)
+entries_for_hints device None document history =
+    whole (files.History device) (saved_in document history)
 
 -- what a device of a member with this ring is given, if that opens the document
 abbrev pub kit_in : Genesis → Device → RingFile → List ℕ → Result Kit Fault
-kit_in genesis device ring history = entries_for_hints device ring.epoch_key genesis.document history >>= kit_by genesis device ring
+kit_in genesis device ring history =
+    entries_for_hints device ring.epoch_key genesis.document history >>= kit_by genesis device ring
 
 -- a history that a device accepted: its document, what the device was given, and the entries
 pub record CheckedLine : Type 0 where
@@ -58,7 +63,8 @@ checked_line line = record { genesis = line.genesis; kit = line.kit; entries = l
 
 -- the entries that were taken of a device's history, if they are all of it
 abbrev pub line_of_whole : Device → Genesis → Kit → Taken → Result CheckedLine Fault
-line_of_whole device genesis kit taken = whole (files.History device) taken >>= λ entries. Ok (record { genesis = genesis; kit = kit; entries = entries })
+line_of_whole device genesis kit taken = whole (files.History device) taken
+    >>= λ entries. Ok (record { genesis = genesis; kit = kit; entries = entries })
 
 -- a history, if a device of a member with this ring opens it and accepts all of it
 abbrev pub examined : Genesis → Device → RingFile → List ℕ → Result CheckedLine Fault
@@ -76,9 +82,11 @@ line_in device content = do
   examined genesis device ring history
 
 -- it was found in the files of a folder whose count of faults went from `before` to `after`
-abbrev pub FindsLine : Option (List NamedFile) → FileNames → Device → ℕ → ℕ → Result LineModel Fault → Type 0
+abbrev pub FindsLine : Option (List NamedFile) → FileNames → Device → ℕ → ℕ
+    → Result LineModel Fault → Type 0
 FindsLine told names device before after result =
-    (content : CheckedFiles) × AreCheckedFiles told names device content × AnswersUnlessOutside checked_line (Rose before after) result (line_in device content)
+    (content : CheckedFiles) × AreCheckedFiles told names device content
+    × AnswersUnlessOutside checked_line (Rose before after) result (line_in device content)
 
 -- ---- `check`
 

@@ -30,7 +30,8 @@ pub record Chains : Type 0 where
 
 -- the chain of a document's saved history, unchecked
 abbrev pub chain_in : Genesis → File → Option (List ℕ) → Result (List (List ℕ)) Fault
-chain_in genesis file content = entries_in file genesis.document content >>= λ entries. Ok (chain (genesis_bytes genesis) entries)
+chain_in genesis file content = entries_in file genesis.document content
+    >>= λ entries. Ok (chain (genesis_bytes genesis) entries)
 
 -- a chain as a call gives it
 abbrev pub values_of : Vec (List ℕ) → List (List ℕ)
@@ -45,7 +46,8 @@ chains_in m n content = do
   Ok (record { first = first; second = second })
 
 -- the files of a comparison, as a folder holds them
-pub record AreComparedFiles (told : Option (List NamedFile)) (names : FileNames) (m n : Device) (content : ComparedFiles) : Type 0 where
+pub record AreComparedFiles (told : Option (List NamedFile)) (names : FileNames) (m n : Device)
+    (content : ComparedFiles) : Type 0 where
   pub genesis : IsFileAt told (file_name names files.Genesis) content.genesis
   pub first : IsFileAt told (file_name names (files.History m)) content.first
   pub second : IsFileAt told (file_name names (files.History n)) content.second
@@ -54,18 +56,21 @@ pub record AreComparedFiles (told : Option (List NamedFile)) (names : FileNames)
 abbrev pub both_chains : Vec (List ℕ) × Vec (List ℕ) → Chains
 both_chains chains = record { first = values_of chains.0; second = values_of chains.1 }
 
--- the chains were found in the files of a folder whose count of faults went from `before` to `after`
-abbrev pub FindsChains : Option (List NamedFile) → FileNames → Device → Device → ℕ → ℕ → Result (Vec (List ℕ) × Vec (List ℕ)) Fault → Type 0
+-- the chains were found in the files of a folder whose count of faults went from `before` to
+-- `after`
+abbrev pub FindsChains : Option (List NamedFile) → FileNames → Device → Device → ℕ → ℕ
+    → Result (Vec (List ℕ) × Vec (List ℕ)) Fault → Type 0
 FindsChains told names m n before after result =
-    (content : ComparedFiles) × AreComparedFiles told names m n content × AnswersUnlessOutside both_chains (Rose before after) result (chains_in m n content)
+    (content : ComparedFiles) × AreComparedFiles told names m n content
+    × AnswersUnlessOutside both_chains (Rose before after) result (chains_in m n content)
 
 -- two chains begin with one value
 pub record AreOfOneGenesis (a b : List (List ℕ)) : Type 0 where
   pub begun : 0 < length a
   pub one_genesis : slice_get a 0 ≡ slice_get b 0
 
--- a line that says how one chain stands to another: if values of both meet again after they parted, any place at which they part may
--- stand in it
+-- a line that says how one chain stands to another: if values of both meet again after they parted,
+-- any place at which they part may stand in it
 abbrev pub IsVerdictLine : Device → Device → Chains → List ℕ → Type 0
-IsVerdictLine m n chains line =
-    (verdict : Verdict) × Stands chains.first chains.second verdict × (line ≡ compare_line (record { first = m; second = n }) verdict)
+IsVerdictLine m n chains line = (verdict : Verdict) × Stands chains.first chains.second verdict
+    × (line ≡ compare_line (record { first = m; second = n }) verdict)

@@ -1,5 +1,6 @@
 -- What the files of a document hold, and the faults of those that are read.
-use Rattle.std.specs.Prelude.{◌≡◌, ℕ, length, nat_lt, List, map, Option, None, Some, Result, Err, if◌then◌else◌}
+use Rattle.std.specs.Prelude.{◌≡◌, ℕ, length, nat_lt, List, map, Option, None, Some, Result, Err}
+use Rattle.std.specs.Prelude.{if◌then◌else◌}
 use Rattle.std.specs.Global.{Vec}
 use Rattle.sporc_bytes.specs.Fields.{◌>>=◌, fault_as}
 use Rattle.sporc_outside.specs.Counts.{Rose}
@@ -22,16 +23,22 @@ use Rattle.sporc_files.specs.Reading.{any_bytes, genesis_file}
 abbrev pub IsFileAt : Option (List NamedFile) → List ℕ → Option (List ℕ) → Type 0
 IsFileAt told name content = IfTold told (λ files. file_in files name ≡ content)
 
--- an answer to what a told folder holds at a name, where its count of faults went from `before` to `after`
-abbrev pub AnswersOfFile : {X Y : Type 0} → (X → Y) → Option (List NamedFile) → List ℕ → ℕ → ℕ → Result X Fault → (Option (List ℕ) → Result Y Fault) → Type 0
-AnswersOfFile view told name before after answer says = (content : Option (List ℕ)) × IsFileAt told name content × AnswersUnlessOutside view (Rose before after) answer (says content)
+-- an answer to what a told folder holds at a name, where its count of faults went from `before` to
+-- `after`
+abbrev pub AnswersOfFile : {X Y : Type 0} → (X → Y) → Option (List NamedFile) → List ℕ → ℕ → ℕ
+    → Result X Fault → (Option (List ℕ) → Result Y Fault) → Type 0
+AnswersOfFile view told name before after answer says =
+    (content : Option (List ℕ)) × IsFileAt told name content
+    × AnswersUnlessOutside view (Rose before after) answer (says content)
 
 -- ---- files
 
 -- what the bytes of a file say, if it is there, and not too long
 abbrev pub said : {A : Type 0} → (List ℕ → Result A ℕ) → File → Option (List ℕ) → Result A Fault
 said parse file None = Err (faults.Missing file)
-said parse file (Some bytes) = if nat_lt MAX_FILE (length bytes) then Err (faults.TooLong file) else fault_as (faults.Malformed file) (parse bytes)
+said parse file (Some bytes) =
+    if nat_lt MAX_FILE (length bytes) then Err (faults.TooLong file)
+    else fault_as (faults.Malformed file) (parse bytes)
 
 -- the genesis of a document
 abbrev pub genesis_in : Option (List ℕ) → Result Genesis Fault
@@ -47,4 +54,5 @@ entries_of entries = map (λ entry. entry.items) entries.items
 
 -- the entries of a document's saved history, unchecked
 abbrev pub entries_in : File → List ℕ → Option (List ℕ) → Result (List (List ℕ)) Fault
-entries_in file document content = bytes_in file content >>= λ bytes. whole file (saved_in document bytes)
+entries_in file document content =
+    bytes_in file content >>= λ bytes. whole file (saved_in document bytes)

@@ -38,26 +38,30 @@ pub record MayFound (asked : Found) : Type 0 where
 
 -- one who is named: a founder by the key of its first device, a joiner by its number alone
 abbrev pub IsNamed : Option (List NamedFile) → FileNames → ℕ → Standing → Named → Type 0
-IsNamed told names member (standings.Founder role) one =
-    (key : LmsPrivate) × SaysFile (key_file (first_device member)) told (file_name names (files.Key (first_device member))) key × (one ≡ named.Founder member role (lms_public_of key))
+IsNamed told names member (standings.Founder role) one = (key : LmsPrivate) × SaysFile
+    (key_file (first_device member)) told (file_name names (files.Key (first_device member))) key
+    × (one ≡ named.Founder member role (lms_public_of key))
 IsNamed told names member standings.Joiner one = one ≡ named.Joiner member
 
 -- all who are named, in the order of the words
 abbrev pub AreNamed : Option (List NamedFile) → FileNames → List Participant → List Named → Type 0
 AreNamed told names [] [] = Unit {0}
-AreNamed told names (p ∷ ps) (n ∷ ns) = IsNamed told names p.member p.standing n × AreNamed told names ps ns
+AreNamed told names (p ∷ ps) (n ∷ ns) =
+    IsNamed told names p.member p.standing n × AreNamed told names ps ns
 AreNamed told names [] (n ∷ ns) = ⊥
 AreNamed told names (p ∷ ps) [] = ⊥
 
 -- the key file of a founder is the first that does not say a key, for this fault
-pub record FirstBadKey (told : Option (List NamedFile)) (low high : ℕ) (names : FileNames) (all : List Participant) (fault : Fault) : Type 0 where
+pub record FirstBadKey (told : Option (List NamedFile)) (low high : ℕ) (names : FileNames)
+    (all : List Participant) (fault : Fault) : Type 0 where
   pub before : List Participant
   pub one : Participant
   pub behind : List Participant
   pub split : all ≡ before ++ one ∷ behind
   pub named : List Named
   pub read : AreNamed told names before named
-  pub cause : IsFileFault (key_file (first_device one.member)) told low high names (files.Key (first_device one.member)) fault
+  pub cause : IsFileFault (key_file (first_device one.member)) told low high names
+      (files.Key (first_device one.member)) fault
 
 -- ---- files
 
@@ -66,7 +70,8 @@ ring_of_founding names ring = file_with names (files.Ring ring.member) (ring_fil
 
 -- the genesis, and then each ring, in ascending order of the numbers
 abbrev pub founding_files : FileNames → Founding → List NamedFile
-founding_files names founding = file_with names files.Genesis (genesis_bytes founding.genesis) ∷ map (ring_of_founding names) founding.rings
+founding_files names founding = file_with names files.Genesis (genesis_bytes founding.genesis)
+    ∷ map (ring_of_founding names) founding.rings
 
 -- the names of files, in their order
 abbrev pub names_in : List NamedFile → List (List ℕ)
@@ -85,14 +90,18 @@ keys_read participants = flat_map (λ p. key_read p.member p.standing) participa
 abbrev pub rings_written : List Participant → List File
 rings_written participants = map (λ p. files.Ring p.member) participants
 
--- the files that are asked for: the key file of each founder, the genesis, and the ring of each who is named
+-- the files that are asked for: the key file of each founder, the genesis, and the ring of each who
+-- is named
 abbrev pub found_files : List Participant → List File
 found_files participants = keys_read participants ++ (files.Genesis ∷ rings_written participants)
 
--- why not all files were written, and what stands: only if a call failed may anything stand of the file that it was to write
-abbrev pub IsStoreFault : List NamedFile → Option (List NamedFile) → Option (List NamedFile) → ℕ → ℕ → Fault → Type 0
+-- why not all files were written, and what stands: only if a call failed may anything stand of the
+-- file that it was to write
+abbrev pub IsStoreFault : List NamedFile → Option (List NamedFile) → Option (List NamedFile) → ℕ → ℕ
+    → Fault → Type 0
 IsStoreFault new before after low high faults.Memory = StoresFirst new before after
-IsStoreFault new before after low high faults.Outside = Rose low high × StoresPrefix new before after
+IsStoreFault new before after low high faults.Outside =
+    Rose low high × StoresPrefix new before after
 IsStoreFault new before after low high fault = ⊥
 
 -- ---- the command
@@ -103,10 +112,12 @@ pub record Founds (asked : Found) (files : Use FolderTold) (chance : Use ChanceT
   pub read : AreNamed files.before.files (names_of_document asked.name) asked.participants named
   pub founding : Founding
   pub made : IsFounding chance.before.given chance.after.given (in_order named) founding
-  pub stores : Stores (founding_files (names_of_document asked.name) founding) files.before.files files.after.files
+  pub stores : Stores
+      (founding_files (names_of_document asked.name) founding) files.before.files files.after.files
 
 -- no key file of a founder is bad, and nothing was made of the words of the chance
-pub record FailsAtChance (asked : Found) (files : Use FolderTold) (chance : Use ChanceTold) (fault : Fault) : Type 0 where
+pub record FailsAtChance (asked : Found) (files : Use FolderTold) (chance : Use ChanceTold)
+    (fault : Fault) : Type 0 where
   pub named : List Named
   pub read : AreNamed files.before.files (names_of_document asked.name) asked.participants named
   pub cause : IsOutsideFault chance.before.faults chance.after.faults fault
@@ -114,18 +125,23 @@ pub record FailsAtChance (asked : Found) (files : Use FolderTold) (chance : Use 
 
 -- a founder's key file is bad
 pub record FailsAtKeys (asked : Found) (files : Use FolderTold) (fault : Fault) : Type 0 where
-  pub cause : FirstBadKey files.before.files files.before.faults files.after.faults (names_of_document asked.name) asked.participants fault
+  pub cause : FirstBadKey files.before.files files.before.faults files.after.faults
+      (names_of_document asked.name) asked.participants fault
   pub stand : files.after.files ≡ files.before.files
 
 -- the document was made, and why not all of its files were written
-pub record FailsAtWriting (asked : Found) (files : Use FolderTold) (chance : Use ChanceTold) (fault : Fault) : Type 0 where
+pub record FailsAtWriting (asked : Found) (files : Use FolderTold) (chance : Use ChanceTold)
+    (fault : Fault) : Type 0 where
   pub named : List Named
   pub read : AreNamed files.before.files (names_of_document asked.name) asked.participants named
   pub founding : Founding
   pub made : IsFounding chance.before.given chance.after.given (in_order named) founding
-  pub cause : IsStoreFault (founding_files (names_of_document asked.name) founding) files.before.files files.after.files files.before.faults files.after.faults fault
+  pub cause : IsStoreFault (founding_files (names_of_document asked.name) founding)
+      files.before.files files.after.files files.before.faults files.after.faults fault
 
 -- what `found` did, by its answer
-abbrev pub FoundOutcome : {T : Type 0} → Found → Use FolderTold → Use ChanceTold → Result T Fault → Type 0
+abbrev pub FoundOutcome : {T : Type 0} → Found → Use FolderTold → Use ChanceTold
+    → Result T Fault → Type 0
 FoundOutcome asked files chance (Ok done) = Founds asked files chance
-FoundOutcome asked files chance (Err fault) = FailsAtKeys asked files fault ⊎ (FailsAtChance asked files chance fault ⊎ FailsAtWriting asked files chance fault)
+FoundOutcome asked files chance (Err fault) = FailsAtKeys asked files fault
+    ⊎ (FailsAtChance asked files chance fault ⊎ FailsAtWriting asked files chance fault)

@@ -27,7 +27,8 @@ use Rattle.sporc_words.specs.declared.keygen.Keygen.{Keygen}
 
 -- the names of the files of a key
 abbrev pub key_names : FileNames → Device → List (List ℕ)
-key_names names device = file_name names (files.Key device) ∷ file_name names (files.Leaf device) ∷ []
+key_names names device =
+    file_name names (files.Key device) ∷ file_name names (files.Leaf device) ∷ []
 
 -- the key file, and then the leaf file
 abbrev pub key_files : FileNames → NewKey → List NamedFile
@@ -42,43 +43,56 @@ key_line public = codes "key " ++ (encode_lower (public_key_bytes public) ++ cod
 -- ---- the files
 
 -- both files are new, and were written
-pub record StoresKey (names : FileNames) (key : NewKey) (before after : Option (List NamedFile)) : Type 0 where
+pub record StoresKey (names : FileNames) (key : NewKey)
+    (before after : Option (List NamedFile)) : Type 0 where
   pub new_key : HasNoFile before (file_name names (files.Key key.file.device))
   pub new_leaves : HasNoFile before (file_name names (files.Leaf key.file.device))
   pub stored : Stores (key_files names key) before after
 
 -- the key file is new, and was written, and nothing else was
-pub record StoresKeyFile (names : FileNames) (key : NewKey) (before after : Option (List NamedFile)) : Type 0 where
+pub record StoresKeyFile (names : FileNames) (key : NewKey)
+    (before after : Option (List NamedFile)) : Type 0 where
   pub new_key : HasNoFile before (file_name names (files.Key key.file.device))
-  pub stored : Stores (file_with names (files.Key key.file.device) (key_file_bytes key.file) ∷ []) before after
+  pub stored : Stores
+      (file_with names (files.Key key.file.device) (key_file_bytes key.file) ∷ []) before after
 
--- there is a key file, and nothing was written; or there is a leaf file, and the key file alone was written
-abbrev pub IsThere : FileNames → NewKey → Option (List NamedFile) → Option (List NamedFile) → File → Type 0
-IsThere names key before after (files.Key device) =
-    (device ≡ key.file.device) × HasSomeFile before (file_name names (files.Key device)) × (after ≡ before)
-IsThere names key before after (files.Leaf device) =
-    (device ≡ key.file.device) × HasSomeFile after (file_name names (files.Leaf device)) × StoresKeyFile names key before after
+-- there is a key file, and nothing was written; or there is a leaf file, and the key file alone was
+-- written
+abbrev pub IsThere : FileNames → NewKey → Option (List NamedFile) → Option (List NamedFile)
+    → File → Type 0
+IsThere names key before after (files.Key device) = (device ≡ key.file.device)
+    × HasSomeFile before (file_name names (files.Key device)) × (after ≡ before)
+IsThere names key before after (files.Leaf device) = (device ≡ key.file.device)
+    × HasSomeFile after (file_name names (files.Leaf device)) × StoresKeyFile names key before after
 IsThere names key before after other = ⊥
 
--- anything may stand of the key file, and nothing else changed; or the key file is new, and was written, and anything may stand of the leaf file
-abbrev pub StoresInPart : FileNames → NewKey → Option (List NamedFile) → Option (List NamedFile) → Type 0
+-- anything may stand of the key file, and nothing else changed; or the key file is new, and was
+-- written, and anything may stand of the leaf file
+abbrev pub StoresInPart : FileNames → NewKey → Option (List NamedFile)
+    → Option (List NamedFile) → Type 0
 StoresInPart names key before after =
     ChangesFile before after (file_name names (files.Key key.file.device))
-    ⊎ ((between : Option (List NamedFile)) × StoresKeyFile names key before between × ChangesFile between after (file_name names (files.Leaf key.file.device)))
+    ⊎ ((between : Option (List NamedFile)) × StoresKeyFile names key before between
+    × ChangesFile between after (file_name names (files.Leaf key.file.device)))
 
--- why not both files were written, where the folder's count of faults went from `low` to `high`, and what stands: if memory ran out,
--- what stood before, or the key file too
-abbrev pub IsFilesFault : FileNames → NewKey → Option (List NamedFile) → Option (List NamedFile) → ℕ → ℕ → Fault → Type 0
-IsFilesFault names key before after low high faults.Memory = (after ≡ before) ⊎ StoresKeyFile names key before after
-IsFilesFault names key before after low high faults.Outside = Rose low high × StoresInPart names key before after
-IsFilesFault names key before after low high (faults.Exists file) = IsThere names key before after file
+-- why not both files were written, where the folder's count of faults went from `low` to `high`,
+-- and what stands: if memory ran out, what stood before, or the key file too
+abbrev pub IsFilesFault : FileNames → NewKey → Option (List NamedFile) → Option (List NamedFile) → ℕ
+    → ℕ → Fault → Type 0
+IsFilesFault names key before after low high faults.Memory =
+    (after ≡ before) ⊎ StoresKeyFile names key before after
+IsFilesFault names key before after low high faults.Outside =
+    Rose low high × StoresInPart names key before after
+IsFilesFault names key before after low high (faults.Exists file) =
+    IsThere names key before after file
 IsFilesFault names key before after low high fault = ⊥
 
 -- ---- the command
 
 -- the key that was made
 abbrev pub Makes : Keygen → Use ChanceTold → NewKey → Type 0
-Makes asked chance key = IsKeygen chance.before.given chance.after.given asked.device asked.height asked.width key
+Makes asked chance key =
+    IsKeygen chance.before.given chance.after.given asked.device asked.height asked.width key
 
 -- no file was written, and nothing was printed
 pub record WritesNothing (files : Use FolderTold) (out : Use StreamTold) : Type 0 where
@@ -86,14 +100,17 @@ pub record WritesNothing (files : Use FolderTold) (out : Use StreamTold) : Type 
   pub unwritten : out.after.written ≡ out.before.written
 
 -- the key was made, and why not both of its files were written
-pub record FailsAtFiles (asked : Keygen) (files : Use FolderTold) (chance : Use ChanceTold) (out : Use StreamTold) (fault : Fault) : Type 0 where
+pub record FailsAtFiles (asked : Keygen) (files : Use FolderTold) (chance : Use ChanceTold)
+    (out : Use StreamTold) (fault : Fault) : Type 0 where
   pub key : NewKey
   pub makes : Makes asked chance key
-  pub cause : IsFilesFault (names_of_document asked.name) key files.before.files files.after.files files.before.faults files.after.faults fault
+  pub cause : IsFilesFault (names_of_document asked.name) key files.before.files files.after.files
+      files.before.faults files.after.faults fault
   pub unwritten : out.after.written ≡ out.before.written
 
 -- both files were written, and the sink failed
-pub record FailsAtLine (asked : Keygen) (files : Use FolderTold) (chance : Use ChanceTold) (out : Use StreamTold) (fault : Fault) : Type 0 where
+pub record FailsAtLine (asked : Keygen) (files : Use FolderTold) (chance : Use ChanceTold)
+    (out : Use StreamTold) (fault : Fault) : Type 0 where
   pub key : NewKey
   pub makes : Makes asked chance key
   pub stores : StoresKey (names_of_document asked.name) key files.before.files files.after.files
@@ -102,19 +119,22 @@ pub record FailsAtLine (asked : Keygen) (files : Use FolderTold) (chance : Use C
   pub printed : AppendsPrefix out.before.written out.after.written (key_line key.public)
 
 -- no key was made
-pub record FailsBefore (files : Use FolderTold) (chance : Use ChanceTold) (out : Use StreamTold) (fault : Fault) : Type 0 where
+pub record FailsBefore (files : Use FolderTold) (chance : Use ChanceTold) (out : Use StreamTold)
+    (fault : Fault) : Type 0 where
   pub cause : IsOutsideFault chance.before.faults chance.after.faults fault
   pub untouched : WritesNothing files out
 
 -- the key was made, its files were new and are written, and its line was printed
-pub record MakesNewKey (asked : Keygen) (files : Use FolderTold) (chance : Use ChanceTold) (out : Use StreamTold) : Type 0 where
+pub record MakesNewKey (asked : Keygen) (files : Use FolderTold) (chance : Use ChanceTold)
+    (out : Use StreamTold) : Type 0 where
   pub key : NewKey
   pub makes : Makes asked chance key
   pub stores : StoresKey (names_of_document asked.name) key files.before.files files.after.files
   pub printed : Appends out.before.written out.after.written (key_line key.public)
 
 -- what `keygen` did, by its answer
-abbrev pub KeygenOutcome : {T : Type 0} → Keygen → Use FolderTold → Use ChanceTold → Use StreamTold → Result T Fault → Type 0
+abbrev pub KeygenOutcome : {T : Type 0} → Keygen → Use FolderTold → Use ChanceTold → Use StreamTold
+    → Result T Fault → Type 0
 KeygenOutcome asked files chance out (Ok done) = MakesNewKey asked files chance out
-KeygenOutcome asked files chance out (Err fault) =
-    FailsBefore files chance out fault ⊎ (FailsAtFiles asked files chance out fault ⊎ FailsAtLine asked files chance out fault)
+KeygenOutcome asked files chance out (Err fault) = FailsBefore files chance out fault
+    ⊎ (FailsAtFiles asked files chance out fault ⊎ FailsAtLine asked files chance out fault)

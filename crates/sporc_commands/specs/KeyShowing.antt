@@ -19,27 +19,36 @@ use Rattle.sporc_commands.specs.KeyMaking.{key_line}
 -- the line of `keygen` for the key that a device's key file says
 pub record IsLineOf (asked : Public) (told : Option (List NamedFile)) (line : List ℕ) : Type 0 where
   pub key : LmsPrivate
-  pub says : SaysFile (key_file asked.device) told (file_name (names_of_document asked.name) (files.Key asked.device)) key
+  pub says : SaysFile (key_file asked.device) told
+      (file_name (names_of_document asked.name) (files.Key asked.device)) key
   pub line_is : line ≡ key_line (lms_public_of key)
 
 -- it was written as this says
-pub record ShowsLine (asked : Public) (told : Option (List NamedFile)) (Written : List ℕ → Type 0) : Type 0 where
+pub record ShowsLine (asked : Public) (told : Option (List NamedFile))
+    (Written : List ℕ → Type 0) : Type 0 where
   pub line : List ℕ
   pub of : IsLineOf asked told line
   pub written : Written line
 
 -- the key file says nothing, or memory ran out, and nothing was printed
-pub record FailsAtKey (asked : Public) (folder : Use FolderTold) (out : Use StreamTold) (fault : Fault) : Type 0 where
-  pub cause : IsFileFault (key_file asked.device) folder.before.files folder.before.faults folder.after.faults (names_of_document asked.name) (files.Key asked.device) fault
+pub record FailsAtKey (asked : Public) (folder : Use FolderTold) (out : Use StreamTold)
+    (fault : Fault) : Type 0 where
+  pub cause : IsFileFault (key_file asked.device) folder.before.files folder.before.faults
+      folder.after.faults (names_of_document asked.name) (files.Key asked.device) fault
   pub unwritten : IsUnwritten out
 
 -- the sink failed, and a prefix of the line was printed
-pub record FailsAtPrint (asked : Public) (folder : Use FolderTold) (out : Use StreamTold) (fault : Fault) : Type 0 where
+pub record FailsAtPrint (asked : Public) (folder : Use FolderTold) (out : Use StreamTold)
+    (fault : Fault) : Type 0 where
   pub outside : fault ≡ faults.Outside
   pub rose : Rose out.before.faults out.after.faults
-  pub shows : ShowsLine asked folder.before.files (AppendsPrefix out.before.written out.after.written)
+  pub shows : ShowsLine asked folder.before.files
+      (AppendsPrefix out.before.written out.after.written)
 
 -- what `public` did, by its answer
-abbrev pub PublicOutcome : {T : Type 0} → Public → Use FolderTold → Use StreamTold → Result T Fault → Type 0
-PublicOutcome asked folder out (Ok done) = ShowsLine asked folder.before.files (Appends out.before.written out.after.written)
-PublicOutcome asked folder out (Err fault) = FailsAtKey asked folder out fault ⊎ FailsAtPrint asked folder out fault
+abbrev pub PublicOutcome : {T : Type 0} → Public → Use FolderTold → Use StreamTold
+    → Result T Fault → Type 0
+PublicOutcome asked folder out (Ok done) =
+    ShowsLine asked folder.before.files (Appends out.before.written out.after.written)
+PublicOutcome asked folder out (Err fault) =
+    FailsAtKey asked folder out fault ⊎ FailsAtPrint asked folder out fault

@@ -10,7 +10,8 @@ pub record Moment : Type 0 where
   pub out : StreamTold
 
 abbrev pub moment_of : {F O : Type 0} → (F → FolderTold) → (O → StreamTold) → F → O → Moment
-moment_of folder_told sink_told folder out = record { folder = folder_told folder; out = sink_told out }
+moment_of folder_told sink_told folder out =
+    record { folder = folder_told folder; out = sink_told out }
 
 -- a moment behind another: no count of faults has fallen
 pub record IsBehind (a b : Moment) : Type 0 where

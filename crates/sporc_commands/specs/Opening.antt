@@ -25,20 +25,23 @@ RoseIn file_told (Ok it) = ⊥
 RoseIn file_told (Err e) = 0 < (file_told e.1).faults
 
 -- behind the order of a log: what the bytes of a tail give, of a file that tells these
-abbrev pub FindsTail : {X D : Type 0} → (X → OrderModel) → Option (List ℕ) → (D → AppendTold) → OrderModel → Result X (Fault × D) → Type 0
-FindsTail view stored file_told order result =
-    (bytes : List ℕ) × AreTold stored bytes
-    × AnswersUnlessOutside view (RoseIn file_told result) (without_file result) (bytes_in files.Tail (Some bytes) >>= with_tail order)
+abbrev pub FindsTail : {X D : Type 0} → (X → OrderModel) → Option (List ℕ) → (D → AppendTold)
+    → OrderModel → Result X (Fault × D) → Type 0
+FindsTail view stored file_told order result = (bytes : List ℕ) × AreTold stored bytes
+    × AnswersUnlessOutside view (RoseIn file_told result) (without_file result)
+    (bytes_in files.Tail (Some bytes) >>= with_tail order)
 
 -- a told folder's file that tells these
 abbrev pub IsToldIn : Option (List NamedFile) → Option (List ℕ) → List ℕ → Type 0
 IsToldIn told stored bytes = IfTold told (λ files. AreTold stored bytes)
 
 -- behind a genesis: what the log gives, and the bytes of the tail behind it
-abbrev pub FindsBehind : {X D : Type 0} → (X → OrderModel) → (X → ℕ) → Option (List NamedFile) → List ℕ → Option (List ℕ) → ℕ → ℕ → (D → AppendTold) → Genesis
-    → Result X (Fault × D) → Type 0
+abbrev pub FindsBehind : {X D : Type 0} → (X → OrderModel) → (X → ℕ) → Option (List NamedFile)
+    → List ℕ → Option (List ℕ) → ℕ → ℕ → (D → AppendTold) → Genesis → Result X (Fault × D) → Type 0
 FindsBehind view len told name stored before after file_told genesis result =
     (log : Option (List ℕ)) × IsFileAt told name log × (bytes : List ℕ) × IsToldIn told stored bytes
     × AnswersUnlessOutside view (Rose before after ⊎ RoseIn file_told result) (without_file result)
-    (bytes_in files.Tail (Some bytes) >>= λ tail. logged genesis log >>= λ order. with_tail order tail)
-    × IfOk result (λ it. (order : OrderModel) × (logged genesis log ≡ Ok order) × (length order.entries ≡ len it))
+    (bytes_in files.Tail (Some bytes)
+    >>= λ tail. logged genesis log >>= λ order. with_tail order tail)
+    × IfOk result
+    (λ it. (order : OrderModel) × (logged genesis log ≡ Ok order) × (length order.entries ≡ len it))

@@ -1,5 +1,6 @@
 -- What each command did: what it read, what it wrote and saved, and why it did not do all its work.
-use Rattle.std.specs.Prelude.{◌≡◌, ◌⊎◌, ◌≤◌, ℕ, List, [], ◌∷◌, ◌++◌, codes, length, Option, option_map, Result, Ok, Err}
+use Rattle.std.specs.Prelude.{◌≡◌, ◌⊎◌, ◌≤◌, ℕ, List, [], ◌∷◌, ◌++◌, codes, length, Option}
+use Rattle.std.specs.Prelude.{option_map, Result, Ok, Err}
 use Rattle.std.specs.Fmt.{decimal}
 use Rattle.std.specs.Io.KnownBytes.{Appends}
 use Rattle.sporc_outside.specs.Counts.{Rose}
@@ -18,46 +19,57 @@ use Rattle.sporc_files.specs.declared.fault.Fault.TheVariants as faults
 use Rattle.sporc_files.specs.declared.file.File.TheVariants as files
 use Rattle.sporc_files.specs.Names.{FileNames, file_name}
 use Rattle.sporc_commands.specs.Checking.{AreCheckedFiles, CheckedFiles, IsCheckedLine, checked_in}
-use Rattle.sporc_commands.specs.Comparing.{AreComparedFiles, ComparedFiles, IsVerdictLine, chains_in}
+use Rattle.sporc_commands.specs.Comparing.{AreComparedFiles, ComparedFiles, IsVerdictLine}
+use Rattle.sporc_commands.specs.Comparing.{chains_in}
 use Rattle.sporc_commands.specs.Telling.{IsJust, lines_in, text_in}
-use Rattle.sporc_commands.specs.Moments.{ChangesFolderAlone, IsBehind, Moment, at_end, folder_between, sink_between}
+use Rattle.sporc_commands.specs.Moments.{ChangesFolderAlone, IsBehind, Moment, at_end}
+use Rattle.sporc_commands.specs.Moments.{folder_between, sink_between}
 use Rattle.sporc_commands.specs.Rounds.{GoRounds, Round, Standing}
-use Rattle.sporc_commands.specs.Serving.{AreServedFiles, HasLogged, ServedFiles, ended, order_in, saved_log}
+use Rattle.sporc_commands.specs.Serving.{AreServedFiles, HasLogged, ServedFiles, ended, order_in}
+use Rattle.sporc_commands.specs.Serving.{saved_log}
 use Rattle.sporc_commands.specs.Tails.{GivesBack, after_last}
 use Rattle.sporc_commands.specs.Uses.{OnlyReads, WritesLine}
 
 -- ---- check
 
--- `check NAME M`: the genesis, the key of the device, the ring of its member and the history of the device are read, the history is examined,
--- and the line of how many entries it has is written
-pub record CheckOutcome {T : Type 0} (names : FileNames) (device : Device) (folder : Use FolderTold) (out : Use StreamTold) (answer : Result T Fault) : Type 0 where
+-- `check NAME M`: the genesis, the key of the device, the ring of its member and the history of the
+-- device are read, the history is examined, and the line of how many entries it has is written
+pub record CheckOutcome {T : Type 0} (names : FileNames) (device : Device) (folder : Use FolderTold)
+    (out : Use StreamTold) (answer : Result T Fault) : Type 0 where
   pub content : CheckedFiles
   pub are : AreCheckedFiles folder.before.files names device content
-  pub reads : OnlyReads names (files.Genesis ∷ files.Key device ∷ files.Ring device.member ∷ files.History device ∷ []) folder
+  pub reads : OnlyReads names (files.Genesis ∷ files.Key device ∷ files.Ring device.member
+      ∷ files.History device ∷ []) folder
   pub writes : WritesLine IsCheckedLine folder out (checked_in device content) answer
 
 -- ---- text and entries
 
--- `text NAME M --at POS`: the same files are read, the history is examined, and the committed text is written, after so many of its entries or
--- after all
-pub record TextOutcome {T : Type 0} (names : FileNames) (device : Device) (at : Option ℕ) (folder : Use FolderTold) (out : Use StreamTold) (answer : Result T Fault) : Type 0 where
+-- `text NAME M --at POS`: the same files are read, the history is examined, and the committed text
+-- is written, after so many of its entries or after all
+pub record TextOutcome {T : Type 0} (names : FileNames) (device : Device) (at : Option ℕ)
+    (folder : Use FolderTold) (out : Use StreamTold) (answer : Result T Fault) : Type 0 where
   pub content : CheckedFiles
   pub are : AreCheckedFiles folder.before.files names device content
-  pub reads : OnlyReads names (files.Genesis ∷ files.Key device ∷ files.Ring device.member ∷ files.History device ∷ []) folder
+  pub reads : OnlyReads names (files.Genesis ∷ files.Key device ∷ files.Ring device.member
+      ∷ files.History device ∷ []) folder
   pub writes : WritesLine IsJust folder out (text_in device at content) answer
 
--- `entries NAME M --from POS`: the same, and the lines of the entries from that position on are written
-pub record EntriesOutcome {T : Type 0} (names : FileNames) (device : Device) (from : ℕ) (folder : Use FolderTold) (out : Use StreamTold) (answer : Result T Fault) : Type 0 where
+-- `entries NAME M --from POS`: the same, and the lines of the entries from that position on are
+-- written
+pub record EntriesOutcome {T : Type 0} (names : FileNames) (device : Device) (from : ℕ)
+    (folder : Use FolderTold) (out : Use StreamTold) (answer : Result T Fault) : Type 0 where
   pub content : CheckedFiles
   pub are : AreCheckedFiles folder.before.files names device content
-  pub reads : OnlyReads names (files.Genesis ∷ files.Key device ∷ files.Ring device.member ∷ files.History device ∷ []) folder
+  pub reads : OnlyReads names (files.Genesis ∷ files.Key device ∷ files.Ring device.member
+      ∷ files.History device ∷ []) folder
   pub writes : WritesLine IsJust folder out (lines_in device from content) answer
 
 -- ---- compare
 
--- `compare NAME M N`: the genesis and then the histories of both devices are read, whole, and the line of how the chain of the first
--- stands to that of the second is written
-pub record CompareOutcome {T : Type 0} (names : FileNames) (m n : Device) (folder : Use FolderTold) (out : Use StreamTold) (answer : Result T Fault) : Type 0 where
+-- `compare NAME M N`: the genesis and then the histories of both devices are read, whole, and the
+-- line of how the chain of the first stands to that of the second is written
+pub record CompareOutcome {T : Type 0} (names : FileNames) (m n : Device) (folder : Use FolderTold)
+    (out : Use StreamTold) (answer : Result T Fault) : Type 0 where
   pub content : ComparedFiles
   pub are : AreComparedFiles folder.before.files names m n content
   pub reads : OnlyReads names (files.Genesis ∷ files.History m ∷ files.History n ∷ []) folder
@@ -70,19 +82,25 @@ abbrev pub log_line : ℕ → List ℕ
 log_line len = codes "log " ++ (decimal len ++ codes "\n")
 
 -- the file of an order's entries was written
-pub record SavesLog (names : FileNames) (folder : Use FolderTold) (order : OrderModel) : Type 0 where
+pub record SavesLog (names : FileNames) (folder : Use FolderTold)
+    (order : OrderModel) : Type 0 where
   pub log : List ℕ
   pub saved : saved_log order ≡ Ok log
-  pub files : folder.after.files ≡ option_map (λ old. with_file old (file_name names files.Log) log) folder.before.files
+  pub files : folder.after.files
+      ≡ option_map (λ old. with_file old (file_name names files.Log) log) folder.before.files
 
 -- how an order's entries were saved and this line was written, by the answer
-module _ (names : FileNames) (folder : Use FolderTold) (out : Use StreamTold) (order : OrderModel) (line : List ℕ) where
+module _ (names : FileNames) (folder : Use FolderTold) (out : Use StreamTold) (order : OrderModel)
+    (line : List ℕ) where
   abbrev pub KeepsLog : {T : Type 0} → Result T Fault → Type 0
-  KeepsLog (Ok done) = SavesLog names folder order × Appends out.before.written out.after.written line
+  KeepsLog (Ok done) =
+      SavesLog names folder order × Appends out.before.written out.after.written line
   KeepsLog (Err faults.Memory) = (folder.after.files ≡ folder.before.files) × IsUnwritten out
-  KeepsLog (Err faults.FullFile) = (saved_log order ≡ Err faults.FullFile) × (folder.after.files ≡ folder.before.files) × IsUnwritten out
-  KeepsLog (Err faults.Outside) =
-      (Rose folder.before.faults folder.after.faults × ChangesFile folder.before.files folder.after.files (file_name names files.Log) × IsUnwritten out)
+  KeepsLog (Err faults.FullFile) = (saved_log order ≡ Err faults.FullFile)
+      × (folder.after.files ≡ folder.before.files) × IsUnwritten out
+  KeepsLog (Err faults.Outside) = (Rose folder.before.faults folder.after.faults
+      × ChangesFile folder.before.files folder.after.files (file_name names files.Log)
+      × IsUnwritten out)
       ⊎ (SavesLog names folder order × Rose out.before.faults out.after.faults
       × AppendsPrefix out.before.written out.after.written line)
   KeepsLog (Err fault) = ⊥
@@ -95,8 +113,10 @@ FailsToBegin before after found (Err faults.Outside) = Rose before after
 FailsToBegin before after found (Err fault) = found ≡ Err fault
 
 -- the files were read, of which the tail's was made if there was none, and nothing else was done
-pub record IsOpened (names : FileNames) (folder : Use FolderTold) (out : Use StreamTold) (opened : Moment) : Type 0 where
-  pub files : opened.folder.files ≡ option_map (λ told. made_in told (file_name names files.Tail)) folder.before.files
+pub record IsOpened (names : FileNames) (folder : Use FolderTold) (out : Use StreamTold)
+    (opened : Moment) : Type 0 where
+  pub files : opened.folder.files
+      ≡ option_map (λ told. made_in told (file_name names files.Tail)) folder.before.files
   pub since : folder.before.faults ≤ opened.folder.faults
   pub written : opened.out.written ≡ out.before.written
   pub sink_faults : opened.out.faults ≡ out.before.faults
@@ -106,12 +126,15 @@ module _ (names : FileNames) (sessions : ℕ) where
   pub record IsRound (a : Standing OrderModel) (r : Round OrderModel) : Type 0 where
     pub served : Result (Unit {0}) ServeFault
     pub serves : IsServed a.held r.after.held a.net r.after.net sessions served
-    pub keeps : KeepsLog names (folder_between a.moment r.after.moment) (sink_between a.moment r.after.moment) r.after.held (log_line (length r.after.held.entries)) r.saved
+    pub keeps : KeepsLog names (folder_between a.moment r.after.moment)
+        (sink_between a.moment r.after.moment) r.after.held
+        (log_line (length r.after.held.entries)) r.saved
     pub answer_is : r.answer ≡ ended served r.saved
     pub behind : IsBehind a.moment r.after.moment
 
   module _ (times : ℕ) (folder : Use FolderTold) (out : Use StreamTold) (old new : NetTold) where
-    -- nothing was served: a file failed, memory ran out, or the folder failed; no file but the tail's may have changed
+    -- nothing was served: a file failed, memory ran out, or the folder failed; no file but the
+    -- tail's may have changed
     pub record NotServed {T : Type 0} (answer : Result T Fault) : Type 0 where
       pub content : ServedFiles
       pub are : AreServedFiles folder.before.files names content
@@ -120,8 +143,8 @@ module _ (names : FileNames) (sessions : ℕ) where
       pub net : new ≡ old
       pub unwritten : IsUnwritten out
 
-    -- Sessions were served from the order in the files, so many times at the most, and what came of each time was saved. Then the tail is gone if the
-    -- log has all entries, and else it gives them
+    -- Sessions were served from the order in the files, so many times at the most, and what came of
+    -- each time was saved. Then the tail is gone if the log has all entries, and else it gives them
     pub record ServedAndKept (answer : Result (Unit {0}) Fault) : Type 0 where
       pub content : ServedFiles
       pub are : AreServedFiles folder.before.files names content
@@ -132,11 +155,13 @@ module _ (names : FileNames) (sessions : ℕ) where
       pub opened : Moment
       pub is_opened : IsOpened names folder out opened
       pub last : Round OrderModel
-      pub rounds : GoRounds IsRound times (record { held = before; moment = opened; net = old }) last
+      pub rounds : GoRounds IsRound times
+          (record { held = before; moment = opened; net = old }) last
       pub net : new ≡ last.after.net
       pub given : Result (Unit {0}) Fault
-      pub gives : GivesBack (file_name names files.Tail) (folder_between last.after.moment (at_end folder out)) logged last.after.held.genesis.document
-          last.after.held.entries last.saved given
+      pub gives : GivesBack (file_name names files.Tail)
+          (folder_between last.after.moment (at_end folder out)) logged
+          last.after.held.genesis.document last.after.held.entries last.saved given
       pub alone : ChangesFolderAlone last.after.moment (at_end folder out)
       pub answer_is : answer ≡ after_last last.answer given
 

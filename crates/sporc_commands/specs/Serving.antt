@@ -29,7 +29,8 @@ pub record ServedFiles : Type 0 where
   pub tail : Option (List ℕ)
 
 -- the files of a server, as a folder holds them
-pub record AreServedFiles (told : Option (List NamedFile)) (names : FileNames) (content : ServedFiles) : Type 0 where
+pub record AreServedFiles (told : Option (List NamedFile)) (names : FileNames)
+    (content : ServedFiles) : Type 0 where
   pub genesis : IsFileAt told (file_name names files.Genesis) content.genesis
   pub log : IsFileAt told (file_name names files.Log) content.log
   pub tail : IsFileAt told (file_name names files.Tail) content.tail
@@ -44,7 +45,8 @@ order_of_whole file genesis taken = whole file taken >>= λ entries. Ok (order_w
 
 -- the order that a log holds, if it is whole and each entry is accepted
 abbrev pub logged_in : Genesis → List ℕ → Result OrderModel Fault
-logged_in genesis bytes = order_of_whole files.Log genesis (loaded (an_order genesis) genesis.document bytes)
+logged_in genesis bytes =
+    order_of_whole files.Log genesis (loaded (an_order genesis) genesis.document bytes)
 
 -- the order of a document's log, an empty one if there is no log
 abbrev pub logged : Genesis → Option (List ℕ) → Result OrderModel Fault
@@ -73,32 +75,42 @@ tail_in content = bytes_in files.Tail (Some (or_empty content))
 abbrev pub with_tail : OrderModel → List ℕ → Result OrderModel Fault
 with_tail order bytes =
     fault_as fault_of_tail (tail_behind order.entries order.genesis.document bytes)
-    >>= λ taken. order_of_whole files.Tail order.genesis (accepted_from (an_order order.genesis) order.entries taken.entries End)
+    >>= λ taken. order_of_whole files.Tail order.genesis
+    (accepted_from (an_order order.genesis) order.entries taken.entries End)
 
--- the order of a log behind a genesis, with what it lacks of a tail. The tail's file is taken before the log is read
+-- the order of a log behind a genesis, with what it lacks of a tail. The tail's file is taken
+-- before the log is read
 abbrev pub order_behind : Genesis → Option (List ℕ) → Option (List ℕ) → Result OrderModel Fault
-order_behind genesis log tail = tail_in tail >>= λ bytes. logged genesis log >>= λ order. with_tail order bytes
+order_behind genesis log tail =
+    tail_in tail >>= λ bytes. logged genesis log >>= λ order. with_tail order bytes
 
 -- the order that a server begins with: that of the genesis, the log, and the tail behind it
 abbrev pub order_in : ServedFiles → Result OrderModel Fault
-order_in content = genesis_in content.genesis >>= λ genesis. order_behind genesis content.log content.tail
+order_in content =
+    genesis_in content.genesis >>= λ genesis. order_behind genesis content.log content.tail
 
 -- so many entries are in the log alone
 abbrev pub HasLogged : ServedFiles → ℕ → Type 0
-HasLogged content len = (order : OrderModel) × (log_in content ≡ Ok order) × (length order.entries ≡ len)
+HasLogged content len =
+    (order : OrderModel) × (log_in content ≡ Ok order) × (length order.entries ≡ len)
 
 -- it was found in the files of a folder whose count of faults went from `before` to `after`
-abbrev pub FindsOrder : {X : Type 0} → (X → OrderModel) → (X → ℕ) → Option (List NamedFile) → FileNames → ℕ → ℕ → Result X Fault → Type 0
+abbrev pub FindsOrder : {X : Type 0} → (X → OrderModel) → (X → ℕ) → Option (List NamedFile)
+    → FileNames → ℕ → ℕ → Result X Fault → Type 0
 FindsOrder view len told names before after result =
-    (content : ServedFiles) × AreServedFiles told names content × AnswersUnlessOutside view (Rose before after) result (order_in content)
+    (content : ServedFiles) × AreServedFiles told names content
+    × AnswersUnlessOutside view (Rose before after) result (order_in content)
     × IfOk result (λ it. HasLogged content (len it))
 
 -- it was found behind a genesis that was read before
-abbrev pub FindsOrderBehind : {X : Type 0} → (X → OrderModel) → (X → ℕ) → Option (List NamedFile) → FileNames → Genesis → ℕ → ℕ → Result X Fault → Type 0
-FindsOrderBehind view len told names genesis before after result =
-    (log : Option (List ℕ)) × (tail : Option (List ℕ)) × IsFileAt told (file_name names files.Log) log × IsFileAt told (file_name names files.Tail) tail
+abbrev pub FindsOrderBehind : {X : Type 0} → (X → OrderModel) → (X → ℕ) → Option (List NamedFile)
+    → FileNames → Genesis → ℕ → ℕ → Result X Fault → Type 0
+FindsOrderBehind view len told names genesis before after result = (log : Option (List ℕ))
+    × (tail : Option (List ℕ)) × IsFileAt told (file_name names files.Log) log
+    × IsFileAt told (file_name names files.Tail) tail
     × AnswersUnlessOutside view (Rose before after) result (order_behind genesis log tail)
-    × IfOk result (λ it. (order : OrderModel) × (logged genesis log ≡ Ok order) × (length order.entries ≡ len it))
+    × IfOk result
+    (λ it. (order : OrderModel) × (logged genesis log ≡ Ok order) × (length order.entries ≡ len it))
 
 -- the file of an order's entries, unless it would be too long
 abbrev pub saved_log : OrderModel → Result (List ℕ) Fault
@@ -111,6 +123,7 @@ serve_fault (serving.Worn ticket) = faults.Worn
 serve_fault serving.Memory = faults.Memory
 serve_fault serving.Unkept = faults.Outside
 
--- a server's fault goes before one of saving its log, unless memory ran out at that: this is told, so that no log is lost unseen
+-- a server's fault goes before one of saving its log, unless memory ran out at that: this is told,
+-- so that no log is lost unseen
 abbrev pub ended : Result (Unit {0}) ServeFault → Result (Unit {0}) Fault → Result (Unit {0}) Fault
 ended served kept = first_fault (fault_as serve_fault served) kept

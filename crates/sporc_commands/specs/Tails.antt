@@ -19,47 +19,57 @@ pub record LogTailModel (D : Type 0) : Type 0 where
   pub logged : ℕ
 
 -- it keeps the last of these entries, all but the first few, which its log has
-pub record KeepsLast {D : Type 0} (file_told : D → AppendTold) (t : LogTailModel D) (entries before behind : List (List ℕ)) : Type 0 where
+pub record KeepsLast {D : Type 0} (file_told : D → AppendTold) (t : LogTailModel D)
+    (entries before behind : List (List ℕ)) : Type 0 where
   pub document : t.tail.document ≡ t.document
   pub logged : length before ≤ t.logged
   pub keeps : Keeps file_told t.tail entries before behind
 
 abbrev pub KeepsBehind : {D : Type 0} → (D → AppendTold) → LogTailModel D → List (List ℕ) → Type 0
-KeepsBehind file_told t entries = (before : List (List ℕ)) × (behind : List (List ℕ)) × KeepsLast file_told t entries before behind
+KeepsBehind file_told t entries = (before : List (List ℕ)) × (behind : List (List ℕ))
+    × KeepsLast file_told t entries before behind
 
--- behind each log of at least so many of these entries, and of no others, the bytes of a tail give all of them
+-- behind each log of at least so many of these entries, and of no others, the bytes of a tail give
+-- all of them
 abbrev pub GivesAll : ℕ → List ℕ → List ℕ → List (List ℕ) → Type 0
-GivesAll logged document bytes entries = (log : List (List ℕ)) → logged ≤ length log → IsPrefix log entries → Recovers log document bytes entries
+GivesAll logged document bytes entries = (log : List (List ℕ)) → logged ≤ length log
+    → IsPrefix log entries → Recovers log document bytes entries
 
--- ---- what became of its file, where a server ended with these entries, and its log had so many as it began
+-- ---- what became of its file, where a server ended with these entries, and its log had so many as
+-- it began
 
 -- the file is back, with some bytes
 abbrev pub TakesTail : List ℕ → Use FolderTold → Type 0
-TakesTail name folder = (stored : Option (List ℕ)) × TakesFile name stored folder.before.files folder.after.files
+TakesTail name folder =
+    (stored : Option (List ℕ)) × TakesFile name stored folder.before.files folder.after.files
 
 module _ (name : List ℕ) (folder : Use FolderTold) where
   -- it is gone, or that failed, and it is gone or back
   abbrev pub RemovesTail : Result (Unit {0}) Fault → Type 0
   RemovesTail (Ok done) = RemovesFile name folder.before.files folder.after.files
-  RemovesTail (Err faults.Outside) =
-      Rose folder.before.faults folder.after.faults × (RemovesFile name folder.before.files folder.after.files ⊎ TakesTail name folder)
+  RemovesTail (Err faults.Outside) = Rose folder.before.faults folder.after.faults
+      × (RemovesFile name folder.before.files folder.after.files ⊎ TakesTail name folder)
   RemovesTail (Err fault) = ⊥
 
-  -- It is back, and its bytes give all entries behind any log that has those that it had at first. Or what came back from the server is the tail of
-  -- another log, which no contract of the server denies, and no server does
+  -- It is back, and its bytes give all entries behind any log that has those that it had at first.
+  -- Or what came back from the server is the tail of another log, which no contract of the server
+  -- denies, and no server does
   abbrev pub KeepsTail : ℕ → List ℕ → List (List ℕ) → Result (Unit {0}) Fault → Type 0
   KeepsTail logged document entries (Ok done) =
-      (stored : Option (List ℕ)) × TakesFile name stored folder.before.files folder.after.files × IfSome stored (λ bytes. ∥ GivesAll logged document bytes entries ∥₁)
-  KeepsTail logged document entries (Err (faults.Malformed file at)) = (file ≡ files.Tail) × (at ≡ 0) × TakesTail name folder
+      (stored : Option (List ℕ)) × TakesFile name stored folder.before.files folder.after.files
+      × IfSome stored (λ bytes. ∥ GivesAll logged document bytes entries ∥₁)
+  KeepsTail logged document entries (Err (faults.Malformed file at)) =
+      (file ≡ files.Tail) × (at ≡ 0) × TakesTail name folder
   KeepsTail logged document entries (Err fault) = ⊥
 
   -- it is gone if the log was saved with all entries, and else it is kept
-  abbrev pub GivesBack : ℕ → List ℕ → List (List ℕ) → Result (Unit {0}) Fault → Result (Unit {0}) Fault → Type 0
+  abbrev pub GivesBack : ℕ → List ℕ → List (List ℕ) → Result (Unit {0}) Fault
+      → Result (Unit {0}) Fault → Type 0
   GivesBack logged document entries (Ok saved) given = RemovesTail given
   GivesBack logged document entries (Err fault) given = KeepsTail logged document entries given
 
--- what is answered behind the last round, by its answer and by what came of giving the tail back: a fault of the round goes before one of that, but
--- for the tail of another log
+-- what is answered behind the last round, by its answer and by what came of giving the tail back: a
+-- fault of the round goes before one of that, but for the tail of another log
 abbrev pub after_last : Result (Unit {0}) Fault → Result (Unit {0}) Fault → Result (Unit {0}) Fault
 after_last (Ok done) given = given
 after_last (Err fault) (Err (faults.Malformed file at)) = Err (faults.Malformed file at)

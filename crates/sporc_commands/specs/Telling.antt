@@ -1,5 +1,6 @@
 -- The text and the entries of a device's saved history.
-use Rattle.std.specs.Prelude.{◌≡◌, ℕ, nat_le, List, length, take, Option, None, Some, Result, Ok, Err, if◌then◌else◌}
+use Rattle.std.specs.Prelude.{◌≡◌, ℕ, nat_le, List, length, take, Option, None, Some, Result, Ok}
+use Rattle.std.specs.Prelude.{Err, if◌then◌else◌}
 use Rattle.std.specs.Str.{encode_utf8_all}
 use Rattle.sporc_bytes.specs.Fields.{◌>>=◌}
 use Rattle.sporc_line.specs.Document.{text_of}
@@ -22,7 +23,9 @@ text_after_first n line = encode_utf8_all (text_of line.genesis line.kit (take n
 -- the committed text after so many entries, if there are so many, or after all
 abbrev pub text_at : Option ℕ → CheckedLine → Result (List ℕ) Fault
 text_at None line = Ok (encode_utf8_all (text_of line.genesis line.kit line.entries))
-text_at (Some n) line = if nat_le n (length line.entries) then Ok (text_after_first n line) else Err (faults.Ahead (length line.entries))
+text_at (Some n) line =
+    if nat_le n (length line.entries) then Ok (text_after_first n line)
+    else Err (faults.Ahead (length line.entries))
 
 -- the text of the history in a device's files
 abbrev pub text_in : Device → Option ℕ → CheckedFiles → Result (List ℕ) Fault

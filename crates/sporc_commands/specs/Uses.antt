@@ -23,8 +23,10 @@ pub record OnlyReads (names : FileNames) (read : List File) (folder : Use Folder
 
 -- ---- one line
 
--- what a command did that writes a line of what it found in files, by its answer: the line, or why there is none
-module _ {X : Type 0} (Says : X → List ℕ → Type 0) (folder : Use FolderTold) (out : Use StreamTold) (found : Result X Fault) where
+-- what a command did that writes a line of what it found in files, by its answer: the line, or why
+-- there is none
+module _ {X : Type 0} (Says : X → List ℕ → Type 0) (folder : Use FolderTold) (out : Use StreamTold)
+    (found : Result X Fault) where
   -- the line of what was found, which was written as this says
   pub record HasLine (Written : List ℕ → Type 0) : Type 0 where
     pub value : X
@@ -38,5 +40,6 @@ module _ {X : Type 0} (Says : X → List ℕ → Type 0) (folder : Use FolderTol
   WritesLine (Err faults.Memory) = IsUnwritten out
   WritesLine (Err faults.Outside) =
       (Rose folder.before.faults folder.after.faults × IsUnwritten out)
-      ⊎ (Rose out.before.faults out.after.faults × HasLine (AppendsPrefix out.before.written out.after.written))
+      ⊎ (Rose out.before.faults out.after.faults
+      × HasLine (AppendsPrefix out.before.written out.after.written))
   WritesLine (Err fault) = (found ≡ Err fault) × IsUnwritten out

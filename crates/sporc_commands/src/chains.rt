@@ -29,7 +29,8 @@ pub(crate) fn read_chain<F: Folder>(
         (F.told files.old).faults (F.told files.new).faults result (chain_in genesis.now file) }
     ensures files { (F.told files.new).files ≡ (F.told files.old).files }
     ensures lent { (F.told files.new).lent ≡ (F.told files.old).lent }
-    ensures may_ask { AsksOnly (file_name names.now file ∷ []) (F.told files.old).asked (F.told files.new).asked }
+    ensures may_ask { AsksOnly (file_name names.now file ∷ []) (F.told files.old).asked
+        (F.told files.new).asked }
     ensures kept { (F.told files.old).faults ≤ (F.told files.new).faults }
 {
     let entries = read_entries(alloc, files, names, file, &genesis.document)?;
@@ -40,7 +41,8 @@ pub(crate) fn read_chain<F: Folder>(
 // The chain of a history: its values after 0, 1, .. and all entries.
 fn chain_of(alloc: Global, genesis: &Genesis, entries: &[Vec<u8>]) -> Result<Vec<Digest32>, Memory>
     requires { IsGenesis genesis.now }
-    ensures { IfOk result (λ hashes. hashes.items ≡ chain (genesis_bytes genesis.now) (map (λ entry. entry.items) entries.now)) }
+    ensures { IfOk result (λ hashes. hashes.items
+        ≡ chain (genesis_bytes genesis.now) (map (λ entry. entry.items) entries.now)) }
 {
     let bytes = write_genesis(alloc, genesis)?;
     let mut hash = genesis_hash(bytes.as_slice());

@@ -15,9 +15,10 @@ use std::fmt::Write;
 use std::sync::Wait;
 use std::thread::Threads;
 
-/// `check NAME M` examines the saved history of a member's device, entry by entry, with its own keys, and
-/// writes `checked LEN`, how many entries it has. Who is no founder takes the keys of earlier epochs from the history. The
-/// signatures are examined by [`LOADERS`](sporc_store::LOADERS) workers.
+/// `check NAME M` examines the saved history of a member's device, entry by entry, with its own
+/// keys, and writes `checked LEN`, how many entries it has. Who is no founder takes the keys of
+/// earlier epochs from the history. The signatures are examined by
+/// [`LOADERS`](sporc_store::LOADERS) workers.
 pub fn check<R: Threads + Wait + Sync, F: Folder, O: Sink, G: Gate + Sync>(
     rt: &R,
     alloc: Global,
@@ -27,7 +28,8 @@ pub fn check<R: Threads + Wait + Sync, F: Folder, O: Sink, G: Gate + Sync>(
     device: Device,
     gate: &G,
 ) -> Result<(), Fault>
-    ensures outcome { CheckOutcome names.now device (use_of F.told files.old files.new) (use_of O.told out.old out.new) result }
+    ensures outcome { CheckOutcome names.now device (use_of F.told files.old files.new)
+        (use_of O.told out.old out.new) result }
     ensures out_kept { (O.told out.old).faults ≤ (O.told out.new).faults }
 {
     let line = read_line(rt, alloc, files, names, device, gate)?;

@@ -16,9 +16,9 @@ use sporc_outside::{Folder, Sink, write_all};
 use sporc_report::push_verdict;
 use std::alloc::Global;
 
-/// `compare NAME M N` writes how the saved history of one device of a document stands to that of another, each named as it is
-/// in words, `M` or `M.D`: `M N same`, `M N prefix`, `M N longer`, or `M N forked after K`. The histories are read unchecked,
-/// and compared by their hashes.
+/// `compare NAME M N` writes how the saved history of one device of a document stands to that of
+/// another, each named as it is in words, `M` or `M.D`: `M N same`, `M N prefix`, `M N longer`, or
+/// `M N forked after K`. The histories are read unchecked, and compared by their hashes.
 pub fn compare<F: Folder, O: Sink>(
     alloc: Global,
     files: &mut F,
@@ -27,8 +27,8 @@ pub fn compare<F: Folder, O: Sink>(
     first: Device,
     second: Device,
 ) -> Result<(), Fault>
-    ensures outcome { CompareOutcome names.now first second (use_of F.told files.old files.new) (use_of O.told out.old out.new)
-        result }
+    ensures outcome { CompareOutcome names.now first second (use_of F.told files.old files.new)
+        (use_of O.told out.old out.new) result }
     ensures out_kept { (O.told out.old).faults ≤ (O.told out.new).faults }
 {
     let chains = read_chains(alloc, files, names, first, second)?;
@@ -51,11 +51,13 @@ fn read_chains<F: Folder>(
     first: Device,
     second: Device,
 ) -> Result<(Vec<Digest32>, Vec<Digest32>), Fault>
-    ensures found { FindsChains (F.told files.old).files names.now first second (F.told files.old).faults (F.told files.new).faults result }
+    ensures found { FindsChains (F.told files.old).files names.now first second
+        (F.told files.old).faults (F.told files.new).faults result }
     ensures one_genesis { IfOk result (λ chains. AreOfOneGenesis chains.0.items chains.1.items) }
     ensures files { (F.told files.new).files ≡ (F.told files.old).files }
     ensures lent { (F.told files.new).lent ≡ (F.told files.old).lent }
-    ensures may_ask { AsksOnly (file_name names.now File.Genesis ∷ file_name names.now (File.History first) ∷ file_name names.now (File.History second) ∷ [])
+    ensures may_ask { AsksOnly (file_name names.now File.Genesis
+        ∷ file_name names.now (File.History first) ∷ file_name names.now (File.History second) ∷ [])
         (F.told files.old).asked (F.told files.new).asked }
     ensures kept { (F.told files.old).faults ≤ (F.told files.new).faults }
 {
@@ -74,7 +76,8 @@ fn verdict_line(
     other: &[Digest32],
 ) -> Result<String, Memory>
     requires { AreOfOneGenesis one.now other.now }
-    ensures { IfOk result (λ line. IsVerdictLine first second (record { first = one.now; second = other.now }) (string_bytes line)) }
+    ensures { IfOk result (λ line. IsVerdictLine first second
+        (record { first = one.now; second = other.now }) (string_bytes line)) }
 {
     let mut line = String::new(alloc);
     push_verdict(&mut line, first, second, compare_chains(one, other))?;

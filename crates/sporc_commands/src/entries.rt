@@ -24,7 +24,8 @@ pub(crate) fn read_entries<F: Folder>(
         (F.told files.old).faults (F.told files.new).faults result (entries_in file document.now) }
     ensures files { (F.told files.new).files ≡ (F.told files.old).files }
     ensures lent { (F.told files.new).lent ≡ (F.told files.old).lent }
-    ensures may_ask { AsksOnly (file_name names.now file ∷ []) (F.told files.old).asked (F.told files.new).asked }
+    ensures may_ask { AsksOnly (file_name names.now file ∷ []) (F.told files.old).asked
+        (F.told files.new).asked }
     ensures kept { (F.told files.old).faults ≤ (F.told files.new).faults }
 {
     let bytes = read_bytes(alloc, files, names, file)?;
@@ -38,7 +39,8 @@ pub(crate) fn whole_entries(
     document: &[u8; 16],
     bytes: &[u8],
 ) -> Result<Vec<Vec<u8>>, Fault>
-    ensures value { AnswersUnlessOutside entries_of ⊥ result (whole file (saved_in document.now bytes.now)) }
+    ensures value { AnswersUnlessOutside entries_of ⊥ result
+        (whole file (saved_in document.now bytes.now)) }
 {
     let (entries, stop) = read_saved(alloc, document, bytes)?;
     stopped(file, stop)?;

@@ -5,7 +5,8 @@ ghost use Rattle.sporc_entry.specs.Genesis.{IsGenesis};
 ghost use Rattle.sporc_store.specs.SavedFile.{read_to};
 ghost use Rattle.sporc_files.specs.Faults.{AnswersUnlessOutside};
 ghost use Rattle.sporc_commands.specs.Contents.{entries_of};
-ghost use Rattle.sporc_commands.specs.Checking.{checked_line, entries_for_hints, examined, kit_in, line_of_whole};
+ghost use Rattle.sporc_commands.specs.Checking.{checked_line, entries_for_hints, examined, kit_in};
+ghost use Rattle.sporc_commands.specs.Checking.{line_of_whole};
 
 use crate::entries::whole_entries;
 use sporc_entry::Genesis;
@@ -30,7 +31,8 @@ pub(crate) fn examine<R: Threads + Wait + Sync, G: Gate + Sync>(
     gate: &G,
 ) -> Result<Line, Fault>
     requires { IsGenesis genesis }
-    ensures value { AnswersUnlessOutside checked_line ⊥ result (examined genesis device ring.now history.now) }
+    ensures value { AnswersUnlessOutside checked_line ⊥ result
+        (examined genesis device ring.now history.now) }
 {
     let line = open(alloc, genesis, device, ring, history)?;
     match load_many(rt, alloc, history, line, LOADERS, gate) {
@@ -48,7 +50,8 @@ fn open(
     history: &[u8],
 ) -> Result<Line, Fault>
     requires { IsGenesis genesis }
-    ensures kit { AnswersUnlessOutside (λ line. line.kit) ⊥ result (kit_in genesis device ring.now history.now) }
+    ensures kit { AnswersUnlessOutside (λ line. line.kit) ⊥ result
+        (kit_in genesis device ring.now history.now) }
     ensures genesis { IfOk result (λ line. line.genesis ≡ genesis) }
     ensures empty { IfOk result (λ line. line.entries ≡ []) }
 {
@@ -64,7 +67,8 @@ fn entries_for_hints(
     document: &[u8; 16],
     history: &[u8],
 ) -> Result<Vec<Vec<u8>>, Fault>
-    ensures value { AnswersUnlessOutside entries_of ⊥ result (entries_for_hints device ring.now.epoch_key document.now history.now) }
+    ensures value { AnswersUnlessOutside entries_of ⊥ result
+        (entries_for_hints device ring.now.epoch_key document.now history.now) }
 {
     match ring.epoch_key {
         Some(_) => Ok(Vec::new(alloc)),
@@ -74,7 +78,8 @@ fn entries_for_hints(
 
 // A history, if it was loaded to its end.
 fn whole_line(device: Device, line: Line, stop: Stop) -> Result<Line, Fault>
-    ensures value { AnswersUnlessOutside checked_line ⊥ result (line_of_whole device line.genesis line.kit (read_to line.entries stop)) }
+    ensures value { AnswersUnlessOutside checked_line ⊥ result
+        (line_of_whole device line.genesis line.kit (read_to line.entries stop)) }
 {
     stopped(File::History(device), stop)?;
     Ok(line)

@@ -13,7 +13,10 @@ ghost use Rattle.sporc_files.specs.Names.{file_name, names_of_document};
 ghost use Rattle.sporc_files.specs.Reading.{IsFileFault, key_file};
 ghost use Rattle.sporc_files.specs.Uses.{AsksOnly};
 ghost use Rattle.sporc_files.specs.Writing.{Stores};
-ghost use Rattle.sporc_commands.specs.Founding.{AreNamed, FirstBadKey, FoundOutcome, IsNamed, IsStoreFault, MayFound, found_files, founding_files, key_read, keys_read, names_in, ring_of_founding};
+ghost use Rattle.sporc_commands.specs.Founding.{AreNamed, FirstBadKey, FoundOutcome, IsNamed};
+ghost use Rattle.sporc_commands.specs.Founding.{IsStoreFault, MayFound, found_files};
+ghost use Rattle.sporc_commands.specs.Founding.{founding_files, key_read, keys_read, names_in};
+ghost use Rattle.sporc_commands.specs.Founding.{ring_of_founding};
 ghost use Rattle.sporc_files.specs.Faults.{IsOutsideFault};
 
 use sporc_entry::write_genesis;
@@ -25,9 +28,10 @@ use sporc_words::{Found, Participant, Standing};
 use std::alloc::Global;
 use std::thread::Threads;
 
-/// Makes a document of its founders' keys and of words of the chance, and writes its genesis and the ring of each who is named,
-/// in ascending order of their numbers, in place of files with these names. The key files of the founders' first devices are
-/// read in the order of the words; those of joiners are not.
+/// Makes a document of its founders' keys and of words of the chance, and writes its genesis and
+/// the ring of each who is named, in ascending order of their numbers, in place of files with these
+/// names. The key files of the founders' first devices are read in the order of the words; those of
+/// joiners are not.
 pub fn found<R: Threads + Sync, F: Folder, C: Chance>(
     rt: &R,
     alloc: Global,
@@ -36,8 +40,11 @@ pub fn found<R: Threads + Sync, F: Folder, C: Chance>(
     asked: &Found,
 ) -> Result<(), Fault>
     requires { MayFound asked.now }
-    ensures outcome { FoundOutcome asked.now (use_of F.told files.old files.new) (use_of C.told chance.old chance.new) result }
-    ensures may_ask { AsksOnly (map (file_name (names_of_document asked.now.name)) (found_files asked.now.participants)) (F.told files.old).asked (F.told files.new).asked }
+    ensures outcome { FoundOutcome asked.now (use_of F.told files.old files.new)
+        (use_of C.told chance.old chance.new) result }
+    ensures may_ask { AsksOnly
+        (map (file_name (names_of_document asked.now.name)) (found_files asked.now.participants))
+        (F.told files.old).asked (F.told files.new).asked }
     ensures lent { (F.told files.new).lent ≡ (F.told files.old).lent }
     ensures files_kept { (F.told files.old).faults ≤ (F.told files.new).faults }
     ensures chance_kept { (C.told chance.old).faults ≤ (C.told chance.new).faults }
@@ -57,9 +64,12 @@ fn read_founders<R: Threads + Sync, F: Folder>(
     names: &Names<'_>,
     participants: &[Participant],
 ) -> Result<Vec<Named>, Fault>
-    ensures ok { IfOk result (λ named. AreNamed (F.told files.old).files names.now participants.now named.items) }
-    ensures err { IfErr result (FirstBadKey (F.told files.old).files (F.told files.old).faults (F.told files.new).faults names.now participants.now) }
-    ensures may_ask { AsksOnly (map (file_name names.now) (keys_read participants.now)) (F.told files.old).asked (F.told files.new).asked }
+    ensures ok { IfOk result
+        (λ named. AreNamed (F.told files.old).files names.now participants.now named.items) }
+    ensures err { IfErr result (FirstBadKey (F.told files.old).files (F.told files.old).faults
+        (F.told files.new).faults names.now participants.now) }
+    ensures may_ask { AsksOnly (map (file_name names.now) (keys_read participants.now))
+        (F.told files.old).asked (F.told files.new).asked }
     ensures files { (F.told files.new).files ≡ (F.told files.old).files }
     ensures lent { (F.told files.new).lent ≡ (F.told files.old).lent }
     ensures kept { (F.told files.old).faults ≤ (F.told files.new).faults }
@@ -80,10 +90,14 @@ fn read_named<R: Threads + Sync, F: Folder>(
     names: &Names<'_>,
     participant: &Participant,
 ) -> Result<Named, Fault>
-    ensures ok { IfOk result (IsNamed (F.told files.old).files names.now participant.now.member participant.now.standing) }
-    ensures err { IfErr result (IsFileFault (key_file (first_device participant.now.member)) (F.told files.old).files
-        (F.told files.old).faults (F.told files.new).faults names.now (kinds.Key (first_device participant.now.member))) }
-    ensures may_ask { AsksOnly (map (file_name names.now) (key_read participant.now.member participant.now.standing)) (F.told files.old).asked (F.told files.new).asked }
+    ensures ok { IfOk result (IsNamed
+        (F.told files.old).files names.now participant.now.member participant.now.standing) }
+    ensures err { IfErr result (IsFileFault (key_file (first_device participant.now.member))
+        (F.told files.old).files (F.told files.old).faults (F.told files.new).faults names.now
+        (kinds.Key (first_device participant.now.member))) }
+    ensures may_ask { AsksOnly
+        (map (file_name names.now) (key_read participant.now.member participant.now.standing))
+        (F.told files.old).asked (F.told files.new).asked }
     ensures files { (F.told files.new).files ≡ (F.told files.old).files }
     ensures lent { (F.told files.new).lent ≡ (F.told files.old).lent }
     ensures kept { (F.told files.old).faults ≤ (F.told files.new).faults }
@@ -106,10 +120,12 @@ fn make_founding<C: Chance>(
     named: &[Named],
 ) -> Result<Founding, Fault>
     requires { CanFound named.now }
-    ensures ok { IfOk result (λ founding. IsFounding (C.told chance.old).given (C.told chance.new).given (in_order named.now) founding) }
+    ensures ok { IfOk result (λ founding. IsFounding (C.told chance.old).given
+        (C.told chance.new).given (in_order named.now) founding) }
     ensures genesis { IfOk result (λ founding. IsGenesis founding.genesis) }
     ensures rings { IfOk result (λ founding. AllByRecursion IsRingFile founding.rings) }
-    ensures err { IfErr result (IsOutsideFault (C.told chance.old).faults (C.told chance.new).faults) }
+    ensures err { IfErr result
+        (IsOutsideFault (C.told chance.old).faults (C.told chance.new).faults) }
     ensures kept { (C.told chance.old).faults ≤ (C.told chance.new).faults }
 {
     match sporc_keys::found(alloc, chance, named) {
@@ -127,10 +143,13 @@ fn write_founding<F: Folder>(
 ) -> Result<(), Fault>
     requires genesis { IsGenesis founding.now.genesis }
     requires rings { AllByRecursion IsRingFile founding.now.rings }
-    ensures ok { OnOk result (Stores (founding_files names.now founding.now) (F.told files.old).files (F.told files.new).files) }
-    ensures err { IfErr result (IsStoreFault (founding_files names.now founding.now) (F.told files.old).files (F.told files.new).files
-        (F.told files.old).faults (F.told files.new).faults) }
-    ensures may_ask { AsksOnly (names_in (founding_files names.now founding.now)) (F.told files.old).asked (F.told files.new).asked }
+    ensures ok { OnOk result (Stores (founding_files names.now founding.now)
+        (F.told files.old).files (F.told files.new).files) }
+    ensures err { IfErr result
+        (IsStoreFault (founding_files names.now founding.now) (F.told files.old).files
+        (F.told files.new).files (F.told files.old).faults (F.told files.new).faults) }
+    ensures may_ask { AsksOnly (names_in (founding_files names.now founding.now))
+        (F.told files.old).asked (F.told files.new).asked }
     ensures lent { (F.told files.new).lent ≡ (F.told files.old).lent }
     ensures kept { (F.told files.old).faults ≤ (F.told files.new).faults }
 {
@@ -147,10 +166,13 @@ fn write_rings<F: Folder>(
     rings: &[RingFile],
 ) -> Result<(), Fault>
     requires { AllByRecursion IsRingFile rings.now }
-    ensures ok { OnOk result (Stores (map (ring_of_founding names.now) rings.now) (F.told files.old).files (F.told files.new).files) }
-    ensures err { IfErr result (IsStoreFault (map (ring_of_founding names.now) rings.now) (F.told files.old).files (F.told files.new).files
-        (F.told files.old).faults (F.told files.new).faults) }
-    ensures may_ask { AsksOnly (names_in (map (ring_of_founding names.now) rings.now)) (F.told files.old).asked (F.told files.new).asked }
+    ensures ok { OnOk result (Stores (map (ring_of_founding names.now) rings.now)
+        (F.told files.old).files (F.told files.new).files) }
+    ensures err { IfErr result
+        (IsStoreFault (map (ring_of_founding names.now) rings.now) (F.told files.old).files
+        (F.told files.new).files (F.told files.old).faults (F.told files.new).faults) }
+    ensures may_ask { AsksOnly (names_in (map (ring_of_founding names.now) rings.now))
+        (F.told files.old).asked (F.told files.new).asked }
     ensures lent { (F.told files.new).lent ≡ (F.told files.old).lent }
     ensures kept { (F.told files.old).faults ≤ (F.told files.new).faults }
 {

@@ -9,7 +9,8 @@ ghost use Rattle.sporc_keys.specs.NewKey.{IsKeygen};
 ghost use Rattle.sporc_files.specs.Names.{names_of_document};
 ghost use Rattle.sporc_files.specs.Uses.{AsksOnly};
 ghost use Rattle.sporc_files.specs.Faults.{IsOutsideFault};
-ghost use Rattle.sporc_commands.specs.KeyMaking.{IsFilesFault, KeygenOutcome, StoresKey, key_line, key_names};
+ghost use Rattle.sporc_commands.specs.KeyMaking.{IsFilesFault, KeygenOutcome, StoresKey, key_line};
+ghost use Rattle.sporc_commands.specs.KeyMaking.{key_names};
 
 use lms_tree::LmsPublic;
 use sporc_base::Memory;
@@ -20,8 +21,9 @@ use sporc_words::Keygen;
 use std::alloc::Global;
 use std::thread::Threads;
 
-/// Makes a device's key of two words of the chance, writes its files, and prints its public key. No file is overwritten:
-/// if there is a key file, nothing is written, and if there is a leaf file alone, the key file is.
+/// Makes a device's key of two words of the chance, writes its files, and prints its public key. No
+/// file is overwritten: if there is a key file, nothing is written, and if there is a leaf file
+/// alone, the key file is.
 pub fn keygen<R: Threads + Sync, F: Folder, C: Chance, O: Sink>(
     rt: &R,
     alloc: Global,
@@ -32,10 +34,10 @@ pub fn keygen<R: Threads + Sync, F: Folder, C: Chance, O: Sink>(
 ) -> Result<(), Fault>
     requires height { IsLeafHeight (height_of asked.now.height) }
     requires width { IsKeyWidth asked.now.width }
-    ensures outcome { KeygenOutcome asked.now (use_of F.told files.old files.new) (use_of C.told chance.old chance.new)
-        (use_of O.told out.old out.new)
-        result }
-    ensures may_ask { AsksOnly (key_names (names_of_document asked.now.name) asked.now.device) (F.told files.old).asked (F.told files.new).asked }
+    ensures outcome { KeygenOutcome asked.now (use_of F.told files.old files.new)
+        (use_of C.told chance.old chance.new) (use_of O.told out.old out.new) result }
+    ensures may_ask { AsksOnly (key_names (names_of_document asked.now.name) asked.now.device)
+        (F.told files.old).asked (F.told files.new).asked }
     ensures lent { (F.told files.new).lent ≡ (F.told files.old).lent }
     ensures files_kept { (F.told files.old).faults ≤ (F.told files.new).faults }
     ensures chance_kept { (C.told chance.old).faults ≤ (C.told chance.new).faults }
@@ -61,7 +63,8 @@ fn make_key<R: Threads + Sync, C: Chance>(
     ensures ok { IfOk result (λ key. IsKeygen (C.told chance.old).given (C.told chance.new).given
         asked.now.device asked.now.height asked.now.width key) }
     ensures spelled { IfOk result (λ key. IsKeyFile key.file) }
-    ensures err { IfErr result (IsOutsideFault (C.told chance.old).faults (C.told chance.new).faults) }
+    ensures err { IfErr result
+        (IsOutsideFault (C.told chance.old).faults (C.told chance.new).faults) }
     ensures kept { (C.told chance.old).faults ≤ (C.told chance.new).faults }
 {
     match sporc_keys::keygen(rt, alloc, chance, asked.device, asked.height, asked.width) {
@@ -89,10 +92,12 @@ fn write_files<F: Folder>(
     key: &NewKey,
 ) -> Result<(), Fault>
     requires { IsKeyFile key.now.file }
-    ensures ok { OnOk result (StoresKey names.now key.now (F.told files.old).files (F.told files.new).files) }
-    ensures err { IfErr result (IsFilesFault names.now key.now (F.told files.old).files (F.told files.new).files
-        (F.told files.old).faults (F.told files.new).faults) }
-    ensures may_ask { AsksOnly (key_names names.now key.now.file.device) (F.told files.old).asked (F.told files.new).asked }
+    ensures ok { OnOk result
+        (StoresKey names.now key.now (F.told files.old).files (F.told files.new).files) }
+    ensures err { IfErr result (IsFilesFault names.now key.now (F.told files.old).files
+        (F.told files.new).files (F.told files.old).faults (F.told files.new).faults) }
+    ensures may_ask { AsksOnly (key_names names.now key.now.file.device) (F.told files.old).asked
+        (F.told files.new).asked }
     ensures lent { (F.told files.new).lent ≡ (F.told files.old).lent }
     ensures kept { (F.told files.old).faults ≤ (F.told files.new).faults }
 {

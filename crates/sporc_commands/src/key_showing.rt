@@ -23,8 +23,11 @@ pub fn public<R: Threads + Sync, F: Folder, O: Sink>(
     out: &mut O,
     asked: &Public,
 ) -> Result<(), Fault>
-    ensures outcome { PublicOutcome asked.now (use_of F.told files.old files.new) (use_of O.told out.old out.new) result }
-    ensures may_ask { AsksOnly (file_name (names_of_document asked.now.name) (kinds.Key asked.now.device) ∷ []) (F.told files.old).asked (F.told files.new).asked }
+    ensures outcome { PublicOutcome asked.now (use_of F.told files.old files.new)
+        (use_of O.told out.old out.new) result }
+    ensures may_ask { AsksOnly
+        (file_name (names_of_document asked.now.name) (kinds.Key asked.now.device) ∷ [])
+        (F.told files.old).asked (F.told files.new).asked }
     ensures files { (F.told files.new).files ≡ (F.told files.old).files }
     ensures lent { (F.told files.new).lent ≡ (F.told files.old).lent }
     ensures files_kept { (F.told files.old).faults ≤ (F.told files.new).faults }
@@ -42,10 +45,14 @@ fn read_line<R: Threads + Sync, F: Folder>(
     files: &mut F,
     asked: &Public,
 ) -> Result<String, Fault>
-    ensures ok { IfOk result (λ line. IsLineOf asked.now (F.told files.old).files (string_bytes line)) }
-    ensures err { IfErr result (IsFileFault (key_file asked.now.device) (F.told files.old).files (F.told files.old).faults (F.told files.new).faults
-        (names_of_document asked.now.name) (kinds.Key asked.now.device)) }
-    ensures may_ask { AsksOnly (file_name (names_of_document asked.now.name) (kinds.Key asked.now.device) ∷ []) (F.told files.old).asked (F.told files.new).asked }
+    ensures ok { IfOk result
+        (λ line. IsLineOf asked.now (F.told files.old).files (string_bytes line)) }
+    ensures err { IfErr result
+        (IsFileFault (key_file asked.now.device) (F.told files.old).files (F.told files.old).faults
+        (F.told files.new).faults (names_of_document asked.now.name) (kinds.Key asked.now.device)) }
+    ensures may_ask { AsksOnly
+        (file_name (names_of_document asked.now.name) (kinds.Key asked.now.device) ∷ [])
+        (F.told files.old).asked (F.told files.new).asked }
     ensures files { (F.told files.new).files ≡ (F.told files.old).files }
     ensures lent { (F.told files.new).lent ≡ (F.told files.old).lent }
     ensures kept { (F.told files.old).faults ≤ (F.told files.new).faults }

@@ -1,35 +1,46 @@
-//! Commands of the program that no session of a client is behind, over a folder, a sink, a chance and a net.
+//! Commands of the program that no session of a client is behind, over a folder, a sink, a chance
+//! and a net.
 //!
-//! - [`keygen`] makes a device's key: `NAME.M.key`, then `NAME.M.leaf`, or `NAME.M.D.key` and `NAME.M.D.leaf`, and prints the
-//!   public key. [`public`] prints that line again, of a key file that is there.
-//! - [`found`] makes a document: `NAME.genesis`, then `NAME.M.ring` of each who is named, by the key files of the founders'
-//!   first devices.
+//! - [`keygen`] makes a device's key: `NAME.M.key`, then `NAME.M.leaf`, or `NAME.M.D.key` and
+//!   `NAME.M.D.leaf`, and prints the public key. [`public`] prints that line again, of a key file
+//!   that is there.
+//! - [`found`] makes a document: `NAME.genesis`, then `NAME.M.ring` of each who is named, by the
+//!   key files of the founders' first devices.
 //! - [`check`]: examines a device's saved history with its own keys, entry by entry.
-//! - [`text`]: the committed text of a device's saved history, examined so, after all entries or the first of them.
+//! - [`text`]: the committed text of a device's saved history, examined so, after all entries or
+//!   the first of them.
 //! - [`list_entries`]: a line for each of its entries.
 //! - [`compare`]: how the saved history of one device stands to that of another.
-//! - [`serve`]: serves sessions from the log of a document, and saves the log, by [`open_order`], [`save_log`] and [`end`].
+//! - [`serve`]: serves sessions from the log of a document, and saves the log, by [`open_order`],
+//!   [`save_log`] and [`end`].
 //!
 //! ```text
-//! keygen(alloc, &mut files, &mut chance, &mut out, &asked)?;     // plan.1.key, plan.1.leaf, and `key` with 112 digits
-//! found(alloc, &mut files, &mut chance, &asked)?;                // plan.genesis, plan.1.ring, plan.2.ring
+//! // plan.1.key, plan.1.leaf, and `key` with 112 digits
+//! keygen(alloc, &mut files, &mut chance, &mut out, &asked)?;
+//! // plan.genesis, plan.1.ring, plan.2.ring
+//! found(alloc, &mut files, &mut chance, &asked)?;
 //! let laptop = Device::first(2);
 //! let phone = Device { member: 2, number: 1 };
-//! check(rt, alloc, files, out, &names, laptop, &OpenGate)    // `checked 3`, or Fault::Refused(2, Refusal::BadSignature)
-//! text(rt, alloc, files, out, &names, phone, Some(1), &OpenGate)    // `Buy bread.`, or Fault::Ahead(0)
-//! list_entries(rt, alloc, files, out, &names, phone, 1, &OpenGate)    // `1 1 1 0 edit i"Buy bread."`
+//! // `checked 3`, or Fault::Refused(2, Refusal::BadSignature)
+//! check(rt, alloc, files, out, &names, laptop, &OpenGate)
+//! // `Buy bread.`, or Fault::Ahead(0)
+//! text(rt, alloc, files, out, &names, phone, Some(1), &OpenGate)
+//! // `1 1 1 0 edit i"Buy bread."`
+//! list_entries(rt, alloc, files, out, &names, phone, 1, &OpenGate)
 //! compare(alloc, files, out, &names, laptop, phone)         // `2 2.1 forked after 3`
 //! serve(rt, alloc, files, net, out, &names, "localhost:4000", 8, &OpenGate)    // `log 12`
 //! ```
 //!
-//! Proved: of `keygen`, `found` and `public`, which files are asked for, which stand after each answer, of which words of the
-//! chance they are made, what is printed, and why a command failed. For each other command one relation, in
-//! `specs/Outcomes.antt`, between its words, the folder, the sink and the net as it found and left them, and its answer: what
-//! the files say is a function of their bytes (`Checking`, `Telling`, `Comparing`, `Serving`), whose first fault is answered,
-//! unless memory runs out or something outside fails. Only tested: the files of a document in memory, the names asked for, in
-//! their order, each call outside failing in turn, the lines of histories with real signatures, and that calls succeed with
-//! ample memory (`sporc_files_tests`). Neither: that a chance is random, that a real folder keeps what is written, and that a
-//! client gets an answer.
+//! Proved: of `keygen`, `found` and `public`, which files are asked for, which stand after each
+//! answer, of which words of the chance they are made, what is printed, and why a command failed.
+//! For each other command one relation, in `specs/Outcomes.antt`, between its words, the folder,
+//! the sink and the net as it found and left them, and its answer: what the files say is a function
+//! of their bytes (`Checking`, `Telling`, `Comparing`, `Serving`), whose first fault is answered,
+//! unless memory runs out or something outside fails. Only tested: the files of a document in
+//! memory, the names asked for, in their order, each call outside failing in turn, the lines of
+//! histories with real signatures, and that calls succeed with ample memory (`sporc_files_tests`).
+//! Neither: that a chance is random, that a real folder keeps what is written, and that a client
+//! gets an answer.
 #![tactic(auto)]
 
 mod chains;

@@ -16,9 +16,10 @@ use std::alloc::Global;
 use std::sync::Wait;
 use std::thread::Threads;
 
-/// `entries NAME M --from POS` examines the saved history of a member's device as [`check`](crate::check) does, all of
-/// it, and writes a line for each of its entries from position `from` on: its position, author, number and base, and what it
-/// did. Of an edit that is its form, by which the text can be followed. Behind the last entry there is no line.
+/// `entries NAME M --from POS` examines the saved history of a member's device as
+/// [`check`](crate::check) does, all of it, and writes a line for each of its entries from position
+/// `from` on: its position, author, number and base, and what it did. Of an edit that is its form,
+/// by which the text can be followed. Behind the last entry there is no line.
 pub fn list_entries<R: Threads + Wait + Sync, F: Folder, O: Sink, G: Gate + Sync>(
     rt: &R,
     alloc: Global,
@@ -29,8 +30,8 @@ pub fn list_entries<R: Threads + Wait + Sync, F: Folder, O: Sink, G: Gate + Sync
     from: u32,
     gate: &G,
 ) -> Result<(), Fault>
-    ensures outcome { EntriesOutcome names.now device from (use_of F.told files.old files.new) (use_of O.told out.old out.new)
-        result }
+    ensures outcome { EntriesOutcome names.now device from (use_of F.told files.old files.new)
+        (use_of O.told out.old out.new) result }
     ensures out_kept { (O.told out.old).faults ≤ (O.told out.new).faults }
 {
     let line = read_line(rt, alloc, files, names, device, gate)?;
@@ -41,7 +42,8 @@ pub fn list_entries<R: Threads + Wait + Sync, F: Folder, O: Sink, G: Gate + Sync
 
 // The lines of the entries from a position on.
 fn entry_lines(alloc: Global, line: &Line, from: u32) -> Result<String, Memory>
-    ensures { IfOk result (λ lines. string_bytes lines ≡ entry_lines from line.now.genesis line.now.kit line.now.entries) }
+    ensures { IfOk result (λ lines. string_bytes lines
+        ≡ entry_lines from line.now.genesis line.now.kit line.now.entries) }
 {
     let mut lines = String::new(alloc);
     push_entries(alloc, &mut lines, line, from)?;

@@ -32,10 +32,13 @@ pub fn read_log<R: Threads + Wait + Sync, F: Folder, G: Gate + Sync>(
     gate: &G,
 ) -> Result<Order, Fault>
     requires { IsGenesis genesis }
-    ensures found { AnswersOfFile (λ order. order) (F.told files.old).files (file_name names.now File.Log) (F.told files.old).faults (F.told files.new).faults result (logged genesis) }
+    ensures found { AnswersOfFile (λ order. order) (F.told files.old).files
+        (file_name names.now File.Log) (F.told files.old).faults (F.told files.new).faults result
+        (logged genesis) }
     ensures files { (F.told files.new).files ≡ (F.told files.old).files }
     ensures lent { (F.told files.new).lent ≡ (F.told files.old).lent }
-    ensures may_ask { AsksOnly (file_name names.now File.Log ∷ []) (F.told files.old).asked (F.told files.new).asked }
+    ensures may_ask { AsksOnly (file_name names.now File.Log ∷ []) (F.told files.old).asked
+        (F.told files.new).asked }
     ensures kept { (F.told files.old).faults ≤ (F.told files.new).faults }
 {
     let log = read_if_there(alloc, files, names, File::Log)?;
@@ -68,7 +71,8 @@ fn order_of<R: Threads + Wait + Sync, G: Gate + Sync>(
 
 // An order, if it was loaded to the end of its log.
 fn whole_order(order: Order, stop: Stop) -> Result<Order, Fault>
-    ensures value { AnswersUnlessOutside (λ order. order) ⊥ result (order_of_whole File.Log order.genesis (read_to order.entries stop)) }
+    ensures value { AnswersUnlessOutside (λ order. order) ⊥ result
+        (order_of_whole File.Log order.genesis (read_to order.entries stop)) }
 {
     stopped(File::Log, stop)?;
     Ok(order)
@@ -82,10 +86,11 @@ pub(crate) fn keep_log<F: Folder, O: Sink>(
     names: &Names<'_>,
     order: &Order,
 ) -> Result<(), Fault>
-    ensures keeps { KeepsLog names.now (use_of F.told files.old files.new) (use_of O.told out.old out.new)
-        order.now (log_line (length order.now.entries)) result }
+    ensures keeps { KeepsLog names.now (use_of F.told files.old files.new)
+        (use_of O.told out.old out.new) order.now (log_line (length order.now.entries)) result }
     ensures lent { (F.told files.new).lent ≡ (F.told files.old).lent }
-    ensures may_ask { AsksOnly (file_name names.now File.Log ∷ []) (F.told files.old).asked (F.told files.new).asked }
+    ensures may_ask { AsksOnly (file_name names.now File.Log ∷ []) (F.told files.old).asked
+        (F.told files.new).asked }
     ensures kept { (F.told files.old).faults ≤ (F.told files.new).faults }
     ensures out_kept { (O.told out.old).faults ≤ (O.told out.new).faults }
 {
@@ -102,10 +107,11 @@ pub fn save_log<F: Folder, O: Sink>(
     order: &Order,
     line: &str,
 ) -> Result<(), Fault>
-    ensures keeps { KeepsLog names.now (use_of F.told files.old files.new) (use_of O.told out.old out.new)
-        order.now line.now result }
+    ensures keeps { KeepsLog names.now (use_of F.told files.old files.new)
+        (use_of O.told out.old out.new) order.now line.now result }
     ensures lent { (F.told files.new).lent ≡ (F.told files.old).lent }
-    ensures may_ask { AsksOnly (file_name names.now File.Log ∷ []) (F.told files.old).asked (F.told files.new).asked }
+    ensures may_ask { AsksOnly (file_name names.now File.Log ∷ []) (F.told files.old).asked
+        (F.told files.new).asked }
     ensures kept { (F.told files.old).faults ≤ (F.told files.new).faults }
     ensures out_kept { (O.told out.old).faults ≤ (O.told out.new).faults }
 {

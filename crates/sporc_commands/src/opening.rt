@@ -1,6 +1,7 @@
 //! What a server begins with: the order in its log and its tail.
 
-ghost use Rattle.std.specs.Prelude.{◌≡◌, ◌≤◌, [], ◌∷◌, length, IfOk, IfSome, OnOk, OnErr, option_map, string_bytes};
+ghost use Rattle.std.specs.Prelude.{◌≡◌, ◌≤◌, [], ◌∷◌, length, IfOk, IfSome, OnOk, OnErr};
+ghost use Rattle.std.specs.Prelude.{option_map, string_bytes};
 ghost use Rattle.sporc_entry.specs.Genesis.{IsGenesis};
 ghost use Rattle.sporc_outside.specs.Files.{ChangesFile, made_in};
 ghost use Rattle.sporc_outside.specs.declared.file_fault.TheConstants.{MAX_FILE};
@@ -28,7 +29,8 @@ pub struct KeptOrder<A: AppendFile> {
     pub tail: LogTail<A>,
 }
 
-/// What a server begins with: an order with its tail, the name of the tail's file, and how many entries the log has.
+/// What a server begins with: an order with its tail, the name of the tail's file, and how many
+/// entries the log has.
 #[derive(Drop)]
 pub struct OpenedOrder<A: AppendFile> {
     pub kept: KeptOrder<A>,
@@ -43,8 +45,9 @@ struct LoggedOrder<A: AppendFile> {
     logged: u32,
 }
 
-/// The order in the log and the tail of a document, an empty one if there is neither. The tail's file, which is made if there
-/// is none, is out then: it is taken before the log is read. If that fails, the file is back.
+/// The order in the log and the tail of a document, an empty one if there is neither. The tail's
+/// file, which is made if there is none, is out then: it is taken before the log is read. If that
+/// fails, the file is back.
 pub fn open_order<R: Threads + Wait + Sync, F: Folder, G: Gate + Sync>(
     rt: &R,
     alloc: Global,
@@ -52,14 +55,18 @@ pub fn open_order<R: Threads + Wait + Sync, F: Folder, G: Gate + Sync>(
     names: &Names<'_>,
     gate: &G,
 ) -> Result<OpenedOrder<F::Appended>, Fault>
-    ensures found { FindsOrder (λ it. it.kept.order) (λ it. it.logged) (F.told files.old).files names.now (F.told files.old).faults (F.told files.new).faults result }
-    ensures tail { IfOk result (λ it. KeepsBehind F.Appended.told it.kept.tail it.kept.order.entries) }
+    ensures found { FindsOrder (λ it. it.kept.order) (λ it. it.logged) (F.told files.old).files
+        names.now (F.told files.old).faults (F.told files.new).faults result }
+    ensures tail { IfOk result
+        (λ it. KeepsBehind F.Appended.told it.kept.tail it.kept.order.entries) }
     ensures name { IfOk result (λ it. string_bytes it.name ≡ file_name names.now File.Tail) }
-    ensures made { OnOk result ((F.told files.new).files ≡ option_map (λ told. made_in told (file_name names.now File.Tail)) (F.told files.old).files) }
-    ensures changes { OnErr result (ChangesFile (F.told files.old).files (F.told files.new).files (file_name names.now File.Tail)) }
+    ensures made { OnOk result ((F.told files.new).files ≡ option_map
+        (λ told. made_in told (file_name names.now File.Tail)) (F.told files.old).files) }
+    ensures changes { OnErr result (ChangesFile (F.told files.old).files (F.told files.new).files
+        (file_name names.now File.Tail)) }
     ensures lent { (F.told files.new).lent ≡ (F.told files.old).lent }
-    ensures may_ask { AsksOnly (file_name names.now File.Genesis ∷ file_name names.now File.Tail ∷ file_name names.now File.Log ∷ [])
-        (F.told files.old).asked (F.told files.new).asked }
+    ensures may_ask { AsksOnly (file_name names.now File.Genesis ∷ file_name names.now File.Tail
+        ∷ file_name names.now File.Log ∷ []) (F.told files.old).asked (F.told files.new).asked }
     ensures kept { (F.told files.old).faults ≤ (F.told files.new).faults }
 {
     let genesis = read_genesis_file(alloc, files, names)?;
@@ -76,14 +83,19 @@ pub fn open_order_behind<R: Threads + Wait + Sync, F: Folder, G: Gate + Sync>(
     gate: &G,
 ) -> Result<OpenedOrder<F::Appended>, Fault>
     requires genesis { IsGenesis genesis }
-    ensures found { FindsOrderBehind (λ it. it.kept.order) (λ it. it.logged) (F.told files.old).files names.now genesis (F.told files.old).faults (F.told files.new).faults
-        result }
-    ensures tail { IfOk result (λ it. KeepsBehind F.Appended.told it.kept.tail it.kept.order.entries) }
+    ensures found { FindsOrderBehind (λ it. it.kept.order) (λ it. it.logged)
+        (F.told files.old).files names.now genesis (F.told files.old).faults
+        (F.told files.new).faults result }
+    ensures tail { IfOk result
+        (λ it. KeepsBehind F.Appended.told it.kept.tail it.kept.order.entries) }
     ensures name { IfOk result (λ it. string_bytes it.name ≡ file_name names.now File.Tail) }
-    ensures made { OnOk result ((F.told files.new).files ≡ option_map (λ told. made_in told (file_name names.now File.Tail)) (F.told files.old).files) }
-    ensures changes { OnErr result (ChangesFile (F.told files.old).files (F.told files.new).files (file_name names.now File.Tail)) }
+    ensures made { OnOk result ((F.told files.new).files ≡ option_map
+        (λ told. made_in told (file_name names.now File.Tail)) (F.told files.old).files) }
+    ensures changes { OnErr result (ChangesFile (F.told files.old).files (F.told files.new).files
+        (file_name names.now File.Tail)) }
     ensures lent { (F.told files.new).lent ≡ (F.told files.old).lent }
-    ensures may_ask { AsksOnly (file_name names.now File.Tail ∷ file_name names.now File.Log ∷ []) (F.told files.old).asked (F.told files.new).asked }
+    ensures may_ask { AsksOnly (file_name names.now File.Tail ∷ file_name names.now File.Log ∷ [])
+        (F.told files.old).asked (F.told files.new).asked }
     ensures kept { (F.told files.old).faults ≤ (F.told files.new).faults }
 {
     let taken = append_to_file(alloc, files, names, File::Tail)?;
@@ -103,7 +115,8 @@ pub fn open_order_behind<R: Threads + Wait + Sync, F: Folder, G: Gate + Sync>(
     }
 }
 
-// The order in the log behind a genesis, and in the tail of this file, and how many entries the log has.
+// The order in the log behind a genesis, and in the tail of this file, and how many entries the log
+// has.
 fn open_behind<R: Threads + Wait + Sync, F: Folder, G: Gate + Sync>(
     rt: &R,
     alloc: Global,
@@ -114,13 +127,17 @@ fn open_behind<R: Threads + Wait + Sync, F: Folder, G: Gate + Sync>(
     gate: &G,
 ) -> Result<LoggedOrder<F::Appended>, (Fault, F::Appended)>
     requires genesis { IsGenesis genesis }
-    requires limit { IfSome (F.told files.old).files (λ _. IfSome (F.Appended.told file).stored (λ bytes. length bytes ≤ MAX_FILE)) }
-    ensures found { FindsBehind (λ it. it.kept.order) (λ it. it.logged) (F.told files.old).files (file_name names.now File.Log) (F.Appended.told file).stored
+    requires limit { IfSome (F.told files.old).files
+        (λ _. IfSome (F.Appended.told file).stored (λ bytes. length bytes ≤ MAX_FILE)) }
+    ensures found { FindsBehind (λ it. it.kept.order) (λ it. it.logged) (F.told files.old).files
+        (file_name names.now File.Log) (F.Appended.told file).stored
         (F.told files.old).faults (F.told files.new).faults F.Appended.told genesis result }
-    ensures tail { IfOk result (λ it. KeepsBehind F.Appended.told it.kept.tail it.kept.order.entries) }
+    ensures tail { IfOk result
+        (λ it. KeepsBehind F.Appended.told it.kept.tail it.kept.order.entries) }
     ensures files { (F.told files.new).files ≡ (F.told files.old).files }
     ensures lent { (F.told files.new).lent ≡ (F.told files.old).lent }
-    ensures may_ask { AsksOnly (file_name names.now File.Log ∷ []) (F.told files.old).asked (F.told files.new).asked }
+    ensures may_ask { AsksOnly (file_name names.now File.Log ∷ []) (F.told files.old).asked
+        (F.told files.new).asked }
     ensures kept { (F.told files.old).faults ≤ (F.told files.new).faults }
 {
     match read_log(rt, alloc, files, names, genesis, gate) {

@@ -25,11 +25,12 @@ pub(crate) fn read_line<R: Threads + Wait + Sync, F: Folder, G: Gate + Sync>(
     device: Device,
     gate: &G,
 ) -> Result<Line, Fault>
-    ensures found { FindsLine (F.told files.old).files names.now device (F.told files.old).faults (F.told files.new).faults result }
+    ensures found { FindsLine (F.told files.old).files names.now device (F.told files.old).faults
+        (F.told files.new).faults result }
     ensures files { (F.told files.new).files ≡ (F.told files.old).files }
     ensures lent { (F.told files.new).lent ≡ (F.told files.old).lent }
-    ensures may_ask { AsksOnly
-        (file_name names.now File.Genesis ∷ file_name names.now (File.Key device) ∷ file_name names.now (File.Ring device.member)
+    ensures may_ask { AsksOnly (file_name names.now File.Genesis
+        ∷ file_name names.now (File.Key device) ∷ file_name names.now (File.Ring device.member)
         ∷ file_name names.now (File.History device) ∷ [])
         (F.told files.old).asked (F.told files.new).asked }
     ensures kept { (F.told files.old).faults ≤ (F.told files.new).faults }

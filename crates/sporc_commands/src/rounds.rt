@@ -74,9 +74,11 @@ where
         }) }
     ensures tail { ∥ KeepsBehind F.Appended.told result.kept.tail result.kept.order.entries ∥₁ }
     ensures lent { (F.told files.new).lent ≡ (F.told files.old).lent }
-    ensures files_may_ask { AsksOnly (file_name names.now kinds.Log ∷ []) (F.told files.old).asked (F.told files.new).asked }
+    ensures files_may_ask { AsksOnly (file_name names.now kinds.Log ∷ []) (F.told files.old).asked
+        (F.told files.new).asked }
     ensures files_kept { (F.told files.old).faults ≤ (F.told files.new).faults }
-    ensures net_may_ask { AsksAgain times (N.told net.old).asked (N.told net.new).asked address.now }
+    ensures net_may_ask { AsksAgain times (N.told net.old).asked
+        (N.told net.new).asked address.now }
     ensures shut { AreShutBehind (N.told net.old).returned (N.told net.new).returned }
     ensures links_out { (N.told net.new).out ≡ (N.told net.old).out }
     ensures net_kept { (N.told net.old).faults ≤ (N.told net.new).faults }
@@ -135,7 +137,8 @@ where
         }) }
     ensures tail { ∥ KeepsBehind F.Appended.told result.kept.tail result.kept.order.entries ∥₁ }
     ensures lent { (F.told files.new).lent ≡ (F.told files.old).lent }
-    ensures files_may_ask { AsksOnly (file_name names.now kinds.Log ∷ []) (F.told files.old).asked (F.told files.new).asked }
+    ensures files_may_ask { AsksOnly (file_name names.now kinds.Log ∷ []) (F.told files.old).asked
+        (F.told files.new).asked }
     ensures files_kept { (F.told files.old).faults ≤ (F.told files.new).faults }
     ensures net_may_ask { MayAppend (N.told net.old).asked (N.told net.new).asked address.now }
     ensures shut { AreShutBehind (N.told net.old).returned (N.told net.new).returned }

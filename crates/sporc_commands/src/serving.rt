@@ -9,7 +9,8 @@ ghost use Rattle.sporc_files.specs.Uses.{AsksOnly};
 ghost use Rattle.sporc_commands.specs.Serving.{ended, serve_fault};
 ghost use Rattle.sporc_commands.specs.Outcomes.{ServeOutcome};
 ghost use Rattle.sporc_commands.specs.Rounds.{AsksAgain};
-ghost use Rattle.sporc_commands.specs.Tails.{GivesBack, KeepsBehind, KeepsTail, RemovesTail, after_last};
+ghost use Rattle.sporc_commands.specs.Tails.{GivesBack, KeepsBehind, KeepsTail, RemovesTail};
+ghost use Rattle.sporc_commands.specs.Tails.{after_last};
 ghost use Rattle.sporc_files.specs.declared.fault.Fault.{Fault};
 
 use crate::opening::{KeptOrder, OpenedOrder, open_order};
@@ -23,9 +24,10 @@ use std::alloc::Global;
 use std::sync::Wait;
 use std::thread::Threads;
 
-/// `serve NAME ADDRESS --sessions K` serves so many sessions from the log of a document, or from an empty one if there is
-/// none, saves the log and writes `log LEN`, how many entries it then has, whatever came of the sessions. A fault of the
-/// server goes before one of saving, but out of memory at the saving before it.
+/// `serve NAME ADDRESS --sessions K` serves so many sessions from the log of a document, or from an
+/// empty one if there is none, saves the log and writes `log LEN`, how many entries it then has,
+/// whatever came of the sessions. A fault of the server goes before one of saving, but out of
+/// memory at the saving before it.
 pub fn serve<R: Threads + Wait + Sync, F: Folder, N: Listen + Send, O: Sink, G: Gate + Sync>(
     rt: &R,
     alloc: Global,
@@ -44,14 +46,15 @@ where
     requires positive { 1 ≤ sessions }
     requires limit { sessions ≤ MAX_SESSIONS }
     requires times_positive { 1 ≤ times }
-    ensures outcome { ServeOutcome names.now sessions times (use_of F.told files.old files.new) (use_of O.told out.old out.new)
-        (N.told net.old) (N.told net.new)
-        result }
+    ensures outcome { ServeOutcome names.now sessions times (use_of F.told files.old files.new)
+        (use_of O.told out.old out.new) (N.told net.old) (N.told net.new) result }
     ensures lent { (F.told files.new).lent ≡ (F.told files.old).lent }
-    ensures files_may_ask { AsksOnly (file_name names.now File.Genesis ∷ file_name names.now File.Tail ∷ file_name names.now File.Log ∷ [])
+    ensures files_may_ask { AsksOnly (file_name names.now File.Genesis
+        ∷ file_name names.now File.Tail ∷ file_name names.now File.Log ∷ [])
         (F.told files.old).asked (F.told files.new).asked }
     ensures files_kept { (F.told files.old).faults ≤ (F.told files.new).faults }
-    ensures net_may_ask { AsksAgain times (N.told net.old).asked (N.told net.new).asked address.now }
+    ensures net_may_ask { AsksAgain times (N.told net.old).asked
+        (N.told net.new).asked address.now }
     ensures shut { AreShutBehind (N.told net.old).returned (N.told net.new).returned }
     ensures links_out { (N.told net.new).out ≡ (N.told net.old).out }
     ensures net_kept { (N.told net.old).faults ≤ (N.told net.new).faults }
@@ -74,8 +77,8 @@ fn give_back<F: Folder>(
 ) -> Result<(), Fault>
     requires tail { ∥ KeepsBehind F.Appended.told last.kept.tail last.kept.order.entries ∥₁ }
     ensures given { (given : Result (Unit {0}) Fault)
-        × GivesBack name.now (use_of F.told files.old files.new) logged last.kept.order.genesis.document last.kept.order.entries
-        last.saved given
+        × GivesBack name.now (use_of F.told files.old files.new) logged
+        last.kept.order.genesis.document last.kept.order.entries last.saved given
         × (result ≡ after_last last.answer given) }
     ensures lent { (F.told files.new).lent ≡ (F.told files.old).lent }
     ensures asked { (F.told files.new).asked ≡ (F.told files.old).asked }
@@ -108,7 +111,8 @@ pub fn remove_tail<F: Folder>(
     }
 }
 
-/// Gives the file of a tail back, which keeps the entries of this order behind a log that has at least so many.
+/// Gives the file of a tail back, which keeps the entries of this order behind a log that has at
+/// least so many.
 pub fn keep_tail<F: Folder>(
     files: &mut F,
     name: &str,
@@ -117,7 +121,8 @@ pub fn keep_tail<F: Folder>(
     tail: LogTail<F::Appended>,
 ) -> Result<(), Fault>
     requires tail { ∥ KeepsBehind F.Appended.told tail order.now.entries ∥₁ }
-    ensures keeps { KeepsTail name.now (use_of F.told files.old files.new) logged order.now.genesis.document order.now.entries result }
+    ensures keeps { KeepsTail name.now (use_of F.told files.old files.new) logged
+        order.now.genesis.document order.now.entries result }
     ensures lent { (F.told files.new).lent ≡ (F.told files.old).lent }
     ensures asked { (F.told files.new).asked ≡ (F.told files.old).asked }
     ensures kept { (F.told files.old).faults ≤ (F.told files.new).faults }
@@ -146,8 +151,8 @@ pub fn after_last(answer: Result<(), Fault>, given: Result<(), Fault>) -> Result
     }
 }
 
-/// What `serve` answers, by what came of the sessions and of saving the log: a server's fault goes before one of saving its
-/// log, but for out of memory at that.
+/// What `serve` answers, by what came of the sessions and of saving the log: a server's fault goes
+/// before one of saving its log, but for out of memory at that.
 pub fn end(served: Result<(), ServeFault>, kept: Result<(), Fault>) -> Result<(), Fault>
     ensures value { result ≡ ended served kept }
 {

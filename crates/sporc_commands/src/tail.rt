@@ -1,6 +1,7 @@
 //! The tail of a server's log, as it is handed to the server and comes back.
 
-ghost use Rattle.std.specs.Prelude.{◌≡◌, ◌≤◌, ◌↔◌, ◌+◌, ◌++◌, ◌∷◌, [], ℕ, List, length, IsTrue, OnOk, OnErr};
+ghost use Rattle.std.specs.Prelude.{◌≡◌, ◌≤◌, ◌↔◌, ◌+◌, ◌++◌, ◌∷◌, [], ℕ, List, length, IsTrue};
+ghost use Rattle.std.specs.Prelude.{OnOk, OnErr};
 ghost use Rattle.sporc_commands.specs.Tails.{KeepsBehind};
 
 use sporc_base::is_same;
@@ -37,9 +38,11 @@ impl<A: AppendFile> LogTail<A> {
         }
     }
 
-    /// Whether it is the tail of this document's log, and was opened behind one of so many entries at the most.
+    /// Whether it is the tail of this document's log, and was opened behind one of so many entries
+    /// at the most.
     pub fn is_behind(&self, document: &[u8; 16], len: u32) -> bool
-        ensures value { IsTrue result ↔ (self.now.document ≡ document.now) × (self.now.logged ≤ len) }
+        ensures value { IsTrue result
+            ↔ (self.now.document ≡ document.now) × (self.now.logged ≤ len) }
     {
         is_same(&self.document, document) && self.logged <= len
     }
@@ -58,10 +61,11 @@ impl<A: AppendFile> Tail for LogTail<A> {
     ghost may_fail = { Unit {0} };
 
     fn put(&mut self, position: u32, entry: &[u8]) -> Result<(), Unkept>
-        ensures ok { OnOk result ((entries : List (List ℕ)) → KeepsBehind A.told self.old entries → position ≡ length entries + 1
+        ensures ok { OnOk result ((entries : List (List ℕ)) → KeepsBehind A.told self.old entries
+            → position ≡ length entries + 1
             → KeepsBehind A.told self.new (entries ++ entry.now ∷ [])) }
-        ensures err { OnErr result ((entries : List (List ℕ)) → KeepsBehind A.told self.old entries → position ≡ length entries + 1
-            → KeepsBehind A.told self.new entries) }
+        ensures err { OnErr result ((entries : List (List ℕ)) → KeepsBehind A.told self.old entries
+            → position ≡ length entries + 1 → KeepsBehind A.told self.new entries) }
         ensures failed { OnErr result (Unit {0}) }
     {
         self.tail.put(position, entry)

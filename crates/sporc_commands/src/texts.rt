@@ -21,9 +21,10 @@ use std::alloc::Global;
 use std::sync::Wait;
 use std::thread::Threads;
 
-/// `text NAME M --at POS` examines the saved history of a member's device as [`check`](crate::check) does, all of it,
-/// and writes the committed text as UTF-8, after its first `at` entries or after all, with nothing before or behind it. If
-/// it has fewer entries, the fault is `Ahead` with their number.
+/// `text NAME M --at POS` examines the saved history of a member's device as
+/// [`check`](crate::check) does, all of it, and writes the committed text as UTF-8, after its first
+/// `at` entries or after all, with nothing before or behind it. If it has fewer entries, the fault
+/// is `Ahead` with their number.
 pub fn text<R: Threads + Wait + Sync, F: Folder, O: Sink, G: Gate + Sync>(
     rt: &R,
     alloc: Global,
@@ -34,8 +35,8 @@ pub fn text<R: Threads + Wait + Sync, F: Folder, O: Sink, G: Gate + Sync>(
     at: Option<u32>,
     gate: &G,
 ) -> Result<(), Fault>
-    ensures outcome { TextOutcome names.now device at (use_of F.told files.old files.new) (use_of O.told out.old out.new)
-        result }
+    ensures outcome { TextOutcome names.now device at (use_of F.told files.old files.new)
+        (use_of O.told out.old out.new) result }
     ensures out_kept { (O.told out.old).faults ≤ (O.told out.new).faults }
 {
     let line = read_line(rt, alloc, files, names, device, gate)?;
@@ -46,7 +47,8 @@ pub fn text<R: Threads + Wait + Sync, F: Folder, O: Sink, G: Gate + Sync>(
 
 // The text after the first so many entries, or after all.
 fn text_at(alloc: Global, line: &Line, at: Option<u32>) -> Result<String, Fault>
-    ensures value { AnswersUnlessOutside (λ text. string_bytes text) ⊥ result (text_at at (checked_line line.now)) }
+    ensures value { AnswersUnlessOutside (λ text. string_bytes text) ⊥ result
+        (text_at at (checked_line line.now)) }
 {
     let Some(at) = at else {
         let text = line.text()?;
@@ -60,11 +62,13 @@ fn text_at(alloc: Global, line: &Line, at: Option<u32>) -> Result<String, Fault>
     Ok(text)
 }
 
-// The text after the first so many entries: their forms, applied one after another from the empty text on.
+// The text after the first so many entries: their forms, applied one after another from the empty
+// text on.
 fn text_after_first(alloc: Global, line: &Line, at: u32) -> Result<String, Memory>
     requires in_bounds { at ≤ length line.now.entries }
     requires good { Good line.now.genesis line.now.kit line.now.entries }
-    ensures { IfOk result (λ text. string_bytes text ≡ encode_utf8_all (text_of line.now.genesis line.now.kit (take at line.now.entries))) }
+    ensures { IfOk result (λ text. string_bytes text
+        ≡ encode_utf8_all (text_of line.now.genesis line.now.kit (take at line.now.entries))) }
 {
     let mut text = Doc::new(alloc);
     'forms: for i in 0..at {

@@ -1,4 +1,5 @@
-//! What a run answers over a script, an empty folder, a chance without words and a net without links.
+//! What a run answers over a script, an empty folder, a chance without words and a net without
+//! links.
 
 ghost use Rattle.std.specs.Prelude.{◌<◌};
 
@@ -57,8 +58,8 @@ fn answer_over<R: Threads + Wait + Sync + Abort>(
     (status, streams.written(rt, alloc))
 }
 
-/// The answer over this script, if the source and the sink move at most `piece` bytes a call, and their calls of these numbers
-/// fail.
+/// The answer over this script, if the source and the sink move at most `piece` bytes a call, and
+/// their calls of these numbers fail.
 pub fn answer<R: Threads + Wait + Sync + Abort>(
     rt: &R,
     alloc: Global,

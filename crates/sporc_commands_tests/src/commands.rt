@@ -9,7 +9,8 @@ use std::process::Abort;
 use std::sync::Wait;
 use std::thread::{Threads, join};
 
-// The public key of member 1, whose identifier is 16 bytes 0 and whose seed 32 bytes 1, by a Python program.
+// The public key of member 1, whose identifier is 16 bytes 0 and whose seed 32 bytes 1, by a Python
+// program.
 const FIRST_KEY: &[u8] =
     b"key 00000005000000030000000000000000000000000000000021619ca96c7979649f4b1f489a20433d225d7fcd457b4f7b3e8fb37b84b0c6ed\n";
 

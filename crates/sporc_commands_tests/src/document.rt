@@ -127,7 +127,8 @@ pub fn of_server(rt: &impl Abort, alloc: Global, cast: &Cast, log: &[u8]) -> Vec
     files
 }
 
-/// The files of member 2 with this leaf file and this history, and two scripts: an insertion, and a removal of the admin.
+/// The files of member 2 with this leaf file and this history, and two scripts: an insertion, and a
+/// removal of the admin.
 pub fn of_member(
     rt: &impl Abort,
     alloc: Global,

@@ -1,5 +1,6 @@
-//! Each object that a command is handed fails at each of its calls in turn. The tables of a session, which is handed links and
-//! disks themselves, are those of `sporc_thread_tests/src/shared/session_faults.rt`, over the same loop.
+//! Each object that a command is handed fails at each of its calls in turn. The tables of a
+//! session, which is handed links and disks themselves, are those of
+//! `sporc_thread_tests/src/shared/session_faults.rt`, over the same loop.
 
 use crate::checks::check_at;
 use crate::place::Object;
@@ -19,8 +20,8 @@ enum Command {
     ServeAll(hosts::Scene),
 }
 
-// Whether a run ends well where this call of an object is to fail, since it makes no such call. Else the fault is told, and what
-// the run leaves is whole.
+// Whether a run ends well where this call of an object is to fail, since it makes no such call.
+// Else the fault is told, and what the run leaves is whole.
 fn ends_without<R: Threads + Wait + Sync + Abort>(
     rt: &R,
     alloc: Global,
@@ -70,9 +71,11 @@ const PLAY: [Row; 2] = [
 ];
 
 const SERVE: [Row; 8] = [
-    // genesis and log are read, the tail is opened before the log, the log is written, and the tail removed
+    // genesis and log are read, the tail is opened before the log, the log is written, and the tail
+    // removed
     (Object::Files, 5, 5),
-    // the empty tail is synced, read, cut and synced; its head is appended and synced, and so is the entry
+    // the empty tail is synced, read, cut and synced; its head is appended and synced, and so is
+    // the entry
     (Object::Tail, 8, 8),
     (Object::Out, 1, 1),
     // it listens, and takes the link
@@ -100,7 +103,8 @@ const CLIENT: [Row; 7] = [
 ];
 
 const SERVE_ALL: [Row; 8] = [
-    // genesis and log of both documents are read and both tails opened, both logs are written, and both tails removed
+    // genesis and log of both documents are read and both tails opened, both logs are written, and
+    // both tails removed
     (Object::Files, 10, 10),
     // the tail of the first one, as of one document
     (Object::Tail, 8, 8),

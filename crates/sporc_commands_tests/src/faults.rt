@@ -65,8 +65,8 @@ fn is_well(status: u8, written: &[u8]) -> bool {
     status == 0 && is_same(written, THIN_REPORT.as_bytes())
 }
 
-// Whether this is how a play ends one of whose calls failed: the fault alone if it was a read, and else the fault after a
-// prefix of the report.
+// Whether this is how a play ends one of whose calls failed: the fault alone if it was a read, and
+// else the fault after a prefix of the report.
 fn is_told(object: Object, status: u8, written: &[u8]) -> bool {
     let Some(prefix) = written.strip_suffix(b"fault outside\n".as_slice()) else {
         return false;
@@ -78,8 +78,8 @@ fn is_told(object: Object, status: u8, written: &[u8]) -> bool {
     is_prefix && status == 6
 }
 
-/// Whether a short play, which moves seven bytes a call, ends well, since the object has no call left that fails. Else the
-/// fault is told.
+/// Whether a short play, which moves seven bytes a call, ends well, since the object has no call
+/// left that fails. Else the fault is told.
 pub fn ends_without<R: Threads + Wait + Sync + Abort>(
     rt: &R,
     alloc: Global,

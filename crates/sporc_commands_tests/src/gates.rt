@@ -1,5 +1,6 @@
-//! Runs with a gate that holds a line of an editor and an accept until the other was come to, and that keeps what it was told:
-//! of lines and their editors, of entries that are loaded or examined and who does so, and of accepts.
+//! Runs with a gate that holds a line of an editor and an accept until the other was come to, and
+//! that keeps what it was told: of lines and their editors, of entries that are loaded or examined
+//! and who does so, and of accepts.
 
 use crate::checks::check;
 use crate::document::{entries, history_file, of_member, of_server};
@@ -16,8 +17,8 @@ use std::thread::{Threads, join, yield_now};
 // How often one looks for the other.
 const TURNS: u32 = 20_000_000;
 
-// Which lines of which editors it was told, or positions of which workers or sessions, and which numbers of entries: a
-// hexadecimal digit counts each number.
+// Which lines of which editors it was told, or positions of which workers or sessions, and which
+// numbers of entries: a hexadecimal digit counts each number.
 #[derive(Drop)]
 struct Meeting {
     lines: AtomicU64,
@@ -109,7 +110,8 @@ fn work<R: Threads + Wait + Sync + Abort>(
     check(rt, "the member", worked);
 }
 
-// The member's line waits for the entry that the server has, and the return of its accept for the line.
+// The member's line waits for the entry that the server has, and the return of its accept for the
+// line.
 fn meet<R: Threads + Wait + Sync + Abort>(
     rt: &R,
     alloc: Global,

@@ -13,7 +13,8 @@ use std::process::Abort;
 use std::sync::Wait;
 use std::thread::Threads;
 
-/// A server's scene of one document, its files beside those of another document, `E`, and the log of that without an entry.
+/// A server's scene of one document, its files beside those of another document, `E`, and the log
+/// of that without an entry.
 #[derive(Drop)]
 pub struct Scene {
     one: servers::Scene,
@@ -41,9 +42,9 @@ const WELL: &[u8] = b"log D 2\nlog E 0\n";
 // Those where the session brings nothing.
 const NOTHING: &[u8] = b"log D 1\nlog E 0\n";
 
-// What is written where this call of an object fails. Of each document genesis, tail and log are opened first, and one of these
-// that fails is told alone. Then each log is saved and told, also if the one before it was not, and both tails are removed; the
-// fault comes last.
+// What is written where this call of an object fails. Of each document genesis, tail and log are
+// opened first, and one of these that fails is told alone. Then each log is saved and told, also if
+// the one before it was not, and both tails are removed; the fault comes last.
 fn fault_lines(object: Object, call: u64) -> &'static [u8] {
     match object {
         Object::Files | Object::Tail if call <= 6 => b"fault outside\n",
@@ -55,7 +56,8 @@ fn fault_lines(object: Object, call: u64) -> &'static [u8] {
     }
 }
 
-// Whether this is how a server ends one of whose calls failed. A link that fails ends its session alone.
+// Whether this is how a server ends one of whose calls failed. A link that fails ends its session
+// alone.
 fn is_told(object: Object, call: u64, status: u8, written: &[u8]) -> bool {
     match object {
         Object::Link => status == 0 && (is_same(written, WELL) || is_same(written, NOTHING)),
@@ -89,7 +91,8 @@ fn has_second_line(written: &[u8]) -> bool {
     written.starts_with(b"log E 0\n") || written.starts_with(WELL) || written.starts_with(NOTHING)
 }
 
-// Whether a server over this place ends well, since the object has no call left that fails. Else the fault is told.
+// Whether a server over this place ends well, since the object has no call left that fails. Else
+// the fault is told.
 fn ends_well<R: Threads + Wait + Sync + Abort>(
     rt: &R,
     alloc: Global,
@@ -111,7 +114,8 @@ fn ends_well<R: Threads + Wait + Sync + Abort>(
     is_well
 }
 
-/// Whether it ends well over the scene's files, since the object has no call left that fails. Else the fault is told.
+/// Whether it ends well over the scene's files, since the object has no call left that fails. Else
+/// the fault is told.
 pub fn ends_without<R: Threads + Wait + Sync + Abort>(
     rt: &R,
     alloc: Global,

@@ -30,7 +30,8 @@ fn listed_net(rt: &impl Abort, alloc: Global, sent: &[u8], failing: Failing) -> 
     MemoryNet::new(alloc, links, calls_of(rt, alloc, failing.net))
 }
 
-// A net with links that bring these, in a box: a function that owns the net itself is slow to prove.
+// A net with links that bring these, in a box: a function that owns the net itself is slow to
+// prove.
 fn net_of_all(rt: &impl Abort, alloc: Global, sent: &[Vec<u8>]) -> Box<MemoryNet> {
     let mut links = Vec::new(alloc);
     for stream in sent {
@@ -71,7 +72,8 @@ pub fn run_listed<R: Threads + Wait + Sync + Abort>(
     (answer, is_quiet)
 }
 
-/// A handle of a net between threads, of which a call fails, and a call of each of its links. It tells no content.
+/// A handle of a net between threads, of which a call fails, and a call of each of its links. It
+/// tells no content.
 #[derive(Drop)]
 pub struct FaultyNet<R: Wait + Copy + Drop> {
     alloc: Global,

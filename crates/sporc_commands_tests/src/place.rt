@@ -102,7 +102,8 @@ pub struct Streams {
     pub out: Box<MemorySink>,
 }
 
-/// A folder, 400 words for a chance, of which a session takes two in each of its rounds, and which calls fail.
+/// A folder, 400 words for a chance, of which a session takes two in each of its rounds, and which
+/// calls fail.
 #[derive(Drop)]
 pub struct Place {
     pub files: Box<MemoryFolder>,
@@ -198,8 +199,8 @@ fn sink_of(rt: &impl Abort, alloc: Global, piece: usize, failing: u64) -> Box<Me
 }
 
 impl Streams {
-    /// Input with these bytes and output, each of which moves at most `piece` bytes a call, and fails at the call with this
-    /// number.
+    /// Input with these bytes and output, each of which moves at most `piece` bytes a call, and
+    /// fails at the call with this number.
     pub fn new(
         rt: &impl Abort,
         alloc: Global,

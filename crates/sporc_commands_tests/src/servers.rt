@@ -13,8 +13,8 @@ use std::process::Abort;
 use std::sync::Wait;
 use std::thread::Threads;
 
-/// The server's files before a session, the log of one entry that it has before, that of two that it has at the end, and what
-/// a client sends that submits the second one.
+/// The server's files before a session, the log of one entry that it has before, that of two that
+/// it has at the end, and what a client sends that submits the second one.
 #[derive(Drop)]
 pub struct Scene {
     pub files: Vec<NamedFile>,
@@ -98,8 +98,9 @@ fn is_whole(scene: &Scene, place: &Place) -> bool {
     }
 }
 
-// Whether a server over what is left, to which a client comes that sends nothing, has what was ordered: both entries where the
-// log has them, or where it could not be written, since the tail has the second one then.
+// Whether a server over what is left, to which a client comes that sends nothing, has what was
+// ordered: both entries where the log has them, or where it could not be written, since the tail
+// has the second one then.
 fn keeps<R: Threads + Wait + Sync + Abort>(
     rt: &R,
     alloc: Global,
@@ -139,8 +140,8 @@ fn is_well(ended: &Ended) -> bool {
     ended.status == 0 && ended.is_quiet
 }
 
-// What is written where this call of an object fails. Once the tail is open, the log is saved and told before the fault,
-// whatever came of the sessions, and the tail is removed behind that.
+// What is written where this call of an object fails. Once the tail is open, the log is saved and
+// told before the fault, whatever came of the sessions, and the tail is removed behind that.
 fn fault_lines(object: Object, call: u64) -> &'static [u8] {
     match object {
         Object::Files if call == 5 => b"log 2\nfault outside\n",
@@ -150,7 +151,8 @@ fn fault_lines(object: Object, call: u64) -> &'static [u8] {
     }
 }
 
-// Whether this is how a server ends one of whose calls failed. A link that fails ends its session alone.
+// Whether this is how a server ends one of whose calls failed. A link that fails ends its session
+// alone.
 fn is_told(object: Object, call: u64, ended: &Ended) -> bool {
     let written = ended.written.as_slice();
     match object {
@@ -161,7 +163,8 @@ fn is_told(object: Object, call: u64, ended: &Ended) -> bool {
     }
 }
 
-// Whether a server over this place ends well, since the object has no call left that fails. Else the fault is told.
+// Whether a server over this place ends well, since the object has no call left that fails. Else
+// the fault is told.
 fn ends_well<R: Threads + Wait + Sync + Abort>(
     rt: &R,
     alloc: Global,
@@ -183,7 +186,8 @@ fn ends_well<R: Threads + Wait + Sync + Abort>(
     is_well
 }
 
-/// Whether it ends well over the scene's files, since the object has no call left that fails. Else the fault is told.
+/// Whether it ends well over the scene's files, since the object has no call left that fails. Else
+/// the fault is told.
 pub fn ends_without<R: Threads + Wait + Sync + Abort>(
     rt: &R,
     alloc: Global,

@@ -1,4 +1,5 @@
-//! Sessions of a member beside an honest server, where a call of an object that `client` is handed fails.
+//! Sessions of a member beside an honest server, where a call of an object that `client` is handed
+//! fails.
 
 use crate::checks::{check, check_at};
 use crate::document::{entries, history_file, of_member, of_server};
@@ -14,7 +15,8 @@ use std::process::Abort;
 use std::sync::Wait;
 use std::thread::{Threads, join};
 
-/// The member's and the server's files before a session: both have one entry, and the block of its leaf is taken.
+/// The member's and the server's files before a session: both have one entry, and the block of its
+/// leaf is taken.
 #[derive(Drop)]
 pub struct Scene {
     member: Vec<NamedFile>,
@@ -94,7 +96,8 @@ fn stay_taken(before: &[u8], after: &[u8]) -> bool {
     before.len() == after.len() && before.iter().zip(after).all(|(b, a)| *b == 0 || b == a)
 }
 
-// Whether the member's history is whole, with one entry or two, and with two if it was the printing that failed.
+// Whether the member's history is whole, with one entry or two, and with two if it was the printing
+// that failed.
 fn is_whole<R: Threads + Wait + Sync + Abort>(
     rt: &R,
     alloc: Global,
@@ -128,7 +131,8 @@ fn leaves_rise(rt: &impl Abort, entries: &[Vec<u8>]) -> bool {
     entries.len() > 1
 }
 
-// Whether each entry of a log was signed by a later leaf than the one before, if all are member 2's.
+// Whether each entry of a log was signed by a later leaf than the one before, if all are member
+// 2's.
 fn leaves_rise_in(rt: &impl Abort, alloc: Global, log: &[u8]) -> bool {
     let (entries, _) = read_saved(alloc, &DOCUMENT, log).expect(rt, "memory");
     let rise = leaves_rise(rt, entries.as_slice());
@@ -136,7 +140,8 @@ fn leaves_rise_in(rt: &impl Abort, alloc: Global, log: &[u8]) -> bool {
     rise
 }
 
-// Whether a session over the files that one left ends well, and the server's entries then have rising leaves.
+// Whether a session over the files that one left ends well, and the server's entries then have
+// rising leaves.
 fn works_on<R: Threads + Wait + Sync + Abort>(
     rt: &R,
     alloc: Global,
@@ -172,7 +177,8 @@ fn goes_on<R: Threads + Wait + Sync + Abort>(
     works
 }
 
-// Whether the session of these two ends well, since the object has no call left that fails. Else the fault is told.
+// Whether the session of these two ends well, since the object has no call left that fails. Else
+// the fault is told.
 fn ends_well<R: Threads + Wait + Sync + Abort>(
     rt: &R,
     alloc: Global,
@@ -196,7 +202,8 @@ fn ends_well<R: Threads + Wait + Sync + Abort>(
     is_well
 }
 
-/// Whether it ends well over the scene's files, since the object has no call left that fails. Else the fault is told.
+/// Whether it ends well over the scene's files, since the object has no call left that fails. Else
+/// the fault is told.
 pub fn ends_without<R: Threads + Wait + Sync + Abort>(
     rt: &R,
     alloc: Global,

@@ -1,4 +1,5 @@
-//! Servers that go on from one that was stopped in the middle, and servers that serve several times.
+//! Servers that go on from one that was stopped in the middle, and servers that serve several
+//! times.
 
 use crate::bytes::{append, bytes_of};
 use crate::checks::{check, check_answer};
@@ -100,8 +101,8 @@ fn log_line(len: usize) -> &'static [u8] {
     }
 }
 
-// How many entries the log has, the records of its tail, how many bytes of that are missing at its end, and how many entries
-// the server then has.
+// How many entries the log has, the records of its tail, how many bytes of that are missing at its
+// end, and how many entries the server then has.
 const KEPT: [(usize, &[Record], usize, usize); 8] = [
     (1, &[(2, 2), (3, 3)], 0, 3),
     (0, &[(1, 1)], 0, 1),
@@ -158,7 +159,8 @@ fn is_stopped<R: Threads + Wait + Sync + Abort>(
     check(rt, line, place.file("D.tail") == Some(tail));
 }
 
-// Bytes that are no tail of the document's log of one entry, or in which no record can be, and what is told.
+// Bytes that are no tail of the document's log of one entry, or in which no record can be, and what
+// is told.
 const NO_TAILS: [(&[u8], &str); 4] = [
     (
         b"SPT1\x08\x08\x08\x08\x08\x08\x08\x08\x08\x08\x08\x08\x08\x08\x08\x08",
@@ -176,7 +178,8 @@ const NO_TAILS: [(&[u8], &str); 4] = [
     ),
 ];
 
-// Records that do not fit behind a log of one entry, how many of them do, and how far behind these the fault is.
+// Records that do not fit behind a log of one entry, how many of them do, and how far behind these
+// the fault is.
 const MISFITS: [(&[Record], usize, usize); 4] = [
     // a gap behind the log, a record twice, a gap behind a record, and another entry than the log's
     (&[(3, 3)], 0, 0),
@@ -252,7 +255,8 @@ fn two_clients(rt: &impl Abort, alloc: Global, scene: &Scene) -> Vec<Vec<u8>> {
     vec![in alloc; third, second].expect(rt, "memory")
 }
 
-// A server of one session, several times, to which these clients come: its answer, and the log at the end.
+// A server of one session, several times, to which these clients come: its answer, and the log at
+// the end.
 fn serves<R: Threads + Wait + Sync + Abort>(
     rt: &R,
     alloc: Global,
@@ -317,7 +321,8 @@ fn a_server_serves_several_times(rt: HostRuntime) {
     unsaved_stays(&rt, rt.alloc(), &scene);
 }
 
-// A server's place of two documents, of which the one has a log of one entry and a tail with the next, the other this tail.
+// A server's place of two documents, of which the one has a log of one entry and a tail with the
+// next, the other this tail.
 fn place_of_two(rt: &impl Abort, alloc: Global, scene: &Scene, tail: &[u8], other: &[u8]) -> Place {
     let log = scene.log(rt, alloc, 1);
     let mut files = of_server(rt, alloc, &scene.cast, log.as_slice());
@@ -328,7 +333,8 @@ fn place_of_two(rt: &impl Abort, alloc: Global, scene: &Scene, tail: &[u8], othe
     Place::new(rt, alloc, files)
 }
 
-// Servers of both, to which two clients come that send nothing; the tail of the other document; and how they end.
+// Servers of both, to which two clients come that send nothing; the tail of the other document; and
+// how they end.
 const OF_TWO: [(&str, &[u8], u8, &[u8]); 3] = [
     (
         "serve-all a --sessions 2 D E",

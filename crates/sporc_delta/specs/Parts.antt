@@ -1,13 +1,16 @@
 -- The parts of a delta: its runs of equal marks.
-use Rattle.std.specs.Prelude.{◌≡◌, ℕ, suc, ◌≤◌, ◌<◌, Bool, true, false, Option, Some, slice_get, ◌-◌, List, [], ◌∷◌, ◌++◌, length, ⊤}
+use Rattle.std.specs.Prelude.{◌≡◌, ℕ, suc, ◌≤◌, ◌<◌, Bool, true, false, Option, Some, slice_get}
+use Rattle.std.specs.Prelude.{◌-◌, List, [], ◌∷◌, ◌++◌, length, ⊤}
 use Rattle.sporc_delta.specs.declared.limits.TheConstants.{MAX_TEXT_LEN}
 use Rattle.sporc_delta.specs.declared.part.Kind.{Kind}
 use Rattle.sporc_delta.specs.declared.part.Kind.TheVariants as kinds
 use Rattle.sporc_delta.specs.declared.part.Part.{Part}
-use Rattle.sporc_delta.specs.declared.part.Part.TheVariants.{Keep as KeepRun, Insert as InsertText, Remove as RemoveRun}
+use Rattle.sporc_delta.specs.declared.part.Part.TheVariants.{Keep as KeepRun, Insert as InsertText}
+use Rattle.sporc_delta.specs.declared.part.Part.TheVariants.{Remove as RemoveRun}
 use Rattle.sporc_delta.specs.declared.part.Piece.{Piece}
 use Rattle.sporc_delta.specs.declared.part.Piece.TheVariants as pieces
-use Rattle.sporc_delta.specs.Marks.{Mark, Keep, Remove, Insert, base_len, out_len, keep_marks, remove_marks, insert_marks}
+use Rattle.sporc_delta.specs.Marks.{Mark, Keep, Remove, Insert, base_len, out_len, keep_marks}
+use Rattle.sporc_delta.specs.Marks.{remove_marks, insert_marks}
 
 -- the marks of one part, and of all parts in order
 abbrev pub part_marks : Part → List Mark
@@ -28,7 +31,8 @@ with_mark Remove ps = RemoveRun 1 ∷ ps
 with_mark (Insert c) (InsertText text ∷ ps) = InsertText (c ∷ text) ∷ ps
 with_mark (Insert c) ps = InsertText (c ∷ []) ∷ ps
 
--- the runs of equal marks: the one list of parts with these marks in which no part is empty and no two neighbours are of one kind
+-- the runs of equal marks: the one list of parts with these marks in which no part is empty and no
+-- two neighbours are of one kind
 abbrev pub runs : List Mark → List Part
 runs [] = []
 runs (m ∷ ms) = with_mark m (runs ms)
@@ -67,7 +71,8 @@ abbrev pub AreRuns : List Part → Type 0
 AreRuns [] = ⊤
 AreRuns (p ∷ ps) = (0 < part_len p) × BeginsUnlike p ps × AreRuns ps
 
--- what holds of a delta at every moment: its parts are runs, and their lengths are these, which are small
+-- what holds of a delta at every moment: its parts are runs, and their lengths are these, which are
+-- small
 pub record DeltaInvariant (parts : List Part) (base out : ℕ) : Type 0 where
   pub are_runs : AreRuns parts
   pub base_is : base ≡ base_len (marks_of parts)

@@ -1,5 +1,7 @@
 -- Reading the bytes of a delta from left to right, up to the first fault.
-use Rattle.std.specs.Prelude.{ℕ, zero, suc, Bool, true, false, ◌||◌, List, [], ◌∷◌, length, drop, slice_index, Option, Some, None, Result, Ok, Err, nat_lt, ◌==◌, if◌then◌else◌}
+use Rattle.std.specs.Prelude.{ℕ, zero, suc, Bool, true, false, ◌||◌, List, [], ◌∷◌, length, drop}
+use Rattle.std.specs.Prelude.{slice_index, Option, Some, None, Result, Ok, Err, nat_lt, ◌==◌}
+use Rattle.std.specs.Prelude.{if◌then◌else◌}
 use Rattle.std.specs.Int.{w64, from_be_bytes}
 use Rattle.std.specs.Str.{chars, is_utf8}
 use Rattle.sporc_bytes.specs.Fields.{Reading, ◌>>=◌, fault_as, bytes_at}
@@ -20,7 +22,10 @@ piece_at n r = fault_as (λ _. faults.Short) (bytes_at n r)
 
 -- the kind that a byte stands for
 abbrev pub kind_at : ℕ → Result Kind DeltaFault
-kind_at byte = if byte == KEEP then Ok kinds.Keep else (if byte == INSERT then Ok kinds.Insert else (if byte == REMOVE then Ok kinds.Remove else Err faults.BadKind))
+kind_at byte =
+    if byte == KEEP then Ok kinds.Keep
+    else (if byte == INSERT then Ok kinds.Insert
+    else (if byte == REMOVE then Ok kinds.Remove else Err faults.BadKind))
 
 -- a count that is allowed
 abbrev pub count_at : ℕ → Result ℕ DeltaFault
@@ -61,7 +66,10 @@ part_at before r = do
 -- the parts to the end, of which there are at most n
 unfoldable pub parts_at : ℕ → Option Kind → Reading → Result (List Part) DeltaFault
 parts_at zero before r = if length r.rest == 0 then Ok [] else Err faults.Short
-parts_at (suc n) before r = if length r.rest == 0 then Ok [] else (part_at before r >>= λ first. parts_at n (Some (kind_of first.0)) first.1 >>= λ others. Ok (first.0 ∷ others))
+parts_at (suc n) before r =
+    if length r.rest == 0 then Ok []
+    else (part_at before r
+    >>= λ first. parts_at n (Some (kind_of first.0)) first.1 >>= λ others. Ok (first.0 ∷ others))
 
 -- the delta that the bytes spell, or the first fault: there are no more parts than bytes
 unfoldable pub read_delta : List ℕ → Result (List Mark) DeltaFault

@@ -1,4 +1,5 @@
--- What a delta keeps before its first change and behind its last one, and a delta with another count there.
+-- What a delta keeps before its first change and behind its last one, and a delta with another
+-- count there.
 use Rattle.std.specs.Prelude.{◌≡◌, ℕ, ◌-◌, ◌≤◌, ◌<◌, List, ◌++◌, drop, length, slice_get, take}
 use Rattle.sporc_delta.specs.declared.limits.TheConstants.{MAX_TEXT_LEN}
 use Rattle.sporc_delta.specs.declared.part.Part.{Part}

@@ -3,8 +3,9 @@ use Rattle.std.specs.Prelude.{ℕ, List, [], ◌∷◌}
 use Rattle.std.specs.List.{flat_map}
 use Rattle.sporc_delta.specs.Marks.{Mark, Keep, Remove, Insert}
 
--- One step of two deltas over one text, taken side by side: an insertion of the one that is ordered earlier, an insertion
--- of the one that is ordered later, or their marks of one character of the text
+-- One step of two deltas over one text, taken side by side: an insertion of the one that is ordered
+-- earlier, an insertion of the one that is ordered later, or their marks of one character of the
+-- text
 pub data Step : Type 0 where
   Earlier : ℕ → Step
   Later : ℕ → Step
@@ -17,14 +18,16 @@ last_steps (Insert c ∷ q) = Later c ∷ last_steps q
 last_steps (Keep ∷ q) = []
 last_steps (Remove ∷ q) = []
 
--- the later delta's insertions up to its mark of the next character, that mark beside the earlier one's m, and then the rest
+-- the later delta's insertions up to its mark of the next character, that mark beside the earlier
+-- one's m, and then the rest
 abbrev pub steps_to : Mark → (List Mark → List Step) → List Mark → List Step
 steps_to m rest [] = []
 steps_to m rest (Insert c ∷ q) = Later c ∷ steps_to m rest q
 steps_to m rest (Keep ∷ q) = Both m Keep ∷ rest q
 steps_to m rest (Remove ∷ q) = Both m Remove ∷ rest q
 
--- The steps of p and q over one text, p ordered earlier: an insertion of p, else one of q, else both marks of a character
+-- The steps of p and q over one text, p ordered earlier: an insertion of p, else one of q, else
+-- both marks of a character
 abbrev pub steps : List Mark → List Mark → List Step
 steps [] q = last_steps q
 steps (Insert c ∷ p) q = Earlier c ∷ steps p q
@@ -72,7 +75,8 @@ after_insertions rest (Insert c ∷ q) = Insert c ∷ after_insertions rest q
 after_insertions rest (Keep ∷ q) = rest (Keep ∷ q)
 after_insertions rest (Remove ∷ q) = rest (Remove ∷ q)
 
--- the second delta's mark of a character that the first one leaves by its mark m, in one mark or none, and then the rest
+-- the second delta's mark of a character that the first one leaves by its mark m, in one mark or
+-- none, and then the rest
 abbrev pub through : Mark → (List Mark → List Mark) → List Mark → List Mark
 through m rest [] = []
 through m rest (Insert c ∷ q) = []
@@ -81,8 +85,8 @@ through (Insert c) rest (Remove ∷ q) = rest q
 through Keep rest (Remove ∷ q) = Remove ∷ rest q
 through Remove rest (Remove ∷ q) = Remove ∷ rest q
 
--- p and then q in one delta, q stated on the text after p: an insertion of q, else a removal of p, else both marks of a
--- character of the text between them
+-- p and then q in one delta, q stated on the text after p: an insertion of q, else a removal of p,
+-- else both marks of a character of the text between them
 abbrev pub compose : List Mark → List Mark → List Mark
 compose [] q = after_insertions (λ _. []) q
 compose (Remove ∷ p) q = after_insertions (λ r. Remove ∷ compose p r) q

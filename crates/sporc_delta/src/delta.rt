@@ -1,11 +1,14 @@
 //! Deltas.
 
-ghost use Rattle.std.specs.Prelude.{◌≡◌, ◌≢◌, ◌+◌, ◌≤◌, ◌++◌, ◌↔◌, [], length, IsTrue, Ok, Err, IfOk, IfErr, OnOk, OnErr};
+ghost use Rattle.std.specs.Prelude.{◌≡◌, ◌≢◌, ◌+◌, ◌≤◌, ◌++◌, ◌↔◌, [], length, IsTrue, Ok, Err};
+ghost use Rattle.std.specs.Prelude.{IfOk, IfErr, OnOk, OnErr};
 ghost use Rattle.std.specs.Str.{chars};
-ghost use Rattle.sporc_delta.specs.declared.limits.TheConstants.{MAX_COUNT, MAX_DELTA_BYTES, MAX_TEXT_LEN};
+ghost use Rattle.sporc_delta.specs.declared.limits.TheConstants.{MAX_COUNT, MAX_DELTA_BYTES};
+ghost use Rattle.sporc_delta.specs.declared.limits.TheConstants.{MAX_TEXT_LEN};
 ghost use Rattle.sporc_delta.specs.declared.fault.DeltaFault.TheVariants as faults;
 ghost use Rattle.sporc_delta.specs.Format.{delta_bytes};
-ghost use Rattle.sporc_delta.specs.Marks.{base_len, out_len, keep_marks, remove_marks, insert_marks, insertion, removal, replacement};
+ghost use Rattle.sporc_delta.specs.Marks.{base_len, out_len, keep_marks, remove_marks};
+ghost use Rattle.sporc_delta.specs.Marks.{insert_marks, insertion, removal, replacement};
 ghost use Rattle.sporc_delta.specs.Parts.{AreRuns, marks_of, owned, part_marks, runs};
 ghost use Rattle.sporc_delta.specs.Same.{same_delta};
 ghost use Rattle.sporc_delta.specs.Shifts.{CanShift, kept_first, kept_last, shifted};
@@ -221,8 +224,10 @@ impl Delta {
     /// Appends a part.
     #[tactic(auto, using(crate::proofs::Lengths::lengths))]
     pub fn push(&mut self, piece: &Piece<'_>) -> Result<(), Memory>
-        requires base_limit { base_len self.old + base_len (part_marks (owned piece.now)) ≤ MAX_TEXT_LEN }
-        requires out_limit { out_len self.old + out_len (part_marks (owned piece.now)) ≤ MAX_TEXT_LEN }
+        requires base_limit { base_len self.old + base_len (part_marks (owned piece.now))
+            ≤ MAX_TEXT_LEN }
+        requires out_limit { out_len self.old + out_len (part_marks (owned piece.now))
+            ≤ MAX_TEXT_LEN }
         ensures ok { OnOk result (self.new ≡ self.old ++ part_marks (owned piece.now)) }
         ensures memory { OnErr result (self.new ≡ self.old) }
     {

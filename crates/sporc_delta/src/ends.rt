@@ -1,8 +1,10 @@
 //! Lists of parts that grow at the end, where a part joins the last one of its kind.
 
 ghost use Rattle.std.specs.Prelude.{◌≡◌, true, ◌+◌, ◌<◌, ◌^◌, length, OnOk, OnErr};
-ghost use Rattle.sporc_delta.specs.Marks.{base_len, out_len, keep_marks, remove_marks, insert_marks};
-ghost use Rattle.sporc_delta.specs.Parts.{Appends, marks_of, kept_at_end, removed_at_end, text_at_end};
+ghost use Rattle.sporc_delta.specs.Marks.{base_len, out_len, keep_marks, remove_marks};
+ghost use Rattle.sporc_delta.specs.Marks.{insert_marks};
+ghost use Rattle.sporc_delta.specs.Parts.{Appends, marks_of, kept_at_end, removed_at_end};
+ghost use Rattle.sporc_delta.specs.Parts.{text_at_end};
 
 use crate::{Part, Text, TextSlice};
 use sporc_base::Memory;

@@ -3,16 +3,19 @@
 ghost use Rattle.std.specs.Prelude.{◌≡◌, ◌^◌, ℕ, List, Ok};
 ghost use Rattle.sporc_base.specs.Bytes.{IsBytes};
 ghost use Rattle.sporc_delta.specs.Format.{Spells, kind_byte};
-ghost use Rattle.sporc_delta.specs.declared.limits.TheConstants.{MAX_COUNT, MAX_DELTA_BYTES, MAX_TEXT_LEN};
+ghost use Rattle.sporc_delta.specs.declared.limits.TheConstants.{MAX_COUNT, MAX_DELTA_BYTES};
+ghost use Rattle.sporc_delta.specs.declared.limits.TheConstants.{MAX_TEXT_LEN};
 ghost use Rattle.sporc_delta.specs.declared.part.Kind.TheVariants as kinds;
 ghost use Rattle.sporc_delta.specs.Marks.{Mark};
 ghost use Rattle.sporc_delta.specs.Parts.{AreRuns, marks_of, runs};
 ghost use Rattle.sporc_delta.specs.declared.part.Part.{Part};
 ghost use Rattle.sporc_delta.specs.Reading.{read_delta};
 
-/// What is read is spelled so, each byte of it, and what is spelled so is read: a delta has one spelling.
+/// What is read is spelled so, each byte of it, and what is spelled so is read: a delta has one
+/// spelling.
 pub fn reading_undoes_spelling()
-    ensures spelled { (bytes : List ℕ) (ms : List Mark) → IsBytes bytes → read_delta bytes ≡ Ok ms → Spells ms bytes }
+    ensures spelled { (bytes : List ℕ) (ms : List Mark) → IsBytes bytes → read_delta bytes ≡ Ok ms
+        → Spells ms bytes }
     ensures read { (bytes : List ℕ) (ms : List Mark) → Spells ms bytes → read_delta bytes ≡ Ok ms }
 {}
 

@@ -7,7 +7,8 @@ use Rattle.sporc_serve.specs.declared.desk.Desk.{Desk}
 use Rattle.sporc_serve.specs.declared.fault.ServeFault.{ServeFault}
 use Rattle.sporc_serve.specs.declared.fault.ServeFault.TheVariants.{Unkept}
 use Rattle.sporc_serve.specs.declared.item.Item.{Item}
-use Rattle.sporc_serve.specs.Visits.{Visit, CameOpen, came, handed_back, AreFrom, AreBehind, NoneUnkept, TellsOf}
+use Rattle.sporc_serve.specs.Visits.{Visit, CameOpen, came, handed_back, AreFrom, AreBehind}
+use Rattle.sporc_serve.specs.Visits.{NoneUnkept, TellsOf}
 use Rattle.sporc_docs.specs.declared.hands.Hand.{Hand}
 use Rattle.sporc_docs.specs.Hands.{HavePasses}
 use Rattle.sporc_docs.specs.Sessions.{Sits}
@@ -20,11 +21,12 @@ module _ {T : Type 0} {tail : Ghosts T} (turns : List (Turn (Desk T tail) Item))
   AllSit (v ∷ vs) [] hs' = ⊥
   AllSit (v ∷ vs) (h ∷ hs) [] = ⊥
   AllSit (v ∷ vs) (h ∷ hs) (h' ∷ hs') =
-      HavePasses turns h.passes.items × HavePasses turns h'.passes.items × Sits documents v h.passes.items h'.passes.items
-      × AllSit vs hs hs'
+      HavePasses turns h.passes.items × HavePasses turns h'.passes.items
+      × Sits documents v h.passes.items h'.passes.items × AllSit vs hs hs'
 
   -- the sessions that were served with these hands
-  pub record Crowd (hands hands' : List Hand) (old new : NetTold) (result : Result (Unit {0}) ServeFault) (visits : List Visit) : Type 0 where
+  pub record Crowd (hands hands' : List Hand) (old new : NetTold)
+      (result : Result (Unit {0}) ServeFault) (visits : List Visit) : Type 0 where
     pub sit : AllSit visits hands hands'
     pub came_open : CameOpen visits
     pub coming : AreFrom old.coming new.coming (came visits)
@@ -32,5 +34,7 @@ module _ {T : Type 0} {tail : Ghosts T} (turns : List (Turn (Desk T tail) Item))
     pub result_is : TellsOf (length hands) old.faults new.faults visits result
     pub kept : result ≢ Err Unkept → NoneUnkept visits
 
-  abbrev pub IsCrowd : List Hand → List Hand → NetTold → NetTold → Result (Unit {0}) ServeFault → Type 0
-  IsCrowd hands hands' old new result = (visits : List Visit) × Crowd hands hands' old new result visits
+  abbrev pub IsCrowd : List Hand → List Hand → NetTold → NetTold
+      → Result (Unit {0}) ServeFault → Type 0
+  IsCrowd hands hands' old new result =
+      (visits : List Visit) × Crowd hands hands' old new result visits

@@ -1,5 +1,6 @@
 -- Hands of passes, one for each of many locks, and how they are joined back.
-use Rattle.std.specs.Prelude.{◌≡◌, ◌≢◌, ◌+◌, ◌^◌, ◌<◌, ◌∷◌, ℕ, zero, suc, max, List, [], map, Option, Some, None}
+use Rattle.std.specs.Prelude.{◌≡◌, ◌≢◌, ◌+◌, ◌^◌, ◌<◌, ◌∷◌, ℕ, zero, suc, max, List, [], map}
+use Rattle.std.specs.Prelude.{Option, Some, None}
 use Rattle.sporc_turn.specs.declared.known.Known.{Known}
 use Rattle.sporc_turn.specs.declared.pass.Pass.{Pass}
 use Rattle.sporc_turn.specs.declared.turn.Turn.{Turn}
@@ -21,26 +22,31 @@ Both holds (x ∷ xs) [] = ⊥
 Both holds (x ∷ xs) (y ∷ ys) = holds x y × Both holds xs ys
 
 -- the pass of this lock with number 0
-abbrev pub HasFirst : {T : Type 0} {tail : Ghosts T} → Turn (Desk T tail) Item → Option (Pass Item) → Type 0
+abbrev pub HasFirst : {T : Type 0} {tail : Ghosts T} → Turn (Desk T tail) Item
+    → Option (Pass Item) → Type 0
 HasFirst turn None = ⊥
 HasFirst turn (Some p) = IsPassOf turn p × ((known_of p).number ≡ 0)
 
 -- a pass of this lock with another number
-abbrev pub HasPass : {T : Type 0} {tail : Ghosts T} → Turn (Desk T tail) Item → Option (Pass Item) → Type 0
+abbrev pub HasPass : {T : Type 0} {tail : Ghosts T} → Turn (Desk T tail) Item
+    → Option (Pass Item) → Type 0
 HasPass turn None = ⊥
 HasPass turn (Some p) = IsPassOf turn p × ((known_of p).number ≢ 0)
 
 -- a pass of this lock with another number, or none
-abbrev pub MayHave : {T : Type 0} {tail : Ghosts T} → Turn (Desk T tail) Item → Option (Pass Item) → Type 0
+abbrev pub MayHave : {T : Type 0} {tail : Ghosts T} → Turn (Desk T tail) Item
+    → Option (Pass Item) → Type 0
 MayHave turn None = Unit {0}
 MayHave turn (Some p) = IsPassOf turn p × ((known_of p).number ≢ 0)
 
 -- no pass of this lock
-abbrev pub IsEmpty : {T : Type 0} {tail : Ghosts T} → Turn (Desk T tail) Item → Option (Pass Item) → Type 0
+abbrev pub IsEmpty : {T : Type 0} {tail : Ghosts T} → Turn (Desk T tail) Item
+    → Option (Pass Item) → Type 0
 IsEmpty turn place = place ≡ None
 
 -- a pass with another number of each of these locks, in their order
-abbrev pub HavePasses : {T : Type 0} {tail : Ghosts T} → List (Turn (Desk T tail) Item) → List (Option (Pass Item)) → Type 0
+abbrev pub HavePasses : {T : Type 0} {tail : Ghosts T} → List (Turn (Desk T tail) Item)
+    → List (Option (Pass Item)) → Type 0
 HavePasses turns hand = Both HasPass turns hand
 
 -- the pass of a hand at a place, if it has one
@@ -100,4 +106,5 @@ AllHands holds (h ∷ hs) = holds h.passes.items × AllHands holds hs
 
 -- the log that each pass of a hand knows begins with a document
 abbrev pub LogsBegin : List (Option (Pass Item)) → Type 0
-LogsBegin ps = (i : ℕ) (p : Pass Item) → pass_at i ps ≡ Some p → (genesis : Genesis) × IsLogOf genesis (known_of p).seen
+LogsBegin ps = (i : ℕ) (p : Pass Item) → pass_at i ps ≡ Some p
+    → (genesis : Genesis) × IsLogOf genesis (known_of p).seen

@@ -1,5 +1,6 @@
 -- Orders under locks of their own, for inner contracts.
-use Rattle.std.specs.Prelude.{◌≡◌, ◌≢◌, ℕ, List, [], ◌∷◌, map, reverse, Option, Some, None, Result, Err}
+use Rattle.std.specs.Prelude.{◌≡◌, ◌≢◌, ℕ, List, [], ◌∷◌, map, reverse, Option, Some, None, Result}
+use Rattle.std.specs.Prelude.{Err}
 use Rattle.sporc_outside.specs.Nets.{NetTold}
 use Rattle.sporc_turn.specs.Knowing.{first_known}
 use Rattle.sporc_turn.specs.Log.{Agrees}
@@ -11,7 +12,8 @@ use Rattle.sporc_order.specs.declared.tail.Tail.{Ghosts}
 use Rattle.sporc_serve.specs.declared.item.Item.{Item}
 use Rattle.sporc_serve.specs.Logs.{by_of, order_at, IsLogOf}
 use Rattle.sporc_serve.specs.Served.{log_at_first}
-use Rattle.sporc_serve.specs.Visits.{CameOpen, came, handed_back, AreFrom, AreBehind, NoneUnkept, TellsOf}
+use Rattle.sporc_serve.specs.Visits.{CameOpen, came, handed_back, AreFrom, AreBehind, NoneUnkept}
+use Rattle.sporc_serve.specs.Visits.{TellsOf}
 use Rattle.sporc_serve.specs.declared.fault.ServeFault.{ServeFault}
 use Rattle.sporc_serve.specs.declared.fault.ServeFault.TheVariants.{Unkept}
 use Rattle.sporc_docs.specs.declared.locks.Locks.{Locks}
@@ -24,7 +26,8 @@ KnowsFirst o None = ⊥
 KnowsFirst o (Some p) = known_of p ≡ first_known (log_at_first o)
 
 -- locks round these orders, in their order
-pub record AreOpen {T : Type 0} {tail : Ghosts T} (orders : List OrderModel) (locks : Locks T tail) : Type 0 where
+pub record AreOpen {T : Type 0} {tail : Ghosts T} (orders : List OrderModel)
+    (locks : Locks T tail) : Type 0 where
   pub firsts : Both HasFirst locks.turns.items locks.firsts.items
   pub documents_are : locks.documents.items ≡ map (λ o. o.genesis.document) orders
   pub known : Both KnowsFirst orders locks.firsts.items
@@ -41,17 +44,19 @@ AreBack (p ∷ ps) = IsBack p × AreBack ps
 -- the order under a lock that is closed with number 0: that of all that number 0 has seen
 abbrev pub Closes : Option (Pass Item) → OrderModel → Type 0
 Closes None o = ⊥
-Closes (Some p) o =
-    Agrees by_of (known_of p) (known_of p).seen × ((genesis : Genesis) → IsLogOf genesis (known_of p).seen → o ≡ order_at genesis (known_of p).seen)
+Closes (Some p) o = Agrees by_of (known_of p) (known_of p).seen × ((genesis : Genesis)
+    → IsLogOf genesis (known_of p).seen → o ≡ order_at genesis (known_of p).seen)
 
 -- number 0 of the lock round an order, once these sessions have ended
 abbrev pub Ends : List Session → OrderModel → Option (Pass Item)
     → Type 0
 Ends sessions o p = (o' : OrderModel) → Closes p o' → IsServedDocument sessions o o'
 
--- number 0 of the locks round these orders, the last order's first, once so many sessions at a net have ended
+-- number 0 of the locks round these orders, the last order's first, once so many sessions at a net
+-- have ended
 pub record Ending (orders : List OrderModel)
-    (firsts : List (Option (Pass Item))) (old new : NetTold) (count : ℕ) (result : Result (Unit {0}) ServeFault) (sessions : List Session) : Type 0 where
+    (firsts : List (Option (Pass Item))) (old new : NetTold) (count : ℕ)
+    (result : Result (Unit {0}) ServeFault) (sessions : List Session) : Type 0 where
   pub bound : AreBound orders sessions
   pub back : AreBack firsts
   pub ends : Both (Ends sessions) (reverse orders) firsts

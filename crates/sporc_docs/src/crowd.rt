@@ -20,8 +20,8 @@ use std::alloc::Global;
 use std::sync::Wait;
 use std::thread::{Threads, join_mut};
 
-// Takes a link for each of these hands, and serves it with its passes: in this thread, while a new one takes the links behind
-// it; where none can be made, this one takes them after its session.
+// Takes a link for each of these hands, and serves it with its passes: in this thread, while a new
+// one takes the links behind it; where none can be made, this one takes them after its session.
 pub(crate) fn crowd<R: Threads + Wait + Sync, N: Listen, G: Gate + Sync, T: Tail + Send>(
     rt: &R,
     alloc: Global,
@@ -38,7 +38,8 @@ where
     requires one_length { length documents.now ≡ length turns.now }
     ensures locks { AllHands (HavePasses turns.now) hands.new }
     ensures crowd { AllHands LogsBegin hands.old
-        → IsCrowd turns.now documents.now hands.old hands.new (N.told net.old) (N.told net.new) result }
+        → IsCrowd turns.now documents.now hands.old hands.new (N.told net.old)
+        (N.told net.new) result }
     ensures shut { AreShutBehind (N.told net.old).returned (N.told net.new).returned }
     ensures asked { (N.told net.new).asked ≡ (N.told net.old).asked }
     ensures links_out { (N.told net.new).out ≡ (N.told net.old).out }
@@ -55,21 +56,28 @@ where
         rt,
         &mut || -> Result<(), ServeFault>
             requires { IsSync R.row × IsSync G.row × IsSend N.row × IsSend N.Link.row × IsSend T.row
-                × AllHands (HavePasses turns.now) others.now × (length documents.now ≡ length turns.now) }
+                × AllHands (HavePasses turns.now) others.now
+                × (length documents.now ≡ length turns.now) }
             ensures { AllHands (HavePasses turns.entry.now) others.exit.now
                 × (AllHands LogsBegin others.entry.now
                 → IsCrowd turns.entry.now documents.entry.now others.entry.now others.exit.now
                 (N.told net.entry.now) (N.told net.exit.now) result)
-                × AreShutBehind (N.told net.entry.now).returned (N.told net.exit.now).returned × ((N.told net.exit.now).asked ≡ (N.told net.entry.now).asked)
-                × ((N.told net.exit.now).out ≡ (N.told net.entry.now).out) × ((N.told net.entry.now).faults ≤ (N.told net.exit.now).faults)
+                × AreShutBehind (N.told net.entry.now).returned (N.told net.exit.now).returned
+                × ((N.told net.exit.now).asked ≡ (N.told net.entry.now).asked)
+                × ((N.told net.exit.now).out ≡ (N.told net.entry.now).out)
+                × ((N.told net.entry.now).faults ≤ (N.told net.exit.now).faults)
                 × (result ≡ Err ServeFault.Unkept → T.may_fail) }
         { crowd(rt, alloc, net, turns, documents, gate, others) },
         &mut || -> SessionEnd
-            requires { IsSync R.row × IsSync G.row × IsSend T.row × HavePasses turns.now hand.now.passes.items × (length documents.now ≡ length turns.now) }
+            requires { IsSync R.row × IsSync G.row × IsSend T.row
+                × HavePasses turns.now hand.now.passes.items
+                × (length documents.now ≡ length turns.now) }
             ensures { HavePasses turns.entry.now hand.exit.now.passes.items
-                × Sits documents.entry.now (visit (N.Link.told link.entry) (N.Link.told link.exit) result)
+                × Sits documents.entry.now
+                (visit (N.Link.told link.entry) (N.Link.told link.exit) result)
                 hand.entry.now.passes.items hand.exit.now.passes.items
-                × IsTrueIfTold (N.Link.told link.exit).is_shut × (result ≡ SessionEnd.Unkept → T.may_fail) }
+                × IsTrueIfTold (N.Link.told link.exit).is_shut
+                × (result ≡ SessionEnd.Unkept → T.may_fail) }
         { serve_hand(rt, alloc, turns, documents, gate, &mut link, hand) },
     );
     net.take_back(link);
@@ -95,7 +103,8 @@ where
     requires one_length { length documents.now ≡ length turns.now }
     ensures hands { AllHands (Both MayHave turns.now) hands.new }
     ensures crowd { AllHands LogsBegin hands.old
-        → IsCrowd turns.now documents.now hands.old hands.new (N.told net.old) (N.told net.new) result }
+        → IsCrowd turns.now documents.now hands.old hands.new (N.told net.old)
+        (N.told net.new) result }
     ensures shut { AreShutBehind (N.told net.old).returned (N.told net.new).returned }
     ensures asked { (N.told net.new).asked ≡ (N.told net.old).asked }
     ensures links_out { (N.told net.new).out ≡ (N.told net.old).out }

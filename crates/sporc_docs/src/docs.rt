@@ -1,6 +1,7 @@
 //! The orders of many documents.
 
-ghost use Rattle.std.specs.Prelude.{◌≡◌, ◌≢◌, ◌≤◌, ◌<◌, ◌∷◌, ◌++◌, [], length, None, Err, IfErr, OnOk, OnErr};
+ghost use Rattle.std.specs.Prelude.{◌≡◌, ◌≢◌, ◌≤◌, ◌<◌, ◌∷◌, ◌++◌, [], length, None, Err, IfErr};
+ghost use Rattle.std.specs.Prelude.{OnOk, OnErr};
 ghost use Rattle.sporc_docs.specs.Lists.{place_of, route_of, AreApart};
 ghost use Rattle.sporc_wire.specs.declared.limits.TheConstants.{MAX_DOCUMENTS};
 
@@ -61,10 +62,16 @@ impl Docs {
     /// Adds the order of a document, unless one of it is held already, or as many as may be.
     pub fn add(&mut self, order: Order) -> Result<(), (DocsFault, Order)>
         ensures ok { OnOk result (self.new ≡ self.old ++ order ∷ []) }
-        ensures new { OnOk result ((place_of self.old order.genesis.document ≡ None) × (length self.old < MAX_DOCUMENTS)) }
-        ensures exists { IfErr result (λ e. e.0 ≡ DocsFault.Exists → place_of self.old order.genesis.document ≢ None) }
-        ensures full { IfErr result (λ e. e.0 ≡ DocsFault.Full → (place_of self.old order.genesis.document ≡ None) × (length self.old ≡ MAX_DOCUMENTS)) }
-        ensures memory { IfErr result (λ e. e.0 ≡ DocsFault.Memory → (place_of self.old order.genesis.document ≡ None) × (length self.old < MAX_DOCUMENTS)) }
+        ensures new { OnOk result ((place_of self.old order.genesis.document ≡ None)
+            × (length self.old < MAX_DOCUMENTS)) }
+        ensures exists { IfErr result
+            (λ e. e.0 ≡ DocsFault.Exists → place_of self.old order.genesis.document ≢ None) }
+        ensures full { IfErr result
+            (λ e. e.0 ≡ DocsFault.Full → (place_of self.old order.genesis.document ≡ None)
+            × (length self.old ≡ MAX_DOCUMENTS)) }
+        ensures memory { IfErr result
+            (λ e. e.0 ≡ DocsFault.Memory → (place_of self.old order.genesis.document ≡ None)
+            × (length self.old < MAX_DOCUMENTS)) }
         ensures unchanged { OnErr result (self.new ≡ self.old) }
         ensures returned { IfErr result (λ e. e.1 ≡ order) }
     {
@@ -80,8 +87,8 @@ impl Docs {
         }
     }
 
-    /// The place of the document that a Hello names, from 0 on in the order added. None exactly if the message is no Hello, or
-    /// the document isn't held.
+    /// The place of the document that a Hello names, from 0 on in the order added. None exactly if
+    /// the message is no Hello, or the document isn't held.
     pub fn route(&self, message: &ToServer) -> Option<u32>
         ensures value { result ≡ route_of self.now message.now }
     {

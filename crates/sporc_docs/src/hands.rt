@@ -2,7 +2,9 @@
 
 ghost use Rattle.std.specs.Prelude.{◌≡◌, ◌∷◌, ℕ, [], None, length, replicate, IfOk, OnOk};
 ghost use Rattle.sporc_turn.specs.declared.pass.Pass.{Pass};
-ghost use Rattle.sporc_docs.specs.Hands.{AllHands, Both, HasFirst, HasPass, HasRoom, HavePasses, HaveRoom, IsEmpty, JoinsAt, MayHave, SplitsAt, column, pass_at};
+ghost use Rattle.sporc_docs.specs.Hands.{AllHands, Both, HasFirst, HasPass, HasRoom, HavePasses};
+ghost use Rattle.sporc_docs.specs.Hands.{HaveRoom, IsEmpty, JoinsAt, MayHave, SplitsAt, column};
+ghost use Rattle.sporc_docs.specs.Hands.{pass_at};
 
 use sporc_base::Memory;
 use sporc_order::Tail;
@@ -40,7 +42,8 @@ impl Hand {
         ensures firsts { Both HasFirst turns.now firsts.new }
         ensures hand { Both MayHave turns.now self.new.passes.items }
         ensures ok { OnOk result (HavePasses turns.now self.new.passes.items) }
-        ensures splits { (i : ℕ) → SplitsAt (pass_at i firsts.old) (pass_at i self.new.passes.items ∷ []) (pass_at i firsts.new) }
+        ensures splits { (i : ℕ) → SplitsAt (pass_at i firsts.old)
+            (pass_at i self.new.passes.items ∷ []) (pass_at i firsts.new) }
     {
         split_each(turns, firsts, &mut self.passes)
     }
@@ -50,7 +53,8 @@ impl Hand {
         requires firsts { Both HasFirst turns.now firsts.old }
         requires hand { Both MayHave turns.now self.old.passes.items }
         ensures firsts { Both HasFirst turns.now firsts.new }
-        ensures joins { (i : ℕ) → JoinsAt (pass_at i firsts.old) (pass_at i self.old.passes.items ∷ []) (pass_at i firsts.new) }
+        ensures joins { (i : ℕ) → JoinsAt (pass_at i firsts.old)
+            (pass_at i self.old.passes.items ∷ []) (pass_at i firsts.new) }
     {
         join_each(turns, firsts, &mut self.passes);
     }
@@ -59,7 +63,8 @@ impl Hand {
 // So many hands without a pass, with places for so many locks.
 pub(crate) fn empty_hands(alloc: Global, sessions: u32, len: usize) -> Result<Vec<Hand>, Memory>
     ensures len { IfOk result (λ hands. length hands.items ≡ sessions) }
-    ensures empty { IfOk result (λ hands. AllHands (λ passes. passes ≡ replicate len None) hands.items) }
+    ensures empty { IfOk result
+        (λ hands. AllHands (λ passes. passes ≡ replicate len None) hands.items) }
 {
     let mut hands = Vec::with_capacity(alloc, sessions as usize)?;
     for _ in 0..sessions {
@@ -109,7 +114,8 @@ fn split_each<T: Tail>(
     ensures firsts { Both HasFirst turns.now firsts.new }
     ensures hand { Both MayHave turns.now hand.new }
     ensures ok { OnOk result (HavePasses turns.now hand.new) }
-    ensures splits { (i : ℕ) → SplitsAt (pass_at i firsts.old) (pass_at i hand.new ∷ []) (pass_at i firsts.new) }
+    ensures splits { (i : ℕ)
+        → SplitsAt (pass_at i firsts.old) (pass_at i hand.new ∷ []) (pass_at i firsts.new) }
 {
     let Some((turn, turns)) = turns.split_first() else {
         return Ok(());
@@ -137,7 +143,8 @@ pub(crate) fn split_hands<T: Tail>(
     ensures firsts { Both HasFirst turns.now firsts.new }
     ensures hands { AllHands (Both MayHave turns.now) hands.new }
     ensures ok { OnOk result (AllHands (HavePasses turns.now) hands.new) }
-    ensures splits { (i : ℕ) → SplitsAt (pass_at i firsts.old) (column i hands.new) (pass_at i firsts.new) }
+    ensures splits { (i : ℕ)
+        → SplitsAt (pass_at i firsts.old) (column i hands.new) (pass_at i firsts.new) }
 {
     let Some((hand, others)) = hands.split_first_mut() else {
         return Ok(());
@@ -174,7 +181,8 @@ fn join_each<T: Tail>(
     requires firsts { Both HasFirst turns.now firsts.old }
     requires hand { Both MayHave turns.now hand.old }
     ensures firsts { Both HasFirst turns.now firsts.new }
-    ensures joins { (i : ℕ) → JoinsAt (pass_at i firsts.old) (pass_at i hand.old ∷ []) (pass_at i firsts.new) }
+    ensures joins { (i : ℕ)
+        → JoinsAt (pass_at i firsts.old) (pass_at i hand.old ∷ []) (pass_at i firsts.new) }
 {
     let Some((turn, turns)) = turns.split_first() else {
         return;
@@ -198,7 +206,8 @@ pub(crate) fn join_hands<T: Tail>(
     requires firsts { Both HasFirst turns.now firsts.old }
     requires hands { AllHands (Both MayHave turns.now) hands.old }
     ensures firsts { Both HasFirst turns.now firsts.new }
-    ensures joins { (i : ℕ) → JoinsAt (pass_at i firsts.old) (column i hands.old) (pass_at i firsts.new) }
+    ensures joins { (i : ℕ)
+        → JoinsAt (pass_at i firsts.old) (column i hands.old) (pass_at i firsts.new) }
 {
     let Some((hand, others)) = hands.split_first_mut() else {
         return;

@@ -1,24 +1,29 @@
 //! Many documents on one server.
 //!
-//! [`Docs`] holds the orders of many documents, one for each, and tells which of them a session's first message names.
-//! [`serve_docs`] listens, takes so many links, and runs a session over each: its first message binds it to a document, for
-//! good. Each document's order lies under a lock of its own, and each session has a hand with a pass of every lock, which is
-//! split before the first link is taken, and joined back behind the last session.
+//! [`Docs`] holds the orders of many documents, one for each, and tells which of them a session's
+//! first message names. [`serve_docs`] listens, takes so many links, and runs a session over each:
+//! its first message binds it to a document, for good. Each document's order lies under a lock of
+//! its own, and each session has a hand with a pass of every lock, which is split before the first
+//! link is taken, and joined back behind the last session.
 //!
 //! ```text
 //! let mut docs = Docs::new(alloc);
-//! docs.add(order)?;                                        // DocsFault::Exists, if one of that document is held
+//! // DocsFault::Exists, if one of that document is held
+//! docs.add(order)?;
 //! docs.route(&ToServer::Hello { document, member: 1 })     // its place, from 0 on
 //! let (docs, answer) = serve_docs(&rt, alloc, &mut net, "localhost:4000", docs, 2, &OpenGate);
 //! docs.into_orders()                                       // as they were added
-//! serve_docs_kept(.., docs, tails, 2, &OpenGate)           // a server with a tail for each document
+//! // a server with a tail for each document
+//! serve_docs_kept(.., docs, tails, 2, &OpenGate)
 //! ```
 //!
-//! Proved: which orders are held, no two of one document, and which of them a message names; of the machine of many
-//! documents that the sessions of each are answered as by the machine that holds it alone ([`laws::documents_are_isolated`]);
-//! and of the server that what `sporc_serve::serve` promises holds for each document with the sessions bound to it, and that
-//! each tail keeps its document's entries to the end. Only tested: that 64 documents are taken and served at once, with ample memory (`sporc_thread_tests`). Neither: that one
-//! document is served while another one's order is held.
+//! Proved: which orders are held, no two of one document, and which of them a message names; of the
+//! machine of many documents that the sessions of each are answered as by the machine that holds it
+//! alone ([`laws::documents_are_isolated`]); and of the server that what `sporc_serve::serve`
+//! promises holds for each document with the sessions bound to it, and that each tail keeps its
+//! document's entries to the end. Only tested: that 64 documents are taken and served at once, with
+//! ample memory (`sporc_thread_tests`). Neither: that one document is served while another one's
+//! order is held.
 #![tactic(auto)]
 
 mod crowd;

@@ -1,6 +1,7 @@
 //! Orders under locks of their own, and taken out again.
 
-ghost use Rattle.std.specs.Prelude.{◌≡◌, ◌≤◌, ◌<◌, ◌+◌, ◌∷◌, ◌++◌, List, [], Some, Err, length, map, reverse, IfOk, OnOk};
+ghost use Rattle.std.specs.Prelude.{◌≡◌, ◌≤◌, ◌<◌, ◌+◌, ◌∷◌, ◌++◌, List, [], Some, Err, length};
+ghost use Rattle.std.specs.Prelude.{map, reverse, IfOk, OnOk};
 ghost use Rattle.std.specs.Vec.{vec_len, vec_capacity};
 ghost use Rattle.sporc_outside.specs.Nets.{AreShutBehind};
 ghost use Rattle.sporc_order.specs.OrderModel.{OrderModel};
@@ -33,7 +34,8 @@ impl<T: Tail> Locks<T> {
     pub(crate) fn with_capacity(alloc: Global, len: usize) -> Result<Locks<T>, Memory>
         ensures none { IfOk result (AreOpen []) }
         ensures turns_room { IfOk result (λ l. vec_len l.turns + len ≤ vec_capacity l.turns) }
-        ensures documents_room { IfOk result (λ l. vec_len l.documents + len ≤ vec_capacity l.documents) }
+        ensures documents_room { IfOk result
+            (λ l. vec_len l.documents + len ≤ vec_capacity l.documents) }
         ensures firsts_room { IfOk result (λ l. vec_len l.firsts + len ≤ vec_capacity l.firsts) }
     {
         let documents = Vec::with_capacity(alloc, len)?;
@@ -55,13 +57,18 @@ impl<T: Tail> Locks<T> {
     ) -> Result<(), Memory>
         requires none { AreOpen [] self.old }
         requires tails { AreKept T.keeps tails.old.items orders.old.items }
-        requires turns_room { vec_len self.old.turns + vec_len orders.old ≤ vec_capacity self.old.turns }
-        requires documents_room { vec_len self.old.documents + vec_len orders.old ≤ vec_capacity self.old.documents }
-        requires firsts_room { vec_len self.old.firsts + vec_len orders.old ≤ vec_capacity self.old.firsts }
-        ensures open { (os : List OrderModel) × (orders.old.items ≡ orders.new.items ++ reverse os) × AreOpen os self.new }
+        requires turns_room { vec_len self.old.turns + vec_len orders.old
+            ≤ vec_capacity self.old.turns }
+        requires documents_room { vec_len self.old.documents + vec_len orders.old
+            ≤ vec_capacity self.old.documents }
+        requires firsts_room { vec_len self.old.firsts + vec_len orders.old
+            ≤ vec_capacity self.old.firsts }
+        ensures open { (os : List OrderModel) × (orders.old.items ≡ orders.new.items ++ reverse os)
+            × AreOpen os self.new }
         ensures ok { OnOk result (orders.new.items ≡ []) }
         ensures tails { AreKept T.keeps tails.new.items orders.new.items }
-        ensures room { (vec_capacity orders.new ≡ vec_capacity orders.old) × (vec_capacity tails.new ≡ vec_capacity tails.old) }
+        ensures room { (vec_capacity orders.new ≡ vec_capacity orders.old)
+            × (vec_capacity tails.new ≡ vec_capacity tails.old) }
     {
         while let Some(order) = orders.pop() {
             let tail = tails.pop().unwrap();
@@ -86,9 +93,11 @@ impl<T: Tail> Locks<T> {
         ensures turns { self.new.turns.items ≡ self.old.turns.items ++ turn ∷ [] }
         ensures documents { self.new.documents.items ≡ self.old.documents.items ++ document ∷ [] }
         ensures firsts { self.new.firsts.items ≡ self.old.firsts.items ++ Some first ∷ [] }
-        ensures len { (vec_len self.new.turns ≡ vec_len self.old.turns + 1) × (vec_len self.new.documents ≡ vec_len self.old.documents + 1)
+        ensures len { (vec_len self.new.turns ≡ vec_len self.old.turns + 1)
+            × (vec_len self.new.documents ≡ vec_len self.old.documents + 1)
             × (vec_len self.new.firsts ≡ vec_len self.old.firsts + 1) }
-        ensures room { (vec_capacity self.new.turns ≡ vec_capacity self.old.turns) × (vec_capacity self.new.documents ≡ vec_capacity self.old.documents)
+        ensures room { (vec_capacity self.new.turns ≡ vec_capacity self.old.turns)
+            × (vec_capacity self.new.documents ≡ vec_capacity self.old.documents)
             × (vec_capacity self.new.firsts ≡ vec_capacity self.old.firsts) }
     {
         self.turns.push_reserved(turn);
@@ -115,9 +124,11 @@ impl<T: Tail> Locks<T> {
         requires one_length { length self.old.documents.items ≡ length self.old.turns.items }
         ensures turns { self.new.turns ≡ self.old.turns }
         ensures firsts { Both HasFirst self.new.turns.items self.new.firsts.items }
-        ensures ending { (orders : List OrderModel) → AreApart orders → self.old.documents.items ≡ map (λ o. o.genesis.document) (reverse orders)
+        ensures ending { (orders : List OrderModel) → AreApart orders
+            → self.old.documents.items ≡ map (λ o. o.genesis.document) (reverse orders)
             → Both KnowsFirst (reverse orders) self.old.firsts.items
-            → AreEnding orders self.new.firsts.items (N.told net.old) (N.told net.new) (length hands.old) result }
+            → AreEnding orders self.new.firsts.items (N.told net.old) (N.told net.new)
+            (length hands.old) result }
         ensures shut { AreShutBehind (N.told net.old).returned (N.told net.new).returned }
         ensures asked { (N.told net.new).asked ≡ (N.told net.old).asked }
         ensures links_out { (N.told net.new).out ≡ (N.told net.old).out }
@@ -143,7 +154,9 @@ impl<T: Tail> Locks<T> {
         requires tails { AreKept T.keeps tails.old.items orders.old.items }
         requires room { vec_len orders.old + vec_len self.turns ≤ vec_capacity orders.old }
         requires tails_room { vec_len tails.old + vec_len self.turns ≤ vec_capacity tails.old }
-        ensures closed { (os : List OrderModel) × (orders.new.items ≡ orders.old.items ++ reverse os) × Both Closes self.firsts.items os }
+        ensures closed { (os : List OrderModel)
+            × (orders.new.items ≡ orders.old.items ++ reverse os)
+            × Both Closes self.firsts.items os }
         ensures tails { AreKept T.keeps tails.new.items orders.new.items }
     {
         let Locks {

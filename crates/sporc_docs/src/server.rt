@@ -35,7 +35,8 @@ where
     requires apart { AreApart orders.old.items }
     requires tails { AreKept T.keeps tails.old.items orders.old.items }
     requires limit { sessions ≤ MAX_SESSIONS }
-    ensures served { AreServed orders.old.items orders.new.items (N.told net.old) (N.told net.new) sessions result }
+    ensures served { AreServed orders.old.items orders.new.items (N.told net.old)
+        (N.told net.new) sessions result }
     ensures tails { AreKept T.keeps tails.new.items orders.new.items }
     ensures unkept { result ≡ Err ServeFault.Unkept → T.may_fail }
     ensures shut { AreShutBehind (N.told net.old).returned (N.told net.new).returned }
@@ -59,18 +60,22 @@ where
     answer
 }
 
-/// Listens at the address, takes so many links, and answers the messages of each from the order of the document that its first
-/// message names, for good: a session each, in a thread of its own where one can be made. A first message that is no Hello, or
-/// names a document that isn't held, ends its session. Each link is shut as its session ends, and handed back to the net.
+/// Listens at the address, takes so many links, and answers the messages of each from the order of
+/// the document that its first message names, for good: a session each, in a thread of its own
+/// where one can be made. A first message that is no Hello, or names a document that isn't held,
+/// ends its session. Each link is shut as its session ends, and handed back to the net.
 ///
-/// Where no thread can be made, the session of the link that was taken last is served to its end before the next link is
-/// taken. A thread ends once those of all links behind its own have ended.
+/// Where no thread can be made, the session of the link that was taken last is served to its end
+/// before the next link is taken. A thread ends once those of all links behind its own have ended.
 ///
-/// Each document has a lock of its own. All that the sessions need of the locks is made before the first link is taken.
+/// Each document has a lock of its own. All that the sessions need of the locks is made before the
+/// first link is taken.
 ///
-/// A fault of a link or of its frames ends that session alone, and so does running out of memory in it.
+/// A fault of a link or of its frames ends that session alone, and so does running out of memory in
+/// it.
 ///
-/// The gate is called as [`serve`](sporc_serve::serve) calls it, with the session's number among those of all documents.
+/// The gate is called as [`serve`](sporc_serve::serve) calls it, with the session's number among
+/// those of all documents.
 pub fn serve_docs<R: Threads + Wait + Sync, N: Listen, G: Gate + Sync>(
     rt: &R,
     alloc: Global,
@@ -85,8 +90,10 @@ where
     N::Link: Send,
     requires positive { 1 ≤ sessions }
     requires limit { sessions ≤ MAX_SESSIONS }
-    ensures served { AreServed docs result.0 (N.told net.old) (N.told net.new) sessions (as_served result.1) }
-    ensures asked { result.1 ≢ Err DocsServeFault.ListenFault → AppendsItem (N.told net.old).asked (N.told net.new).asked address.now }
+    ensures served { AreServed docs result.0 (N.told net.old) (N.told net.new) sessions
+        (as_served result.1) }
+    ensures asked { result.1 ≢ Err DocsServeFault.ListenFault
+        → AppendsItem (N.told net.old).asked (N.told net.new).asked address.now }
     ensures may_ask { MayAppend (N.told net.old).asked (N.told net.new).asked address.now }
     ensures shut { AreShutBehind (N.told net.old).returned (N.told net.new).returned }
     ensures links_out { (N.told net.new).out ≡ (N.told net.old).out }
@@ -100,9 +107,9 @@ where
     (docs, answer)
 }
 
-/// Serves as [`serve_docs`] does, with a tail for each document, in their order. A tail keeps each entry of its document before
-/// the order takes it, and so before anything of it is answered or handed out. An entry that is not kept is not ordered, and
-/// its session ends.
+/// Serves as [`serve_docs`] does, with a tail for each document, in their order. A tail keeps each
+/// entry of its document before the order takes it, and so before anything of it is answered or
+/// handed out. An entry that is not kept is not ordered, and its session ends.
 pub fn serve_docs_kept<R: Threads + Wait + Sync, N: Listen, G: Gate + Sync, T: Tail + Send>(
     rt: &R,
     alloc: Global,
@@ -119,10 +126,12 @@ where
     requires positive { 1 ≤ sessions }
     requires limit { sessions ≤ MAX_SESSIONS }
     requires tails { AreKept T.keeps tails.items docs }
-    ensures served { AreServed docs result.0 (N.told net.old) (N.told net.new) sessions (as_served result.2) }
+    ensures served { AreServed docs result.0 (N.told net.old) (N.told net.new) sessions
+        (as_served result.2) }
     ensures tails { AreKept T.keeps result.1.items result.0 }
     ensures unkept { result.2 ≡ Err DocsServeFault.Unkept → T.may_fail }
-    ensures asked { result.2 ≢ Err DocsServeFault.ListenFault → AppendsItem (N.told net.old).asked (N.told net.new).asked address.now }
+    ensures asked { result.2 ≢ Err DocsServeFault.ListenFault
+        → AppendsItem (N.told net.old).asked (N.told net.new).asked address.now }
     ensures may_ask { MayAppend (N.told net.old).asked (N.told net.new).asked address.now }
     ensures shut { AreShutBehind (N.told net.old).returned (N.told net.new).returned }
     ensures links_out { (N.told net.new).out ≡ (N.told net.old).out }
@@ -139,9 +148,10 @@ where
 
 // What is answered where memory ran out before a link could be taken.
 fn unserved<N: Listen>(net: &mut N, address: &str) -> Result<(), DocsServeFault>
-    ensures served { (os : List OrderModel) (sessions : ℕ) → AreServed os os (N.told net.old) (N.told net.new) sessions
-        (as_served result) }
-    ensures asked { result ≢ Err DocsServeFault.ListenFault → AppendsItem (N.told net.old).asked (N.told net.new).asked address.now }
+    ensures served { (os : List OrderModel) (sessions : ℕ)
+        → AreServed os os (N.told net.old) (N.told net.new) sessions (as_served result) }
+    ensures asked { result ≢ Err DocsServeFault.ListenFault
+        → AppendsItem (N.told net.old).asked (N.told net.new).asked address.now }
     ensures may_ask { MayAppend (N.told net.old).asked (N.told net.new).asked address.now }
     ensures shut { AreShutBehind (N.told net.old).returned (N.told net.new).returned }
     ensures links_out { (N.told net.new).out ≡ (N.told net.old).out }

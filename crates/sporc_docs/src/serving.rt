@@ -17,8 +17,8 @@ use std::alloc::Global;
 use std::sync::Wait;
 use std::thread::Threads;
 
-// Serves the documents of these locks: all passes are split before the first link is taken, and joined back behind the last
-// session.
+// Serves the documents of these locks: all passes are split before the first link is taken, and
+// joined back behind the last session.
 pub(crate) fn serve_hands<R: Threads + Wait + Sync, N: Listen, G: Gate + Sync, T: Tail + Send>(
     rt: &R,
     alloc: Global,
@@ -37,7 +37,8 @@ where
     requires empty { AllHands (Both IsEmpty turns.now) hands.old }
     requires one_length { length documents.now ≡ length turns.now }
     ensures firsts { Both HasFirst turns.now firsts.new }
-    ensures ending { (orders : List OrderModel) → AreApart orders → documents.now ≡ map (λ o. o.genesis.document) (reverse orders)
+    ensures ending { (orders : List OrderModel) → AreApart orders
+        → documents.now ≡ map (λ o. o.genesis.document) (reverse orders)
         → Both KnowsFirst (reverse orders) firsts.old
         → AreEnding orders firsts.new (N.told net.old) (N.told net.new) (length hands.old) result }
     ensures shut { AreShutBehind (N.told net.old).returned (N.told net.new).returned }

@@ -26,7 +26,8 @@ use sporc_wire::{Frames, ToServer};
 use std::alloc::Global;
 use std::sync::Wait;
 
-// The session over a link from its first message on, by the pass that is kept for the document which that names.
+// The session over a link from its first message on, by the pass that is kept for the document
+// which that names.
 fn serve_at<R: Wait, L: Link, G: Gate, T: Tail>(
     rt: &R,
     alloc: Global,
@@ -44,10 +45,12 @@ fn serve_at<R: Wait, L: Link, G: Gate, T: Tail>(
     ensures worn { Became (λ p p'. HasReadLast (read_of p') result) pass.old pass.new }
     ensures as_shut { (L.told link.new).is_shut ≡ (L.told link.old).is_shut }
     ensures unkept { result ≡ SessionEnd.Unkept → T.may_fail }
-    ensures goes { Became (λ p p'. (unread : Unread) → (next to_server_of unread).answer ≡ Ok (Some first.now)
+    ensures goes { Became
+        (λ p p'. (unread : Unread) → (next to_server_of unread).answer ≡ Ok (Some first.now)
         → frames.old ≡ (next to_server_of unread).after
         → Leads (stand_at (known_of p) (L.told link.old) unread false)
-        (stand_at (known_of p') (L.told link.new) (stream_of []) false) (Some result)) pass.old pass.new }
+        (stand_at (known_of p') (L.told link.new) (stream_of []) false) (Some result))
+        pass.old pass.new }
 {
     let taken = pass.take().unwrap();
     let (end, after) = serve_from(rt, alloc, turn, gate, link, frames, first, taken);
@@ -79,8 +82,8 @@ fn place_among(documents: &[[u8; 16]], document: &[u8; 16]) -> Option<usize>
     None
 }
 
-// A session over a link. Its first message names its document, for good, and a first message that names none ends it. A
-// hand has a pass for each document.
+// A session over a link. Its first message names its document, for good, and a first message that
+// names none ends it. A hand has a pass for each document.
 fn serve_one<R: Wait, L: Link, G: Gate, T: Tail>(
     rt: &R,
     alloc: Global,
@@ -93,7 +96,8 @@ fn serve_one<R: Wait, L: Link, G: Gate, T: Tail>(
     requires locks { HavePasses turns.now hand.old }
     requires one_length { length documents.now ≡ length turns.now }
     ensures locks { HavePasses turns.now hand.new }
-    ensures session { Sits documents.now (visit (L.told link.old) (L.told link.new) result) hand.old hand.new }
+    ensures session { Sits documents.now
+        (visit (L.told link.old) (L.told link.new) result) hand.old hand.new }
     ensures unkept { result ≡ SessionEnd.Unkept → T.may_fail }
     ensures shut { IsTrueIfTold (L.told link.new).is_shut }
 {
@@ -136,7 +140,8 @@ pub(crate) fn serve_hand<R: Wait, L: Link, G: Gate, T: Tail>(
     requires locks { HavePasses turns.now hand.old.passes.items }
     requires one_length { length documents.now ≡ length turns.now }
     ensures locks { HavePasses turns.now hand.new.passes.items }
-    ensures session { Sits documents.now (visit (L.told link.old) (L.told link.new) result) hand.old.passes.items hand.new.passes.items }
+    ensures session { Sits documents.now (visit (L.told link.old) (L.told link.new) result)
+        hand.old.passes.items hand.new.passes.items }
     ensures unkept { result ≡ SessionEnd.Unkept → T.may_fail }
     ensures shut { IsTrueIfTold (L.told link.new).is_shut }
 {

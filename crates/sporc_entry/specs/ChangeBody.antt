@@ -10,19 +10,23 @@
 -- | previous key, sealed | 32 | |
 -- | count | 2 | at most MAX_MEMBERS |
 -- | wraps, each | 2 member, 32 sealed key | |
-use Rattle.std.specs.Prelude.{◌≡◌, ℕ, ◌<◌, ◌≤◌, ◌^◌, ◌==◌, true, List, ◌∷◌, ◌++◌, length, Result, Ok, if◌then◌else◌}
+use Rattle.std.specs.Prelude.{◌≡◌, ℕ, ◌<◌, ◌≤◌, ◌^◌, ◌==◌, true, List, ◌∷◌, ◌++◌, length, Result}
+use Rattle.std.specs.Prelude.{Ok, if◌then◌else◌}
 use Rattle.std.specs.List.{AllByRecursion, flat_map}
 use Rattle.std.specs.Int.{w8, w16, to_be_bytes}
-use Rattle.sporc_bytes.specs.Fields.{Reading, ◌>>=◌, bytes_at, number_at, only_if, end_at, number_within, values_at}
+use Rattle.sporc_bytes.specs.Fields.{Reading, ◌>>=◌, bytes_at, number_at, only_if, end_at}
+use Rattle.sporc_bytes.specs.Fields.{number_within, values_at}
 use Rattle.sporc_member.specs.declared.limits.TheConstants.{MAX_MEMBERS}
 use Rattle.sporc_entry.specs.declared.limits.TheConstants.{HIGHEST_MEMBER}
 use Rattle.sporc_member.specs.declared.change.Change.{Change}
-use Rattle.sporc_member.specs.declared.change.Change.TheVariants.{Add, Remove, SetRole, AddDevice, DropDevice, Upgrade}
+use Rattle.sporc_member.specs.declared.change.Change.TheVariants.{Add, Remove, SetRole, AddDevice}
+use Rattle.sporc_member.specs.declared.change.Change.TheVariants.{DropDevice, Upgrade}
 use Rattle.sporc_member.specs.Device.{IsMember}
 use Rattle.sporc_member.specs.Role.{role_code_of}
 use Rattle.sporc_entry.specs.declared.change.ChangeBody.{ChangeBody}
 use Rattle.sporc_entry.specs.declared.wrap.Wrap.{Wrap}
-use Rattle.sporc_entry.specs.declared.version.TheConstants.{ADD, REMOVE, SET_ROLE, ADD_DEVICE, DROP_DEVICE, UPGRADE}
+use Rattle.sporc_entry.specs.declared.version.TheConstants.{ADD, REMOVE, SET_ROLE, ADD_DEVICE}
+use Rattle.sporc_entry.specs.declared.version.TheConstants.{DROP_DEVICE, UPGRADE}
 use Rattle.sporc_entry.specs.Fields.{role_at}
 use Rattle.sporc_entry.specs.Version.{has_kind}
 
@@ -86,9 +90,13 @@ change_body_at version r = do
   previous ← bytes_at 32 commitment.1
   count ← number_within 0 MAX_MEMBERS w16 previous.1
   wraps ← values_at wrap_at count.0 count.1
-  Ok (record { change = change.0; commitment = commitment.0; previous = previous.0; wraps = wraps.0 }, wraps.1)
+  Ok (
+    record { change = change.0; commitment = commitment.0; previous = previous.0; wraps = wraps.0 },
+    wraps.1,
+  )
 
--- the body of a change that bytes spell in an entry of this version, the first of them at this place
+-- the body of a change that bytes spell in an entry of this version, the first of them at this
+-- place
 unfoldable pub change_body_from : ℕ → ℕ → List ℕ → Result ChangeBody ℕ
 change_body_from version at bytes = do
   body ← change_body_at version (record { rest = bytes; at = at })
@@ -108,7 +116,8 @@ kind_of Upgrade = UPGRADE
 
 -- what stands behind it, and the bytes after that
 abbrev pub change_fields : Change → List ℕ → List ℕ
-change_fields (Add member role key) rest = to_be_bytes w16 member ++ (role_code_of role ∷ key ++ rest)
+change_fields (Add member role key) rest =
+    to_be_bytes w16 member ++ (role_code_of role ∷ key ++ rest)
 change_fields (Remove member) rest = to_be_bytes w16 member ++ rest
 change_fields (SetRole member role) rest = to_be_bytes w16 member ++ (role_code_of role ∷ rest)
 change_fields (AddDevice member device key) rest = to_be_bytes w16 member ++ (device ∷ key ++ rest)
@@ -125,7 +134,8 @@ wrap_bytes w = to_be_bytes w16 w.member ++ w.sealed
 
 -- the bytes of a change's body
 unfoldable pub change_body_bytes : ChangeBody → List ℕ
-change_body_bytes c = change_bytes c.change (c.commitment ++ (c.previous ++ (to_be_bytes w16 (length c.wraps) ++ flat_map wrap_bytes c.wraps)))
+change_body_bytes c = change_bytes c.change (c.commitment
+    ++ (c.previous ++ (to_be_bytes w16 (length c.wraps) ++ flat_map wrap_bytes c.wraps)))
 
 -- ---- what has a spelling
 
@@ -152,4 +162,5 @@ pub record IsChangeBody (version : ℕ) (c : ChangeBody) : Type 0 where
 
 -- bytes that spell the body of a change in an entry of this version
 abbrev pub SpellsChange : ℕ → List ℕ → Type 0
-SpellsChange version bytes = (c : ChangeBody) × IsChangeBody version c × (bytes ≡ change_body_bytes c)
+SpellsChange version bytes =
+    (c : ChangeBody) × IsChangeBody version c × (bytes ≡ change_body_bytes c)

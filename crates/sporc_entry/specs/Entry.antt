@@ -13,16 +13,19 @@
 -- | 67 | kind | 1 | 1 an edit, 2 a change |
 -- | 68 | body | counted | an edit's at most MAX_EDIT_BODY; a change's at most MAX_CHANGE_BODY, and read where it stands |
 -- | after it | signature | counted | at most MAX_SIGNATURE |
-use Rattle.std.specs.Prelude.{◌≡◌, ℕ, ◌<◌, ◌≤◌, ◌^◌, ◌==◌, true, List, [], ◌∷◌, ◌++◌, length, Option, None, Result, Ok, if◌then◌else◌}
+use Rattle.std.specs.Prelude.{◌≡◌, ℕ, ◌<◌, ◌≤◌, ◌^◌, ◌==◌, true, List, [], ◌∷◌, ◌++◌, length}
+use Rattle.std.specs.Prelude.{Option, None, Result, Ok, if◌then◌else◌}
 use Rattle.std.specs.Result.{result_ok}
 use Rattle.std.specs.Int.{w8, w16, w32, to_be_bytes}
-use Rattle.sporc_bytes.specs.Fields.{Reading, ◌>>=◌, bytes_at, number_at, counted_at, end_at, number_within}
+use Rattle.sporc_bytes.specs.Fields.{Reading, ◌>>=◌, bytes_at, number_at, counted_at, end_at}
+use Rattle.sporc_bytes.specs.Fields.{number_within}
 use Rattle.sporc_member.specs.declared.device.Device.{Device}
 use Rattle.sporc_member.specs.declared.device.TheConstants.{FIRST_DEVICE}
 use Rattle.sporc_entry.specs.declared.change.ChangeBody.{ChangeBody}
 use Rattle.sporc_entry.specs.declared.entry.Entry.{Entry}
 use Rattle.sporc_entry.specs.declared.header.Header.{Header}
-use Rattle.sporc_entry.specs.declared.limits.TheConstants.{MAX_EDIT_BODY, MAX_CHANGE_BODY, MAX_SIGNATURE}
+use Rattle.sporc_entry.specs.declared.limits.TheConstants.{MAX_EDIT_BODY, MAX_CHANGE_BODY}
+use Rattle.sporc_entry.specs.declared.limits.TheConstants.{MAX_SIGNATURE}
 use Rattle.sporc_entry.specs.declared.version.TheConstants.{FIRST_VERSION, DEVICES_VERSION}
 use Rattle.sporc_entry.specs.ChangeBody.{change_body_from, SpellsChange}
 use Rattle.sporc_entry.specs.Version.{names_device, fits_version, body_place}
@@ -46,7 +49,21 @@ header_at r = do
   epoch ← number_at w32 base_hash.1
   leaf ← number_at w32 epoch.1
   kind ← number_within 1 2 w8 leaf.1
-  Ok (record { version = version.0; document = document.0; author = author.0; device = device.0; number = number.0; base = base.0; base_hash = base_hash.0; epoch = epoch.0; leaf = leaf.0; kind = kind.0 }, kind.1)
+  Ok (
+    record {
+      version = version.0;
+      document = document.0;
+      author = author.0;
+      device = device.0;
+      number = number.0;
+      base = base.0;
+      base_hash = base_hash.0;
+      epoch = epoch.0;
+      leaf = leaf.0;
+      kind = kind.0;
+    },
+    kind.1,
+  )
 
 -- how long the body of an entry of this kind may be
 abbrev pub body_limit : ℕ → ℕ
@@ -71,7 +88,8 @@ entry_of bytes = do
 
 -- what an entry changes, if it is a change
 unfoldable pub change_of : Entry → Option ChangeBody
-change_of e = if e.header.kind == 2 then result_ok (change_body_from e.header.version 0 e.body) else None
+change_of e =
+    if e.header.kind == 2 then result_ok (change_body_from e.header.version 0 e.body) else None
 
 -- the device that signs an entry
 abbrev pub author_device : Header → Device
@@ -85,9 +103,9 @@ device_bytes version device = if names_device version then device ∷ [] else []
 
 -- the bytes of what stands before the body, and those after them
 unfoldable pub header_bytes : Header → List ℕ → List ℕ
-header_bytes h rest =
-    h.version ∷ h.document ++ (to_be_bytes w16 h.author ++ (device_bytes h.version h.device ++ (to_be_bytes w32 h.number
-    ++ (to_be_bytes w32 h.base ++ (h.base_hash ++ (to_be_bytes w32 h.epoch ++ (to_be_bytes w32 h.leaf ++ h.kind ∷ rest)))))))
+header_bytes h rest = h.version ∷ h.document ++ (to_be_bytes w16 h.author
+    ++ (device_bytes h.version h.device ++ (to_be_bytes w32 h.number ++ (to_be_bytes w32 h.base
+    ++ (h.base_hash ++ (to_be_bytes w32 h.epoch ++ (to_be_bytes w32 h.leaf ++ h.kind ∷ rest)))))))
 
 -- a counted string, and the bytes after it
 abbrev pub counted_bytes : List ℕ → List ℕ → List ℕ

@@ -15,11 +15,12 @@ pub record EntryViewModel : Type 0 where
 abbrev pub parts_entry : Header → List ℕ → List ℕ → Entry
 parts_entry header body signature = record { header = header; body = body; signature = signature }
 
--- the entry that bytes spell, by its header and the length of its body: behind the body stand the four bytes of its
--- signature's length
+-- the entry that bytes spell, by its header and the length of its body: behind the body stand the
+-- four bytes of its signature's length
 abbrev pub entry_within : Header → List ℕ → ℕ → Entry
 entry_within header bytes len =
-    parts_entry header (take len (drop (body_place header.version) bytes)) (drop (body_place header.version + 4 + len) bytes)
+    parts_entry header (take len (drop (body_place header.version) bytes))
+    (drop (body_place header.version + 4 + len) bytes)
 
 -- the bytes spell it, and it holds this change
 pub record EntryViewInvariant (e : Entry) (bytes : List ℕ) (held : Option ChangeBody) : Type 0 where

@@ -1,4 +1,5 @@
--- A field of a role. Reading gives its value and what is left, or the place of the field's first byte.
+-- A field of a role. Reading gives its value and what is left, or the place of the field's first
+-- byte.
 use Rattle.std.specs.Prelude.{ℕ, Result, Ok}
 use Rattle.std.specs.Int.{w8}
 use Rattle.sporc_bytes.specs.Fields.{Reading, ◌>>=◌, number_within, present}

@@ -1,4 +1,5 @@
--- The genesis of a document: its bytes, what bytes say, and the founders that a document can begin with.
+-- The genesis of a document: its bytes, what bytes say, and the founders that a document can begin
+-- with.
 --
 -- | Field | Bytes | Rule |
 -- | version | 1 | 1 |
@@ -6,12 +7,14 @@
 -- | commitment | 32 | |
 -- | count | 2 | 1 to MAX_MEMBERS |
 -- | founders, each | 2 number, 1 role, 56 key | number not 0, strictly ascending; role 1, 2 or 3 |
-use Rattle.std.specs.Prelude.{◌≡◌, ℕ, ◌+◌, ◌≤◌, List, [], ◌∷◌, ◌++◌, Bool, length, Option, None, Some, is_none, find, option_map, Result, Ok, Err}
+use Rattle.std.specs.Prelude.{◌≡◌, ℕ, ◌+◌, ◌≤◌, List, [], ◌∷◌, ◌++◌, Bool, length, Option, None}
+use Rattle.std.specs.Prelude.{Some, is_none, find, option_map, Result, Ok, Err}
 use Rattle.std.specs.List.{AllByRecursion, flat_map, list_any}
 use Rattle.std.specs.List.Sorted.{IsStrictlyIncreasing}
 use Rattle.std.specs.Int.{w8, w16, to_be_bytes}
 use Rattle.lms_tree.specs.LmsPublic.{public_key_in}
-use Rattle.sporc_bytes.specs.Fields.{Reading, ◌>>=◌, fault_as, bytes_at, end_at, number_within, values_at}
+use Rattle.sporc_bytes.specs.Fields.{Reading, ◌>>=◌, fault_as, bytes_at, end_at, number_within}
+use Rattle.sporc_bytes.specs.Fields.{values_at}
 use Rattle.sporc_member.specs.declared.limits.TheConstants.{MAX_MEMBERS}
 use Rattle.sporc_entry.specs.declared.limits.TheConstants.{HIGHEST_MEMBER}
 use Rattle.sporc_member.specs.declared.founder.Founder.{Founder}
@@ -54,7 +57,10 @@ genesis_at r = do
   commitment ← bytes_at 32 document.1
   count ← number_within 1 MAX_MEMBERS w16 commitment.1
   founders ← founders_at count.0 count.1
-  Ok (record { document = document.0; commitment = commitment.0; founders = founders.0 }, founders.1)
+  Ok (
+    record { document = document.0; commitment = commitment.0; founders = founders.0 },
+    founders.1,
+  )
 
 -- what bytes spell, all of the bytes
 unfoldable pub genesis_in : List ℕ → Result Genesis ℕ
@@ -73,8 +79,8 @@ bad_key founders = find (λ m. is_none (public_key_in m.key)) founders
 
 -- why no document can begin with these founders, if it can't
 abbrev pub founders_fault : List Founder → Option GenesisFault
-founders_fault founders =
-    first_of (unless (has_admin_founder founders) NoAdmin ∷ option_map (λ m. BadKey m.member) (bad_key founders) ∷ [])
+founders_fault founders = first_of (unless (has_admin_founder founders) NoAdmin
+    ∷ option_map (λ m. BadKey m.member) (bad_key founders) ∷ [])
 
 -- a genesis, where a document can begin with its founders
 abbrev pub accepted : Genesis → Option GenesisFault → Result Genesis GenesisFault
@@ -98,7 +104,8 @@ founder_bytes m = to_be_bytes w16 m.member ++ role_code_of m.role ∷ m.key
 
 -- the bytes of a genesis
 unfoldable pub genesis_bytes : Genesis → List ℕ
-genesis_bytes g = 1 ∷ g.document ++ (g.commitment ++ (to_be_bytes w16 (length g.founders) ++ flat_map founder_bytes g.founders))
+genesis_bytes g = 1 ∷ g.document
+    ++ (g.commitment ++ (to_be_bytes w16 (length g.founders) ++ flat_map founder_bytes g.founders))
 
 -- ---- what has a spelling
 

@@ -5,7 +5,8 @@
 -- | 2 | behind it | named | 1 to 5 |
 use Rattle.std.specs.Prelude.{ℕ, ◌+◌, ◌==◌, Bool, ◌&&◌, ◌||◌, nat_le, if◌then◌else◌}
 use Rattle.sporc_member.specs.declared.device.TheConstants.{FIRST_DEVICE}
-use Rattle.sporc_entry.specs.declared.version.TheConstants.{FIRST_VERSION, DEVICES_VERSION, ADD, SET_ROLE, DROP_DEVICE, UPGRADE}
+use Rattle.sporc_entry.specs.declared.version.TheConstants.{FIRST_VERSION, DEVICES_VERSION, ADD}
+use Rattle.sporc_entry.specs.declared.version.TheConstants.{SET_ROLE, DROP_DEVICE, UPGRADE}
 
 -- that of an entry behind a history that holds an Upgrade, or none
 abbrev pub version_of : Bool → ℕ
@@ -17,7 +18,8 @@ names_device version = version == DEVICES_VERSION
 
 -- whether there is this version, and an entry of it can be by this device
 abbrev pub fits_version : ℕ → ℕ → Bool
-fits_version version device = names_device version || ((version == FIRST_VERSION) && (device == FIRST_DEVICE))
+fits_version version device =
+    names_device version || ((version == FIRST_VERSION) && (device == FIRST_DEVICE))
 
 -- whether an entry of this version may be a change of this kind
 abbrev pub has_kind : ℕ → ℕ → Bool

@@ -9,7 +9,10 @@ ghost use Rattle.sporc_bytes.specs.Fields.{fault_as};
 ghost use Rattle.sporc_member.specs.Role.{role_code_of};
 ghost use Rattle.sporc_entry.specs.declared.change.ChangeBody.{ChangeBody};
 ghost use Rattle.sporc_entry.specs.declared.version.TheConstants.{FIRST_VERSION, DEVICES_VERSION};
-ghost use Rattle.sporc_entry.specs.ChangeBody.{kind_at, change_of_kind, change_of_member, change_of_device, change_at, wrap_at, change_body_at, change_body_from, change_bytes, wrap_bytes, change_body_bytes, IsChangeBody};
+ghost use Rattle.sporc_entry.specs.ChangeBody.{kind_at, change_of_kind, change_of_member};
+ghost use Rattle.sporc_entry.specs.ChangeBody.{change_of_device, change_at, wrap_at};
+ghost use Rattle.sporc_entry.specs.ChangeBody.{change_body_at, change_body_from, change_bytes};
+ghost use Rattle.sporc_entry.specs.ChangeBody.{wrap_bytes, change_body_bytes, IsChangeBody};
 
 use crate::fault::EntryFault;
 use crate::fields::read_role;
@@ -72,7 +75,8 @@ fn read_of_kind(cursor: &mut Cursor<'_>, kind: u8) -> Result<Change, Short>
 // What stands next of a change of this kind behind the member.
 #[tactic(auto, unfolding(crate::specs::ChangeBody::change_of_member))]
 fn read_of_member(cursor: &mut Cursor<'_>, kind: u8, member: u16) -> Result<Change, Short>
-    ensures { Reads (λ change. (change, cursor.new)) result (change_of_member kind member cursor.old) }
+    ensures { Reads (λ change. (change, cursor.new)) result
+        (change_of_member kind member cursor.old) }
 {
     match kind {
         ADD => {
@@ -100,7 +104,8 @@ fn read_of_device(
     member: u16,
     device: u8,
 ) -> Result<Change, Short>
-    ensures { Reads (λ change. (change, cursor.new)) result (change_of_device kind member device cursor.old) }
+    ensures { Reads (λ change. (change, cursor.new)) result
+        (change_of_device kind member device cursor.old) }
 {
     if kind != ADD_DEVICE {
         return Ok(Change::DropDevice { member, device });
@@ -159,7 +164,8 @@ fn read_fields(
     })
 }
 
-// The body of a change that these bytes spell in an entry of this version, the first of them at place `at`.
+// The body of a change that these bytes spell in an entry of this version, the first of them at
+// place `at`.
 #[tactic(auto, unfolding(crate::specs::ChangeBody::change_body_from))]
 pub(crate) fn read_body(
     alloc: Global,
@@ -177,7 +183,8 @@ pub(crate) fn read_body(
     Ok(change)
 }
 
-/// The body of a change that these bytes spell in an entry of this version. Places are counted from the first of them.
+/// The body of a change that these bytes spell in an entry of this version. Places are counted from
+/// the first of them.
 pub fn read_change(alloc: Global, version: u8, body: &[u8]) -> Result<ChangeBody, EntryFault>
     requires range { (FIRST_VERSION ≤ version) × (version ≤ DEVICES_VERSION) }
     // What is read is spelled so.
@@ -226,7 +233,8 @@ fn put_member(out: &mut Out, kind: u8, member: u16) -> Result<(), Memory>
 
 // Appends the kind of a change, whom it is of, and the role that it gives.
 fn put_role(out: &mut Out, kind: u8, member: u16, role: Role) -> Result<(), Memory>
-    ensures { OnOk result (out.new ≡ out.old ++ kind ∷ to_be_bytes w16 member ++ role_code_of role ∷ []) }
+    ensures { OnOk result
+        (out.new ≡ out.old ++ kind ∷ to_be_bytes w16 member ++ role_code_of role ∷ []) }
 {
     put_member(out, kind, member)?;
     out.put_u8(role.code())

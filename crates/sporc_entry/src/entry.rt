@@ -16,8 +16,8 @@ use sporc_base::{Bytes, Memory};
 use sporc_bytes::Out;
 use std::alloc::Global;
 
-/// An entry of a history: an edit of the text, whose body is a masked delta, or a change of the members, whose body
-/// [`crate::read_change`] reads.
+/// An entry of a history: an edit of the text, whose body is a masked delta, or a change of the
+/// members, whose body [`crate::read_change`] reads.
 #[derive(Drop)]
 pub struct Entry {
     pub header: Header,

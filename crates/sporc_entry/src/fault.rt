@@ -7,8 +7,8 @@ use thiserror::Error;
 /// Why bytes are no entry, or no change.
 #[derive(Clone, Copy, Debug, PartialEq, Eq, Error)]
 pub enum EntryFault {
-    /// The first field that is cut short or has a forbidden value begins at this place; if bytes follow the last
-    /// field, the first of them stands there.
+    /// The first field that is cut short or has a forbidden value begins at this place; if bytes
+    /// follow the last field, the first of them stands there.
     #[error("malformed at {0}")]
     Malformed(usize),
     /// Out of memory.
@@ -52,8 +52,8 @@ impl<T: Drop> From<AllocFailed<T>> for EntryFault {
 /// Why bytes are no genesis: the first cause of this list.
 #[derive(Clone, Copy, Debug, PartialEq, Eq, Error)]
 pub enum GenesisFault {
-    /// The first field that is cut short or has a forbidden value begins at this place; if bytes follow the last
-    /// field, the first of them stands there.
+    /// The first field that is cut short or has a forbidden value begins at this place; if bytes
+    /// follow the last field, the first of them stands there.
     #[error("malformed at {0}")]
     Malformed(usize),
     /// No member is an admin.

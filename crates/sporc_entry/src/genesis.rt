@@ -5,7 +5,9 @@ ghost use Rattle.std.specs.List.{flat_map};
 ghost use Rattle.sporc_bytes.specs.Fields.{Reads, fault_as};
 ghost use Rattle.sporc_base.specs.Outcome.{GivesUnless};
 ghost use Rattle.sporc_entry.specs.declared.genesis.Genesis.{Genesis};
-ghost use Rattle.sporc_entry.specs.Genesis.{founder_at, founders_at, genesis_at, genesis_in, genesis_of, has_admin_founder, bad_key, founders_fault, founder_bytes, genesis_bytes, IsGenesis};
+ghost use Rattle.sporc_entry.specs.Genesis.{founder_at, founders_at, genesis_at, genesis_in};
+ghost use Rattle.sporc_entry.specs.Genesis.{genesis_of, has_admin_founder, bad_key, founders_fault};
+ghost use Rattle.sporc_entry.specs.Genesis.{founder_bytes, genesis_bytes, IsGenesis};
 
 use crate::fault::GenesisFault;
 use crate::fields::read_role;
@@ -98,7 +100,8 @@ fn read_fields(alloc: Global, cursor: &mut Cursor<'_>) -> Result<Genesis, Genesi
 // The genesis that these bytes spell, whoever its founders are.
 #[tactic(auto, unfolding(crate::specs::Genesis::genesis_in))]
 fn read_all(alloc: Global, bytes: &[u8]) -> Result<Genesis, GenesisFault>
-    ensures { GivesUnless GenesisFault.Memory (λ genesis. genesis) result (fault_as GenesisFault.Malformed (genesis_in bytes.now)) }
+    ensures { GivesUnless GenesisFault.Memory (λ genesis. genesis) result
+        (fault_as GenesisFault.Malformed (genesis_in bytes.now)) }
 {
     let mut cursor = Cursor::new(bytes);
     let genesis = read_fields(alloc, &mut cursor)?;
@@ -148,8 +151,8 @@ fn read_tested(alloc: Global, bytes: &[u8]) -> Result<Genesis, GenesisFault>
     }
 }
 
-/// The genesis that these bytes spell. After the grammar, a genesis without an admin is refused, and then one with a
-/// key of no known type.
+/// The genesis that these bytes spell. After the grammar, a genesis without an admin is refused,
+/// and then one with a key of no known type.
 pub fn read_genesis(alloc: Global, bytes: &[u8]) -> Result<Genesis, GenesisFault>
     // What is read is spelled so.
     ensures found { IfOk result (λ g. IsGenesis g × (bytes.now ≡ genesis_bytes g)) }

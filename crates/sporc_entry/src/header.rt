@@ -2,7 +2,8 @@
 
 ghost use Rattle.std.specs.Prelude.{◌≡◌, ◌++◌, [], OnOk};
 ghost use Rattle.sporc_bytes.specs.Fields.{Reads};
-ghost use Rattle.sporc_entry.specs.Entry.{author_device, device_at, device_bytes, header_at, header_bytes};
+ghost use Rattle.sporc_entry.specs.Entry.{author_device, device_at, device_bytes, header_at};
+ghost use Rattle.sporc_entry.specs.Entry.{header_bytes};
 
 use crate::version::{DEVICES_VERSION, FIRST_VERSION, names_device};
 use sporc_base::Memory;

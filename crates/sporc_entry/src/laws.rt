@@ -1,10 +1,12 @@
-//! Laws of the formats: what is written reads back, what reads is written so, and where faults are; the limits and kinds in
-//! numbers.
+//! Laws of the formats: what is written reads back, what reads is written so, and where faults are;
+//! the limits and kinds in numbers.
 
 ghost use Rattle.std.specs.Prelude.{◌≡◌, ℕ, ◌+◌, ◌≤◌, List, length, Some, Ok, Err};
 ghost use Rattle.sporc_base.specs.Bytes.{IsBytes};
 ghost use Rattle.sporc_entry.specs.declared.header.TheConstants.{EDIT, CHANGE};
-ghost use Rattle.sporc_entry.specs.declared.limits.TheConstants.{HIGHEST_MEMBER, MAX_EDIT_BODY, MAX_CHANGE_BODY, MAX_SIGNATURE, MAX_ENTRY};
+ghost use Rattle.sporc_entry.specs.declared.limits.TheConstants.{HIGHEST_MEMBER, MAX_EDIT_BODY};
+ghost use Rattle.sporc_entry.specs.declared.limits.TheConstants.{MAX_CHANGE_BODY, MAX_SIGNATURE};
+ghost use Rattle.sporc_entry.specs.declared.limits.TheConstants.{MAX_ENTRY};
 ghost use Rattle.sporc_entry.specs.declared.version.TheConstants.{FIRST_VERSION, DEVICES_VERSION};
 ghost use Rattle.sporc_entry.specs.declared.change.ChangeBody.{ChangeBody};
 ghost use Rattle.sporc_entry.specs.declared.entry.Entry.{Entry};
@@ -16,24 +18,26 @@ ghost use Rattle.sporc_entry.specs.Version.{body_place};
 
 use crate::fault::GenesisFault;
 
-/// Each entry in range is read again from its bytes, and bytes that read are those of the entry read.
+/// Each entry in range is read again from its bytes, and bytes that read are those of the entry
+/// read.
 pub fn entry_and_its_bytes()
     ensures read_again { (e : Entry) → IsEntry e → entry_of (entry_bytes e) ≡ Ok e }
     ensures written_so { (bytes : List ℕ) (e : Entry) → IsBytes bytes
         → entry_of bytes ≡ Ok e → IsEntry e × (bytes ≡ entry_bytes e) }
 {}
 
-/// Each body of a change in range is read again from its bytes in an entry of a version that has its kind, wherever they
-/// stand, and bytes that read are those of the body read.
+/// Each body of a change in range is read again from its bytes in an entry of a version that has
+/// its kind, wherever they stand, and bytes that read are those of the body read.
 pub fn change_and_its_bytes()
     ensures read_again { (version at : ℕ) (c : ChangeBody) → IsChangeBody version c
         → change_body_from version at (change_body_bytes c) ≡ Ok c }
-    ensures written_so { (version at : ℕ) (bytes : List ℕ) (c : ChangeBody)
-        → IsBytes bytes
-        → change_body_from version at bytes ≡ Ok c → IsChangeBody version c × (bytes ≡ change_body_bytes c) }
+    ensures written_so { (version at : ℕ) (bytes : List ℕ) (c : ChangeBody) → IsBytes bytes
+        → change_body_from version at bytes ≡ Ok c
+        → IsChangeBody version c × (bytes ≡ change_body_bytes c) }
 {}
 
-/// Each genesis in range is read again from its bytes, and bytes that read are those of the genesis read.
+/// Each genesis in range is read again from its bytes, and bytes that read are those of the genesis
+/// read.
 pub fn genesis_and_its_bytes()
     ensures read_again { (g : Genesis) → IsGenesis g → genesis_of (genesis_bytes g) ≡ Ok g }
     ensures written_so { (bytes : List ℕ) (g : Genesis) → IsBytes bytes
@@ -49,8 +53,8 @@ pub fn change_of_an_entry()
 /// The place of a fault is within the bytes that are read, or just behind them.
 pub fn place_of_a_fault()
     ensures entry { (bytes : List ℕ) (at : ℕ) → entry_of bytes ≡ Err at → at ≤ length bytes }
-    ensures change { (version first : ℕ) (bytes : List ℕ) (at : ℕ) → change_body_from version first bytes ≡ Err at
-        → at ≤ first + length bytes }
+    ensures change { (version first : ℕ) (bytes : List ℕ) (at : ℕ)
+        → change_body_from version first bytes ≡ Err at → at ≤ first + length bytes }
     ensures genesis { (bytes : List ℕ) (at : ℕ) → genesis_of bytes ≡ Err (GenesisFault.Malformed at)
         → at ≤ length bytes }
 {}

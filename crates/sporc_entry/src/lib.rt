@@ -1,18 +1,22 @@
 //! The bytes of a document's genesis and of the entries of its history.
 //!
-//! All numbers are big-endian. Each genesis, entry and body of a change has exactly one spelling. A reader answers the
-//! value that its bytes spell, or the place of the first byte of the first field that is cut short or has a forbidden
-//! value. There are two versions of entries: those behind a document's Upgrade name their author's device, and have other
-//! kinds of change ([`version_of`]). [`EntryView`] reads an entry where its bytes stand and copies nothing of it but a change's fields; [`read_entry`] copies it out.
+//! All numbers are big-endian. Each genesis, entry and body of a change has exactly one spelling. A
+//! reader answers the value that its bytes spell, or the place of the first byte of the first field
+//! that is cut short or has a forbidden value. There are two versions of entries: those behind a
+//! document's Upgrade name their author's device, and have other kinds of change ([`version_of`]).
+//! [`EntryView`] reads an entry where its bytes stand and copies nothing of it but a change's
+//! fields; [`read_entry`] copies it out.
 //!
 //! ```text
 //! let view = EntryView::read(alloc, bytes)?;
-//! let message = view.signed();              // what the author signs, behind a byte 3: a part of the bytes
+//! // what the author signs, behind a byte 3: a part of the bytes
+//! let message = view.signed();
 //! if let Some(change) = view.change() { .. }
 //! ```
 //!
-//! Proved: what is read is spelled so, what is spelled so is read, and which fault it is otherwise ([`laws`]). Only
-//! tested: the layout against bytes that are spelled by hand. Neither: nothing else is claimed.
+//! Proved: what is read is spelled so, what is spelled so is read, and which fault it is otherwise
+//! ([`laws`]). Only tested: the layout against bytes that are spelled by hand. Neither: nothing
+//! else is claimed.
 #![tactic(auto)]
 
 mod change;

@@ -1,11 +1,13 @@
 //! The versions of entries: what stands in one of each, and which kinds of change it has.
 
 ghost use Rattle.std.specs.Prelude.{◌≡◌, ◌≤◌};
-ghost use Rattle.sporc_entry.specs.Version.{version_of, names_device, fits_version, has_kind, body_place};
+ghost use Rattle.sporc_entry.specs.Version.{version_of, names_device, fits_version, has_kind};
+ghost use Rattle.sporc_entry.specs.Version.{body_place};
 
 use sporc_member::FIRST_DEVICE;
 
-/// The version of a document's entries up to its Upgrade: an entry names no device, and is by its author's first.
+/// The version of a document's entries up to its Upgrade: an entry names no device, and is by its
+/// author's first.
 pub const FIRST_VERSION: u8 = 1;
 
 /// The version of those after it: an entry names its author's device.
@@ -60,8 +62,8 @@ pub(crate) fn has_kind(version: u8, kind: u8) -> bool
     }
 }
 
-/// The place of the first byte of the body of an entry of this version: its header has 68 bytes, or 69 with a device, and the
-/// length of its body 4.
+/// The place of the first byte of the body of an entry of this version: its header has 68 bytes, or
+/// 69 with a device, and the length of its body 4.
 pub fn body_at(version: u8) -> usize
     ensures value { result ≡ body_place version }
     ensures within { result ≤ 73 }

@@ -7,7 +7,8 @@ ghost use Rattle.sporc_base.specs.Outcome.{GivesUnless};
 ghost use Rattle.sporc_bytes.specs.Fields.{fault_as};
 ghost use Rattle.sporc_entry.specs.ChangeBody.{change_body_from};
 ghost use Rattle.sporc_entry.specs.declared.limits.TheConstants.{MAX_EDIT_BODY, MAX_ENTRY};
-ghost use Rattle.sporc_entry.specs.Entry.{body_limit, body_read, entry_of, entry_bytes, change_of, signed_string, IsEntry};
+ghost use Rattle.sporc_entry.specs.Entry.{body_limit, body_read, entry_of, entry_bytes, change_of};
+ghost use Rattle.sporc_entry.specs.Entry.{signed_string, IsEntry};
 ghost use Rattle.sporc_entry.specs.EntryView.{parts_entry};
 
 use crate::change::{ChangeBody, read_body};
@@ -30,8 +31,8 @@ struct Parts<'a> {
     change: Option<ChangeBody>,
 }
 
-/// An entry read where its bytes stand: its body, its signature and the part that its author signs are slices of the
-/// bytes, and the body of a change is read once.
+/// An entry read where its bytes stand: its body, its signature and the part that its author signs
+/// are slices of the bytes, and the body of a change is read once.
 ///
 /// Contracts see the entry and its bytes.
 #[derive(Drop)]
@@ -45,9 +46,13 @@ impl<'a> Model for EntryView<'a> {
 
     ghost Value = { EntryViewModel };
 
-    ghost view = { λ v. record { entry = parts_entry v.parts.header v.parts.body.now v.parts.signature.now; bytes = v.bytes.now } };
+    ghost view = { λ v. record {
+      entry = parts_entry v.parts.header v.parts.body.now v.parts.signature.now;
+      bytes = v.bytes.now;
+    } };
 
-    ghost invariant = { λ v. EntryViewInvariant (parts_entry v.parts.header v.parts.body.now v.parts.signature.now) v.bytes.now v.parts.change };
+    ghost invariant = { λ v. EntryViewInvariant (parts_entry v.parts.header v.parts.body.now
+        v.parts.signature.now) v.bytes.now v.parts.change };
 }
 
 // How many bytes the body of an entry of this kind may have.
@@ -81,7 +86,8 @@ fn read_kind(alloc: Global, header: &Header, body: &[u8]) -> Result<Option<Chang
 // The fields of the entry that these bytes spell.
 #[tactic(auto, unfolding(crate::specs::Entry::entry_of))]
 fn read_parts<'a>(alloc: Global, bytes: &'a [u8]) -> Result<Parts<'a>, EntryFault>
-    ensures value { GivesUnless EntryFault.Memory (λ p. parts_entry p.header p.body.now p.signature.now) result
+    ensures value { GivesUnless EntryFault.Memory
+        (λ p. parts_entry p.header p.body.now p.signature.now) result
         (fault_as EntryFault.Malformed (entry_of bytes.now)) }
     ensures edit { IfOk result (λ p. p.header.kind ≡ 1 → p.change ≡ None) }
     ensures change { IfOk result (λ p. p.header.kind ≡ 2
@@ -102,13 +108,14 @@ fn read_parts<'a>(alloc: Global, bytes: &'a [u8]) -> Result<Parts<'a>, EntryFaul
 }
 
 impl<'a> EntryView<'a> {
-    /// Reads the entry that these bytes spell. A change's body is read where it stands, which alone takes memory: that
-    /// of its sealed keys.
+    /// Reads the entry that these bytes spell. A change's body is read where it stands, which alone
+    /// takes memory: that of its sealed keys.
     pub fn read(alloc: Global, bytes: &'a [u8]) -> Result<EntryView<'a>, EntryFault>
         ensures value { GivesUnless EntryFault.Memory (λ v. v.entry) result
             (fault_as EntryFault.Malformed (entry_of bytes.entry.now)) }
         ensures bytes { IfOk result (λ v. v.bytes ≡ bytes.entry.now) }
-        ensures found { IfOk result (λ v. IsEntry v.entry × (bytes.entry.now ≡ entry_bytes v.entry)) }
+        ensures found { IfOk result
+            (λ v. IsEntry v.entry × (bytes.entry.now ≡ entry_bytes v.entry)) }
         ensures within { IfOk result (λ _. length bytes.entry.now ≤ MAX_ENTRY) }
     {
         let parts = read_parts(alloc, bytes)?;

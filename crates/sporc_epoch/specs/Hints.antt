@@ -1,6 +1,8 @@
--- The keys of epochs that a history gives to a member whom one of its changes adds. They are hints: nothing here says that
--- the history is a good one.
-use Rattle.std.specs.Prelude.{ℕ, ◌+◌, ◌==◌, Bool, false, not, ◌&&◌, nat_lt, List, [], ◌∷◌, map, reverse, find, take_while, Option, None, Some, is_some, Result, Ok, Err, if◌then◌else◌}
+-- The keys of epochs that a history gives to a member whom one of its changes adds. They are hints:
+-- nothing here says that the history is a good one.
+use Rattle.std.specs.Prelude.{ℕ, ◌+◌, ◌==◌, Bool, false, not, ◌&&◌, nat_lt, List, [], ◌∷◌, map}
+use Rattle.std.specs.Prelude.{reverse, find, take_while, Option, None, Some, is_some, Result, Ok}
+use Rattle.std.specs.Prelude.{Err, if◌then◌else◌}
 use Rattle.std.specs.Str.{bytes_eq}
 use Rattle.std.specs.FinMap.{empty, insert}
 use Rattle.sporc_hash.specs.Chain.{commitment_of}
@@ -26,7 +28,8 @@ adds me _ = false
 
 -- whether a change adds this member, with a wrap for it, and leaves an epoch to start
 abbrev pub joins : ℕ → CommittedChange → Bool
-joins me c = adds me c.body.change && is_some (wrap_for me c.body.wraps) && nat_lt c.header.epoch MAX_EPOCH
+joins me c =
+    adds me c.body.change && is_some (wrap_for me c.body.wraps) && nat_lt c.header.epoch MAX_EPOCH
 
 -- what a change says of the epoch that it starts
 abbrev pub start_by : CommittedChange → EpochStart
@@ -56,18 +59,18 @@ abbrev pub is_committed : EpochStart → ℕ → List ℕ → Bool
 is_committed start epoch key = bytes_eq (commitment_of start.document epoch key) start.commitment
 
 -- a key more, unless there is a fault
-abbrev pub with_key : ℕ → List ℕ → Result (List (ℕ × List ℕ)) HintFault → Result (List (ℕ × List ℕ)) HintFault
+abbrev pub with_key : ℕ → List ℕ → Result (List (ℕ × List ℕ)) HintFault
+    → Result (List (ℕ × List ℕ)) HintFault
 with_key epoch key (Ok keys) = Ok ((epoch, key) ∷ keys)
 with_key epoch key (Err fault) = Err fault
 
--- the keys of the epochs from this one down, of which the first is given: the change that started an epoch is the nearest
--- that ended the one before, and its sealed key opens under the epoch's
+-- the keys of the epochs from this one down, of which the first is given: the change that started
+-- an epoch is the nearest that ended the one before, and its sealed key opens under the epoch's
 unfoldable pub keys_back : ℕ → List ℕ → List EpochStart → Result (List (ℕ × List ℕ)) HintFault
 keys_back epoch key [] = Ok ((epoch, key) ∷ [])
 keys_back epoch key (start ∷ starts) =
-    if is_of start epoch then
-    (if is_committed start epoch key
-    then with_key epoch key (keys_back start.ended (mask_of key (previous_stream epoch) start.previous) starts)
+    if is_of start epoch then (if is_committed start epoch key then with_key epoch key
+    (keys_back start.ended (mask_of key (previous_stream epoch) start.previous) starts)
     else Err (WrongKey epoch))
     else keys_back epoch key starts
 
@@ -86,13 +89,16 @@ ring_of ring (Err fault) = Err fault
 -- the keys back from the epoch that a change starts, if its key was opened
 abbrev pub hints_under : CommittedChange → List EpochStart → Option (List ℕ) → Result Keys HintFault
 hints_under c starts None = Err (NoPairKey c.header.author)
-hints_under c starts (Some key) = ring_of empty (keys_back (c.header.epoch + 1) key (start_by c ∷ starts))
+hints_under c starts (Some key) =
+    ring_of empty (keys_back (c.header.epoch + 1) key (start_by c ∷ starts))
 
 -- the keys back from the change that adds a member, if there is one
 abbrev pub hints_at : ℕ → Keys → List EpochStart → Option CommittedChange → Result Keys HintFault
 hints_at me pairs starts None = Err NotAdded
-hints_at me pairs starts (Some c) = hints_under c starts (wrap_opened c.body c.header.author (stream_of c.header) me pairs)
+hints_at me pairs starts (Some c) =
+    hints_under c starts (wrap_opened c.body c.header.author (stream_of c.header) me pairs)
 
 -- the keys of epochs that a history gives to a member whom it adds
 unfoldable pub hints_of : List (List ℕ) → ℕ → Keys → Result Keys HintFault
-hints_of entries me pairs = hints_at me pairs (starts_before me (changes entries)) (joining me (changes entries))
+hints_of entries me pairs =
+    hints_at me pairs (starts_before me (changes entries)) (joining me (changes entries))

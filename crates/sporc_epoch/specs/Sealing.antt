@@ -1,5 +1,7 @@
--- What a change seals: the key of the epoch that it ends and, for each member after it, the key of the one that it starts.
-use Rattle.std.specs.Prelude.{ℕ, ◌+◌, min, List, Option, None, Some, Result, Ok, Err, is_none, option_map, filter, filter_map, fold}
+-- What a change seals: the key of the epoch that it ends and, for each member after it, the key of
+-- the one that it starts.
+use Rattle.std.specs.Prelude.{ℕ, ◌+◌, min, List, Option, None, Some, Result, Ok, Err, is_none}
+use Rattle.std.specs.Prelude.{option_map, filter, filter_map, fold}
 use Rattle.std.specs.FinMap.{get}
 use Rattle.sporc_hash.specs.Chain.{commitment_of}
 use Rattle.sporc_cipher.specs.Mask.{mask_of}
@@ -11,8 +13,8 @@ use Rattle.sporc_epoch.specs.declared.fault.SealFault.TheVariants.{NoPairKey}
 use Rattle.sporc_epoch.specs.Keys.{Keys}
 use Rattle.sporc_epoch.specs.Streams.{previous_stream}
 
--- a change and the numbers of the members after it; its document, its author and its entry's stream; the epoch that it ends,
--- with its key, and the key of the next
+-- a change and the numbers of the members after it; its document, its author and its entry's
+-- stream; the epoch that it ends, with its key, and the key of the next
 pub record Sealing : Type 0 where
   pub change : Change
   pub members : List ℕ
@@ -25,8 +27,8 @@ pub record Sealing : Type 0 where
 
 -- a key, sealed for a member under the pairwise key with it, where there is one
 abbrev pub wrap_sealed : ℕ → List ℕ → Keys → ℕ → Option Wrap
-wrap_sealed stream key pairs member =
-    option_map (λ pair. record { member = member; sealed = mask_of pair stream key }) (get pairs member)
+wrap_sealed stream key pairs member = option_map
+    (λ pair. record { member = member; sealed = mask_of pair stream key }) (get pairs member)
 
 -- a key, sealed for each of some members
 abbrev pub wraps_sealed : ℕ → List ℕ → Keys → List ℕ → List Wrap

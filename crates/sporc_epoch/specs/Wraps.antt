@@ -15,11 +15,13 @@ wrap_for member wraps = find (λ w. w.member == member) wraps
 abbrev pub opened_under : ℕ → Option (List ℕ) → Wrap → Option (List ℕ)
 opened_under stream pair wrap = option_map (λ key. mask_of key stream wrap.sealed) pair
 
--- the new key of a change, by its author, its entry's stream and a member's pairwise keys, from the first wrap for the member
+-- the new key of a change, by its author, its entry's stream and a member's pairwise keys, from the
+-- first wrap for the member
 unfoldable pub wrap_opened : ChangeBody → ℕ → ℕ → ℕ → Keys → Option (List ℕ)
 wrap_opened body author stream me pairs =
     option_and_then (opened_under stream (get pairs author)) (wrap_for me body.wraps)
 
--- the key of the epoch before this one, which a change ends, under the key of the epoch that it starts
+-- the key of the epoch before this one, which a change ends, under the key of the epoch that it
+-- starts
 unfoldable pub previous_opened : ChangeBody → ℕ → List ℕ → List ℕ
 previous_opened body epoch key = mask_of key (previous_stream epoch) body.previous

@@ -34,7 +34,8 @@ pub enum HintFault {
     /// The member has no pairwise key with the author of that change.
     #[error("no pairwise key with member {0}")]
     NoPairKey(u16),
-    /// The key that was opened for this epoch is not the one that the change which started it committed to.
+    /// The key that was opened for this epoch is not the one that the change which started it
+    /// committed to.
     #[error("the key of epoch {0} is not the one committed to")]
     WrongKey(u32),
     /// Out of memory.

@@ -15,13 +15,15 @@ use crate::streams::{masked, previous_stream, stream_of};
 use crate::wraps::open_wrap_at;
 use std::alloc::Global;
 
-/// The keys of the epochs that the first change to add `me` gives it: it has a wrap for `me`, and its epoch is below
-/// [`MAX_EPOCH`]. The wrap opens to the key of the epoch that the change starts; from there the walk goes back, epoch by
-/// epoch, each by the nearest earlier change that ended the epoch before, and ends where there is none. Entries that are
-/// no changes are passed over, and no signature is verified: the keys are hints, until a history is checked with them.
+/// The keys of the epochs that the first change to add `me` gives it: it has a wrap for `me`, and
+/// its epoch is below [`MAX_EPOCH`]. The wrap opens to the key of the epoch that the change starts;
+/// from there the walk goes back, epoch by epoch, each by the nearest earlier change that ended the
+/// epoch before, and ends where there is none. Entries that are no changes are passed over, and no
+/// signature is verified: the keys are hints, until a history is checked with them.
 ///
-/// NotAdded if there is no such change; NoPairKey if `me` holds no pairwise key with its author; WrongKey with the epoch
-/// of a key that does not meet the commitment of the change that started it.
+/// NotAdded if there is no such change; NoPairKey if `me` holds no pairwise key with its author;
+/// WrongKey with the epoch of a key that does not meet the commitment of the change that started
+/// it.
 #[tactic(auto, unfolding(crate::specs::Hints::hints_of))]
 pub fn hints_from(
     alloc: Global,
@@ -42,8 +44,8 @@ pub fn hints_from(
     }
 }
 
-// The keys of the epochs from this one down, of which the first is given; the starts of epochs stand in the history's
-// order.
+// The keys of the epochs from this one down, of which the first is given; the starts of epochs
+// stand in the history's order.
 fn keys_back(
     alloc: Global,
     mut starts: Vec<EpochStart>,

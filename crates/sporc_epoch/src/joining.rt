@@ -12,7 +12,8 @@ use sporc_entry::{CommittedChange, read_committed};
 use sporc_member::Change;
 use std::alloc::Global;
 
-/// The first change that adds a member, and what the changes up to it say of epochs, in the history's order.
+/// The first change that adds a member, and what the changes up to it say of epochs, in the
+/// history's order.
 #[derive(Drop)]
 pub(crate) struct Joining {
     pub(crate) change: CommittedChange,

@@ -8,8 +8,8 @@ use std::alloc::Global;
 use std::collections::HashMap;
 use std::marker::Model;
 
-/// The keys of epochs, of 32 bytes each, seen as the map from an epoch's number to its key, with how many more keys it
-/// takes without memory.
+/// The keys of epochs, of 32 bytes each, seen as the map from an epoch's number to its key, with
+/// how many more keys it takes without memory.
 #[derive(Drop)]
 pub struct Ring {
     keys: HashMap<u32, [u8; 32]>,

@@ -8,7 +8,8 @@ ghost use Rattle.sporc_member.specs.Device.{first_device};
 ghost use Rattle.sporc_entry.specs.ChangeBody.{kind_of, IsChange, IsChangeBody};
 ghost use Rattle.sporc_entry.specs.Version.{has_kind};
 ghost use Rattle.sporc_epoch.specs.Keys.{pairs_in};
-ghost use Rattle.sporc_epoch.specs.Sealing.{wrap_sealed, wraps_sealed, lesser, least_unpaired, change_sealed};
+ghost use Rattle.sporc_epoch.specs.Sealing.{wrap_sealed, wraps_sealed, lesser, least_unpaired};
+ghost use Rattle.sporc_epoch.specs.Sealing.{change_sealed};
 ghost use Rattle.sporc_epoch.specs.Streams.{entry_stream};
 
 use crate::fault::SealFault;
@@ -20,9 +21,10 @@ use sporc_hash::commit;
 use sporc_member::{Change, Device};
 use std::alloc::Global;
 
-/// The body of a change that ends `epoch`, whose key is `old`, and starts the next, whose key is `new`. It seals the new
-/// key for each of `members`, those after the change, in their order, under the author's pairwise keys; `leaf` is that
-/// of the entry, which the author's first device signs. NoPairKey if there is a member without a pairwise key.
+/// The body of a change that ends `epoch`, whose key is `old`, and starts the next, whose key is
+/// `new`. It seals the new key for each of `members`, those after the change, in their order, under
+/// the author's pairwise keys; `leaf` is that of the entry, which the author's first device signs.
+/// NoPairKey if there is a member without a pairwise key.
 pub fn seal_change(
     alloc: Global,
     change: &Change,
@@ -47,7 +49,8 @@ pub fn seal_change(
       new = new.now;
     }) (pairs_in pairs.now)) }
     // The body has a spelling.
-    ensures spelled { (version : ℕ) → has_kind version (kind_of change.now) ≡ true → IsChange change.now
+    ensures spelled { (version : ℕ) → has_kind version (kind_of change.now) ≡ true
+        → IsChange change.now
         → length members.now ≤ MAX_MEMBERS → IfOk result (IsChangeBody version) }
 {
     let stream = entry_stream(Device::first(author), leaf);
@@ -82,7 +85,8 @@ pub fn seal_change_at(
       new = new.now;
     }) (pairs_in pairs.now)) }
     // The body has a spelling.
-    ensures spelled { (version : ℕ) → has_kind version (kind_of change.now) ≡ true → IsChange change.now
+    ensures spelled { (version : ℕ) → has_kind version (kind_of change.now) ≡ true
+        → IsChange change.now
         → length members.now ≤ MAX_MEMBERS → IfOk result (IsChangeBody version) }
 {
     let _ = author;
@@ -136,7 +140,8 @@ fn seal_wraps(
     key: &[u8; 32],
     pairs: &Pairs,
 ) -> Result<Vec<Wrap>, Memory>
-    ensures value { IfOk result (λ wraps. wraps.items ≡ wraps_sealed stream key.now (pairs_in pairs.now) members.now) }
+    ensures value { IfOk result
+        (λ wraps. wraps.items ≡ wraps_sealed stream key.now (pairs_in pairs.now) members.now) }
 {
     members
         .iter()

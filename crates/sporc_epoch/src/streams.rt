@@ -20,8 +20,9 @@ const DEVICE_STREAMS: u64 = 1 << 32;
 // The number of the first stream that seals the key of an epoch that ended.
 const PREVIOUS_STREAMS: u64 = 1 << 60;
 
-/// The number of the stream of an entry, by the device that signs it and its leaf. It masks the body of an edit under the key
-/// of its epoch, and seals the key of the next epoch under a pairwise key.
+/// The number of the stream of an entry, by the device that signs it and its leaf. It masks the
+/// body of an edit under the key of its epoch, and seals the key of the next epoch under a pairwise
+/// key.
 pub fn entry_stream(device: Device, leaf: u32) -> u64
     ensures value { result ≡ entry_stream device leaf }
 {

@@ -11,9 +11,10 @@ use crate::streams::{entry_stream, masked, previous_stream};
 use sporc_entry::{ChangeBody, Wrap};
 use sporc_member::Device;
 
-/// The key of the epoch that a change starts, by the first wrap for `me`, opened under the pairwise key with the
-/// change's author; `leaf` is that of the entry, which the author's first device signs. None if the change has no wrap for
-/// `me`, or if `me` holds no pairwise key with the author.
+/// The key of the epoch that a change starts, by the first wrap for `me`, opened under the pairwise
+/// key with the change's author; `leaf` is that of the entry, which the author's first device
+/// signs. None if the change has no wrap for `me`, or if `me` holds no pairwise key with the
+/// author.
 pub fn open_wrap(
     body: &ChangeBody,
     author: u16,
@@ -21,7 +22,8 @@ pub fn open_wrap(
     me: u16,
     pairs: &Pairs,
 ) -> Option<[u8; 32]>
-    ensures value { result ≡ wrap_opened body.now author (entry_stream (first_device author) leaf) me (pairs_in pairs.now) }
+    ensures value { result ≡ wrap_opened body.now author
+        (entry_stream (first_device author) leaf) me (pairs_in pairs.now) }
 {
     open_wrap_at(
         body,
@@ -55,7 +57,8 @@ pub(crate) fn wrap_for(wraps: &[Wrap], member: u16) -> Option<Wrap>
     wraps.iter().copied().find(|w| w.member == member)
 }
 
-/// The key of the epoch that a change ends, opened under the key of the one that it starts, whose number is `epoch`.
+/// The key of the epoch that a change ends, opened under the key of the one that it starts, whose
+/// number is `epoch`.
 #[tactic(auto, unfolding(crate::specs::Wraps::previous_opened))]
 pub fn open_previous(body: &ChangeBody, epoch: u32, key: &[u8; 32]) -> [u8; 32]
     ensures value { result ≡ previous_opened body.now epoch key.now }

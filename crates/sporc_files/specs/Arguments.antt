@@ -5,7 +5,8 @@ use Rattle.sporc_head.specs.Refusal.{refusal_name}
 use Rattle.sporc_script.specs.Spelling.{device_text}
 use Rattle.sporc_report.specs.Names.{edit_fault_name, hint_fault_name, open_fault_name}
 use Rattle.sporc_files.specs.declared.argument.Argument.{Argument}
-use Rattle.sporc_files.specs.declared.argument.Argument.TheVariants.{Nothing, Number, Name, Refusal, Hints, Opening, Edit}
+use Rattle.sporc_files.specs.declared.argument.Argument.TheVariants.{Nothing, Number, Name, Refusal}
+use Rattle.sporc_files.specs.declared.argument.Argument.TheVariants.{Hints, Opening, Edit}
 use Rattle.sporc_files.specs.declared.text.Middle.{Middle}
 use Rattle.sporc_files.specs.declared.text.Middle.TheVariants as middles
 use Rattle.sporc_files.specs.declared.text.Text.{Text}
@@ -40,7 +41,8 @@ space_of other = codes " "
 
 -- an argument behind a space
 abbrev pub argument_bytes : FileNames → Argument → List ℕ
-argument_bytes names argument = space_of argument ++ (stem_before names argument ++ argument_text argument)
+argument_bytes names argument =
+    space_of argument ++ (stem_before names argument ++ argument_text argument)
 
 -- up to three arguments
 abbrev pub none : List Argument

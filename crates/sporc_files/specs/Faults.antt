@@ -26,7 +26,8 @@ use Rattle.sporc_files.specs.declared.fault.Fault.TheVariants as faults
 use Rattle.sporc_files.specs.declared.file.File.{File}
 use Rattle.sporc_files.specs.declared.file.File.TheVariants as files
 use Rattle.sporc_files.specs.declared.argument.Argument.{Argument}
-use Rattle.sporc_files.specs.declared.argument.Argument.TheVariants.{Number, Name, Refusal, Hints, Opening, Edit}
+use Rattle.sporc_files.specs.declared.argument.Argument.TheVariants.{Number, Name, Refusal, Hints}
+use Rattle.sporc_files.specs.declared.argument.Argument.TheVariants.{Opening, Edit}
 use Rattle.sporc_files.specs.Arguments.{argument_bytes, none, one, two, three}
 use Rattle.sporc_files.specs.Names.{FileNames}
 
@@ -114,21 +115,26 @@ fault_arguments (faults.Ahead len) = one (Number len)
 
 -- the line of a fault: `fault`, its words, and its arguments, each behind a space
 abbrev pub fault_line : FileNames → Fault → List ℕ
-fault_line names fault = codes "fault " ++ (fault_words fault ++ (flat_map (argument_bytes names) (fault_arguments fault) ++ codes "\n"))
+fault_line names fault = codes "fault " ++ (fault_words fault
+    ++ (flat_map (argument_bytes names) (fault_arguments fault) ++ codes "\n"))
 
 -- the line of a fault was written, or a prefix of it, the sink's count of faults having risen
 pub record WritesFaultLine (out : Use StreamTold) (names : FileNames) (fault : Fault) : Type 0 where
   pub line : AppendsPrefix out.before.written out.after.written (fault_line names fault)
-  pub whole : ¬ (Rose out.before.faults out.after.faults) → Appends out.before.written out.after.written (fault_line names fault)
+  pub whole : ¬ (Rose out.before.faults out.after.faults)
+      → Appends out.before.written out.after.written (fault_line names fault)
 
--- why a call failed if nothing of it can but memory and an object outside, whose count of faults went from `before` to `after`
+-- why a call failed if nothing of it can but memory and an object outside, whose count of faults
+-- went from `before` to `after`
 abbrev pub IsOutsideFault : ℕ → ℕ → Fault → Type 0
 IsOutsideFault before after faults.Memory = Unit {0}
 IsOutsideFault before after faults.Outside = Rose before after
 IsOutsideFault before after fault = ⊥
 
--- an answer is this value or this fault, unless memory ran out, or something outside failed, as `Failed` says
-abbrev pub AnswersUnlessOutside : {X Y : Type 0} → (X → Y) → Type 0 → Result X Fault → Result Y Fault → Type 0
+-- an answer is this value or this fault, unless memory ran out, or something outside failed, as
+-- `Failed` says
+abbrev pub AnswersUnlessOutside : {X Y : Type 0} → (X → Y) → Type 0 → Result X Fault
+    → Result Y Fault → Type 0
 AnswersUnlessOutside view Failed (Ok x) says = says ≡ Ok (view x)
 AnswersUnlessOutside view Failed (Err faults.Memory) says = Unit {0}
 AnswersUnlessOutside view Failed (Err faults.Outside) says = Failed

@@ -23,7 +23,8 @@ names_of_documents documents = record { document = []; others = documents }
 abbrev pub name_of_other : FileNames → ℕ → List ℕ
 name_of_other names number = slice_index_or names.others (number - 1) []
 
--- what a file's name begins with: the document's, unless it is a script, or there are several documents
+-- what a file's name begins with: the document's, unless it is a script, or there are several
+-- documents
 abbrev pub stem_of : FileNames → File → List ℕ
 stem_of names files.Genesis = names.document
 stem_of names (files.Key device) = names.document

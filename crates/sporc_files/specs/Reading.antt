@@ -1,5 +1,6 @@
 -- What a file says.
-use Rattle.std.specs.Prelude.{◌≡◌, ℕ, ◌==◌, ◌≤◌, List, length, find, Bool, true, Option, None, Some, Result, Ok, Err, bytes_eq, if◌then◌else◌}
+use Rattle.std.specs.Prelude.{◌≡◌, ℕ, ◌==◌, ◌≤◌, List, length, find, Bool, true, Option, None, Some}
+use Rattle.std.specs.Prelude.{Result, Ok, Err, bytes_eq, if◌then◌else◌}
 use Rattle.lms_tree.specs.LmsPrivate.{LmsPrivate, lms_public_of}
 use Rattle.lms_tree.specs.declared.public_key.LmsPublic.{LmsPublic}
 use Rattle.lms_tree.specs.LmsPublic.{public_key_bytes}
@@ -49,15 +50,16 @@ founder_with member founders = find (λ f. f.member == member) founders
 
 -- the founder whose key a device has, which is its member's first
 abbrev pub founder_of : Device → List Founder → Option Founder
-founder_of device founders = if device.number == FIRST_DEVICE then founder_with device.member founders else None
+founder_of device founders =
+    if device.number == FIRST_DEVICE then founder_with device.member founders else None
 
 -- a key is that of a founder, if there is one
 abbrev pub is_key_of : Option Founder → LmsPublic → Bool
 is_key_of None key = true
 is_key_of (Some founder) key = bytes_eq founder.key (public_key_bytes key)
 
--- the private key of a device in a document: of a founder's first one any other key than the founder's is forbidden where the
--- member's number stands
+-- the private key of a device in a document: of a founder's first one any other key than the
+-- founder's is forbidden where the member's number stands
 abbrev pub own_key_file : List Founder → Device → List ℕ → Result LmsPrivate ℕ
 own_key_file founders device bytes = do
   key ← key_file device bytes
@@ -66,28 +68,37 @@ own_key_file founders device bytes = do
 -- ---- reading a file
 
 -- told files have a file with this name that says this
-abbrev pub SaysFile : {A : Type 0} → (List ℕ → Result A ℕ) → Option (List NamedFile) → List ℕ → A → Type 0
-SaysFile parse files name a = (bytes : List ℕ) × (length bytes ≤ MAX_FILE) × HasFile files name bytes × (parse bytes ≡ Ok a)
+abbrev pub SaysFile : {A : Type 0} → (List ℕ → Result A ℕ) → Option (List NamedFile) → List ℕ
+    → A → Type 0
+SaysFile parse files name a =
+    (bytes : List ℕ) × (length bytes ≤ MAX_FILE) × HasFile files name bytes × (parse bytes ≡ Ok a)
 
--- why a file says nothing, where the folder's count of faults went from `before` to `after`: memory ran out, a call failed, or of this file
--- it is not there, it is too long, or it is malformed at this place
-abbrev pub IsFileFault : {A : Type 0} → (List ℕ → Result A ℕ) → Option (List NamedFile) → ℕ → ℕ → FileNames → File → Fault → Type 0
+-- why a file says nothing, where the folder's count of faults went from `before` to `after`: memory
+-- ran out, a call failed, or of this file it is not there, it is too long, or it is malformed at
+-- this place
+abbrev pub IsFileFault : {A : Type 0} → (List ℕ → Result A ℕ) → Option (List NamedFile) → ℕ → ℕ
+    → FileNames → File → Fault → Type 0
 IsFileFault parse files before after names file faults.Memory = Unit {0}
 IsFileFault parse files before after names file faults.Outside = Rose before after
-IsFileFault parse files before after names file (faults.Missing other) = (other ≡ file) × HasNoFile files (file_name names file)
-IsFileFault parse files before after names file (faults.TooLong other) = (other ≡ file) × (len : ℕ) × IsTooLong files (file_name names file) len
+IsFileFault parse files before after names file (faults.Missing other) =
+    (other ≡ file) × HasNoFile files (file_name names file)
+IsFileFault parse files before after names file (faults.TooLong other) =
+    (other ≡ file) × (len : ℕ) × IsTooLong files (file_name names file) len
 IsFileFault parse files before after names file (faults.Malformed other at) =
-    (other ≡ file) × (bytes : List ℕ) × (length bytes ≤ MAX_FILE) × HasFile files (file_name names file) bytes × (parse bytes ≡ Err at)
+    (other ≡ file) × (bytes : List ℕ) × (length bytes ≤ MAX_FILE)
+    × HasFile files (file_name names file) bytes × (parse bytes ≡ Err at)
 IsFileFault parse files before after names file fault = ⊥
 
 -- why a file is not handed out to be appended to: memory ran out, a call failed, or it is too long
 abbrev pub IsAppendingFault : Option (List NamedFile) → ℕ → ℕ → FileNames → File → Fault → Type 0
 IsAppendingFault files before after names file faults.Memory = Unit {0}
 IsAppendingFault files before after names file faults.Outside = Rose before after
-IsAppendingFault files before after names file (faults.TooLong other) = (other ≡ file) × (len : ℕ) × IsTooLong files (file_name names file) len
+IsAppendingFault files before after names file (faults.TooLong other) =
+    (other ≡ file) × (len : ℕ) × IsTooLong files (file_name names file) len
 IsAppendingFault files before after names file fault = ⊥
 
 -- what a file that may be missing says: something, or it is not there
-abbrev pub SaysFileIfThere : {A : Type 0} → (List ℕ → Result A ℕ) → Option (List NamedFile) → List ℕ → Option A → Type 0
+abbrev pub SaysFileIfThere : {A : Type 0} → (List ℕ → Result A ℕ) → Option (List NamedFile) → List ℕ
+    → Option A → Type 0
 SaysFileIfThere parse files name None = HasNoFile files name
 SaysFileIfThere parse files name (Some a) = SaysFile parse files name a

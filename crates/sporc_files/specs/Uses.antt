@@ -5,5 +5,5 @@ use Rattle.sporc_outside.specs.Told.{IfBoth}
 
 -- the told names asked for grew by some of these alone
 abbrev pub AsksOnly : List (List ℕ) → Option (List (List ℕ)) → Option (List (List ℕ)) → Type 0
-AsksOnly names before after =
-    IfBoth before after (λ asked more. (new : List (List ℕ)) × (more ≡ asked ++ new) × All (λ name. Contains names name) new)
+AsksOnly names before after = IfBoth before after (λ asked more. (new : List (List ℕ))
+    × (more ≡ asked ++ new) × All (λ name. Contains names name) new)

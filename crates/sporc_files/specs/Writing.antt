@@ -24,12 +24,16 @@ Stores new before after = after ≡ option_map (λ files. with_files files new) 
 -- the first of these were written whole, some or none but not all, and nothing else was written
 abbrev pub StoresFirst : List NamedFile → Option (List NamedFile) → Option (List NamedFile) → Type 0
 StoresFirst [] before after = ⊥
-StoresFirst (f ∷ fs) before after = (after ≡ before) ⊎ StoresFirst fs (option_map (λ files. with_one files f) before) after
+StoresFirst (f ∷ fs) before after =
+    (after ≡ before) ⊎ StoresFirst fs (option_map (λ files. with_one files f) before) after
 
--- some of these, from the first on, were written whole, of the next one anything may stand, and nothing else was written
-abbrev pub StoresPrefix : List NamedFile → Option (List NamedFile) → Option (List NamedFile) → Type 0
+-- some of these, from the first on, were written whole, of the next one anything may stand, and
+-- nothing else was written
+abbrev pub StoresPrefix : List NamedFile → Option (List NamedFile)
+    → Option (List NamedFile) → Type 0
 StoresPrefix [] before after = after ≡ before
-StoresPrefix (f ∷ fs) before after = ChangesFile before after f.name ⊎ StoresPrefix fs (option_map (λ files. with_one files f) before) after
+StoresPrefix (f ∷ fs) before after = ChangesFile before after f.name
+    ⊎ StoresPrefix fs (option_map (λ files. with_one files f) before) after
 
 -- a file of a command with these bytes
 abbrev pub file_with : FileNames → File → List ℕ → NamedFile
@@ -39,7 +43,8 @@ file_with names file bytes = record { name = file_name names file; bytes = bytes
 abbrev pub IsNewFault : Option (List NamedFile) → ℕ → ℕ → FileNames → File → Fault → Type 0
 IsNewFault files before after names file faults.Memory = Unit {0}
 IsNewFault files before after names file faults.Outside = Rose before after
-IsNewFault files before after names file (faults.Exists other) = (other ≡ file) × HasSomeFile files (file_name names file)
+IsNewFault files before after names file (faults.Exists other) =
+    (other ≡ file) × HasSomeFile files (file_name names file)
 IsNewFault files before after names file fault = ⊥
 
 -- what stands of a file that was not written: only if a call failed, anything

@@ -1,6 +1,7 @@
 //! Files that are appended to.
 
-ghost use Rattle.std.specs.Prelude.{◌≡◌, ◌≤◌, [], ◌∷◌, IfOk, IfErr, OnOk, OnErr, option_map, string_bytes};
+ghost use Rattle.std.specs.Prelude.{◌≡◌, ◌≤◌, [], ◌∷◌, IfOk, IfErr, OnOk, OnErr, option_map};
+ghost use Rattle.std.specs.Prelude.{string_bytes};
 ghost use Rattle.sporc_outside.specs.Files.{ChangesFile, IsAppendedTo, made_in};
 ghost use Rattle.sporc_files.specs.Names.{file_name};
 ghost use Rattle.sporc_files.specs.Reading.{IsAppendingFault};
@@ -28,13 +29,18 @@ pub fn append_to_file<F: Folder>(
     names: &Names<'_>,
     file: File,
 ) -> Result<Appended<F::Appended>, Fault>
-    ensures ok { IfOk result (λ it. IsAppendedTo (F.told files.old).files (file_name names.now file) (F.Appended.told it.file).stored) }
-    ensures made { OnOk result ((F.told files.new).files ≡ option_map (λ old. made_in old (file_name names.now file)) (F.told files.old).files) }
+    ensures ok { IfOk result (λ it. IsAppendedTo (F.told files.old).files (file_name names.now file)
+        (F.Appended.told it.file).stored) }
+    ensures made { OnOk result ((F.told files.new).files
+        ≡ option_map (λ old. made_in old (file_name names.now file)) (F.told files.old).files) }
     ensures name { IfOk result (λ it. string_bytes it.name ≡ file_name names.now file) }
-    ensures err { IfErr result (IsAppendingFault (F.told files.old).files (F.told files.old).faults (F.told files.new).faults names.now file) }
-    ensures left { OnErr result (ChangesFile (F.told files.old).files (F.told files.new).files (file_name names.now file)) }
+    ensures err { IfErr result (IsAppendingFault (F.told files.old).files (F.told files.old).faults
+        (F.told files.new).faults names.now file) }
+    ensures left { OnErr result
+        (ChangesFile (F.told files.old).files (F.told files.new).files (file_name names.now file)) }
     ensures lent { (F.told files.new).lent ≡ (F.told files.old).lent }
-    ensures may_ask { AsksOnly (file_name names.now file ∷ []) (F.told files.old).asked (F.told files.new).asked }
+    ensures may_ask { AsksOnly (file_name names.now file ∷ []) (F.told files.old).asked
+        (F.told files.new).asked }
     ensures kept { (F.told files.old).faults ≤ (F.told files.new).faults }
 {
     let name = file.name(alloc, names)?;

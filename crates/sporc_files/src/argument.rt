@@ -5,7 +5,8 @@ ghost use Rattle.std.specs.Io.KnownBytes.{Appends};
 ghost use Rattle.std.specs.List.{flat_map};
 ghost use Rattle.sporc_outside.specs.Counts.{CountsFaults};
 ghost use Rattle.sporc_outside.specs.Writing.{AppendsPrefix};
-ghost use Rattle.sporc_files.specs.Arguments.{argument_bytes, argument_text, space_of, stem_before, text_bytes};
+ghost use Rattle.sporc_files.specs.Arguments.{argument_bytes, argument_text, space_of, stem_before};
+ghost use Rattle.sporc_files.specs.Arguments.{text_bytes};
 
 use crate::fault_names::{edit_fault_text, hint_fault_text, open_fault_text, refusal_text};
 use crate::file::File;
@@ -75,8 +76,10 @@ pub(crate) fn write_arguments<O: Sink>(
     names: &Names<'_>,
     arguments: &[Argument],
 ) -> Result<(), Failed>
-    ensures ok { OnOk result (Appends (O.told out.old).written (O.told out.new).written (flat_map (argument_bytes names.now) arguments.now)) }
-    ensures err { OnErr result (AppendsPrefix (O.told out.old).written (O.told out.new).written (flat_map (argument_bytes names.now) arguments.now)) }
+    ensures ok { OnOk result (Appends (O.told out.old).written (O.told out.new).written
+        (flat_map (argument_bytes names.now) arguments.now)) }
+    ensures err { OnErr result (AppendsPrefix (O.told out.old).written (O.told out.new).written
+        (flat_map (argument_bytes names.now) arguments.now)) }
     ensures count { CountsFaults (O.told out.old).faults (O.told out.new).faults result }
 {
     for argument in arguments {
@@ -87,8 +90,10 @@ pub(crate) fn write_arguments<O: Sink>(
 
 // Writes an argument behind a space.
 fn write_argument<O: Sink>(out: &mut O, names: &Names<'_>, argument: Argument) -> Result<(), Failed>
-    ensures ok { OnOk result (Appends (O.told out.old).written (O.told out.new).written (argument_bytes names.now argument)) }
-    ensures err { OnErr result (AppendsPrefix (O.told out.old).written (O.told out.new).written (argument_bytes names.now argument)) }
+    ensures ok { OnOk result (Appends (O.told out.old).written (O.told out.new).written
+        (argument_bytes names.now argument)) }
+    ensures err { OnErr result (AppendsPrefix (O.told out.old).written (O.told out.new).written
+        (argument_bytes names.now argument)) }
     ensures count { CountsFaults (O.told out.old).faults (O.told out.new).faults result }
 {
     write_all(out, argument.space().as_bytes())?;

@@ -2,7 +2,9 @@
 
 ghost use Rattle.std.specs.Prelude.{◌≡◌};
 ghost use Rattle.sporc_base.specs.Outcome.{Gives};
-ghost use Rattle.sporc_files.specs.Faults.{fault_of_draw, fault_of_hints, fault_of_line, fault_of_saving, fault_of_words, first_fault, unless_stopped};
+ghost use Rattle.sporc_files.specs.Faults.{fault_of_draw, fault_of_hints, fault_of_line};
+ghost use Rattle.sporc_files.specs.Faults.{fault_of_saving, fault_of_words, first_fault};
+ghost use Rattle.sporc_files.specs.Faults.{unless_stopped};
 ghost use Rattle.sporc_files.specs.declared.fault.Fault.TheVariants as faults;
 
 use crate::fault::Fault;
@@ -109,7 +111,8 @@ pub fn stopped(file: File, stop: Stop) -> Result<(), Fault>
     }
 }
 
-/// The first of two faults, but for out of memory at the second: this is told, so that nothing is lost unseen behind another fault.
+/// The first of two faults, but for out of memory at the second: this is told, so that nothing is
+/// lost unseen behind another fault.
 pub fn first_fault(first: Result<(), Fault>, second: Result<(), Fault>) -> Result<(), Fault>
     ensures value { result ≡ first_fault first second }
 {

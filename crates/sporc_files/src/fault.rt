@@ -6,7 +6,8 @@ ghost use Rattle.sporc_outside.specs.Counts.{CountsFaults};
 ghost use Rattle.sporc_outside.specs.Writing.{AppendsPrefix};
 ghost use Rattle.sporc_outside.specs.Uses.{use_of};
 ghost use Rattle.sporc_files.specs.Arguments.{none, one, two};
-ghost use Rattle.sporc_files.specs.Faults.{WritesFaultLine, fault_among, fault_arguments, fault_line, fault_words, status_of};
+ghost use Rattle.sporc_files.specs.Faults.{WritesFaultLine, fault_among, fault_arguments};
+ghost use Rattle.sporc_files.specs.Faults.{fault_line, fault_words, status_of};
 
 use crate::argument::{Argument, Arguments, write_arguments};
 use crate::file::File;
@@ -109,7 +110,8 @@ impl Fault {
         }
     }
 
-    /// The fault of a document's genesis or log as that of one of several documents, counted from 1.
+    /// The fault of a document's genesis or log as that of one of several documents, counted from
+    /// 1.
     pub fn among(self, number: u32) -> Fault
         ensures value { result ≡ fault_among number self }
     {
@@ -131,8 +133,10 @@ impl Fault {
 
     // Writes the line.
     fn write_line<O: Sink>(self, names: &Names<'_>, out: &mut O) -> Result<(), Failed>
-        ensures ok { OnOk result (Appends (O.told out.old).written (O.told out.new).written (fault_line names.now self)) }
-        ensures err { OnErr result (AppendsPrefix (O.told out.old).written (O.told out.new).written (fault_line names.now self)) }
+        ensures ok { OnOk result (Appends (O.told out.old).written (O.told out.new).written
+            (fault_line names.now self)) }
+        ensures err { OnErr result (AppendsPrefix (O.told out.old).written (O.told out.new).written
+            (fault_line names.now self)) }
         ensures count { CountsFaults (O.told out.old).faults (O.told out.new).faults result }
     {
         write_all(out, b"fault ")?;

@@ -16,11 +16,13 @@ use std::alloc::Global;
 pub enum File {
     /// `NAME.genesis`: what the document begins with.
     Genesis,
-    /// `NAME.M.key` of a member's first device, `NAME.M.D.key` of a further one: the key of the device.
+    /// `NAME.M.key` of a member's first device, `NAME.M.D.key` of a further one: the key of the
+    /// device.
     Key(Device),
     /// `NAME.M.leaf`, or `NAME.M.D.leaf`: which leaves of that key are taken.
     Leaf(Device),
-    /// `NAME.M.ring`: the keys that a member has from the beginning, the same for each of its devices.
+    /// `NAME.M.ring`: the keys that a member has from the beginning, the same for each of its
+    /// devices.
     Ring(u16),
     /// `NAME.M.history`, or `NAME.M.D.history`: the history that a device saved.
     History(Device),

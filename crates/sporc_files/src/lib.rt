@@ -1,12 +1,15 @@
-//! What every command of the program has in common: the files of a document, and the program's faults.
+//! What every command of the program has in common: the files of a document, and the program's
+//! faults.
 //!
 //! - [`Names`]: the names of a command's files; [`File`]: one of them.
-//! - [`read_genesis_file`], [`read_key_file`], [`read_own_key`], [`read_ring_file`]: what a file says; [`read_bytes`] and
-//!   [`read_if_there`]: its bytes. [`write_new_file`], [`write_whole_file`]: files are written. [`append_to_file`]: one that is
-//!   appended to, with its name.
-//! - [`Fault`]: why a command did not do all its work, with its exit status and its line. [`stopped`]: that of a history's file
-//!   that is not whole.
-//! - [`open_line`]: the line of a member's device, by what the member's ring file says, or by hints.
+//! - [`read_genesis_file`], [`read_key_file`], [`read_own_key`], [`read_ring_file`]: what a file
+//!   says; [`read_bytes`] and [`read_if_there`]: its bytes. [`write_new_file`],
+//!   [`write_whole_file`]: files are written. [`append_to_file`]: one that is appended to, with its
+//!   name.
+//! - [`Fault`]: why a command did not do all its work, with its exit status and its line.
+//!   [`stopped`]: that of a history's file that is not whole.
+//! - [`open_line`]: the line of a member's device, by what the member's ring file says, or by
+//!   hints.
 //! - `specs/Uses.antt`: a folder and a chance as a call found and left them.
 //!
 //! ```text
@@ -16,10 +19,11 @@
 //! fault.status()                                           // 3
 //! ```
 //!
-//! Proved: names, statuses and lines to the byte, which are written as far as the sink takes them and take no memory; that
-//! different files of a document have different names ([`laws`]); what is read of which file, and which fault is answered; that a call asks for the names of its files alone. Only
-//! tested: that reading and writing succeed with ample memory (`sporc_files_tests`, `sporc_commands_tests`). Neither:
-//! that a real folder keeps what is written.
+//! Proved: names, statuses and lines to the byte, which are written as far as the sink takes them
+//! and take no memory; that different files of a document have different names ([`laws`]); what is
+//! read of which file, and which fault is answered; that a call asks for the names of its files
+//! alone. Only tested: that reading and writing succeed with ample memory (`sporc_files_tests`,
+//! `sporc_commands_tests`). Neither: that a real folder keeps what is written.
 #![tactic(auto)]
 
 mod appending;

@@ -1,14 +1,15 @@
 //! The names of a command's files.
 
 ghost use Rattle.std.specs.Prelude.{◌≡◌, ◌-◌};
-ghost use Rattle.sporc_files.specs.Names.{name_of_other, names_of_document, names_of_documents, stem_of};
+ghost use Rattle.sporc_files.specs.Names.{name_of_other, names_of_document, names_of_documents};
+ghost use Rattle.sporc_files.specs.Names.{stem_of};
 
 use crate::file::File;
 use sporc_words::Word;
 use std::marker::Model;
 
-/// What a command's files are named by: the name of its document, and the words that name its editor scripts, or several
-/// documents.
+/// What a command's files are named by: the name of its document, and the words that name its
+/// editor scripts, or several documents.
 #[derive(Drop)]
 pub struct Names<'a> {
     document: &'a str,
@@ -61,7 +62,8 @@ impl<'a> Names<'a> {
         }
     }
 
-    /// What the name of a file begins with: the name of the document, unless it is a script, or there are several documents.
+    /// What the name of a file begins with: the name of the document, unless it is a script, or
+    /// there are several documents.
     pub fn stem(&self, file: File) -> &'a str
         ensures value { result.now ≡ stem_of self.now file }
     {

@@ -16,8 +16,9 @@ use sporc_line::Line;
 use sporc_member::Device;
 use std::alloc::Global;
 
-/// The empty line of a member's device, by what the member's ring file says: a founder's has the key of epoch 0. A joiner's has
-/// none, and then the keys are the hints that these entries give the member.
+/// The empty line of a member's device, by what the member's ring file says: a founder's has the
+/// key of epoch 0. A joiner's has none, and then the keys are the hints that these entries give the
+/// member.
 pub fn open_line(
     alloc: Global,
     genesis: Genesis,
@@ -26,7 +27,8 @@ pub fn open_line(
     entries: &[Vec<u8>],
 ) -> Result<Line, Fault>
     requires genesis { IsGenesis genesis }
-    ensures kit { AnswersUnlessOutside (λ line. line.kit) ⊥ result (kit_by genesis device ring.now (map (λ e. e.items) entries.now)) }
+    ensures kit { AnswersUnlessOutside (λ line. line.kit) ⊥ result
+        (kit_by genesis device ring.now (map (λ e. e.items) entries.now)) }
     ensures genesis { IfOk result (λ line. line.genesis ≡ genesis) }
     ensures empty { IfOk result (λ line. line.entries ≡ []) }
 {
@@ -43,7 +45,8 @@ fn keys_by(
     pairs: &Pairs,
     entries: &[Vec<u8>],
 ) -> Result<Ring, Fault>
-    ensures value { AnswersUnlessOutside (λ keys. keys.keys) ⊥ result (keys_by ring.now.epoch_key member (pairs_in pairs.now) (map (λ e. e.items) entries.now)) }
+    ensures value { AnswersUnlessOutside (λ keys. keys.keys) ⊥ result
+        (keys_by ring.now.epoch_key member (pairs_in pairs.now) (map (λ e. e.items) entries.now)) }
 {
     match ring.epoch_key {
         Some(_) => {
@@ -56,7 +59,8 @@ fn keys_by(
 
 // The hints of a joiner.
 fn hints_of(alloc: Global, member: u16, pairs: &Pairs, entries: &[Vec<u8>]) -> Result<Ring, Fault>
-    ensures value { AnswersUnlessOutside (λ keys. keys.keys) ⊥ result (fault_as fault_of_hints (hints_of (map (λ e. e.items) entries.now) member (pairs_in pairs.now))) }
+    ensures value { AnswersUnlessOutside (λ keys. keys.keys) ⊥ result (fault_as fault_of_hints
+        (hints_of (map (λ e. e.items) entries.now) member (pairs_in pairs.now))) }
 {
     match hints_from(alloc, entries, member, pairs) {
         Ok(hints) => Ok(hints),
@@ -73,7 +77,8 @@ fn open_with(
     pairs: Pairs,
 ) -> Result<Line, Fault>
     requires genesis { IsGenesis genesis }
-    ensures kit { AnswersUnlessOutside (λ line. line.kit) ⊥ result (kit_with genesis device (pairs_in pairs) keys.keys) }
+    ensures kit { AnswersUnlessOutside (λ line. line.kit) ⊥ result
+        (kit_with genesis device (pairs_in pairs) keys.keys) }
     ensures genesis { IfOk result (λ line. line.genesis ≡ genesis) }
     ensures empty { IfOk result (λ line. line.entries ≡ []) }
 {

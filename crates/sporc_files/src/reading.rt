@@ -9,7 +9,9 @@ ghost use Rattle.sporc_keys.specs.RingFile.{IsRingFile, ring_file_of_member};
 ghost use Rattle.sporc_files.specs.declared.file.File.{File};
 ghost use Rattle.sporc_files.specs.Faults.{fault_of_file};
 ghost use Rattle.sporc_files.specs.Names.{file_name};
-ghost use Rattle.sporc_files.specs.Reading.{IsFileFault, SaysFile, SaysFileIfThere, any_bytes, founder_of, founder_with, genesis_file, is_key_of, key_file, own_key_file};
+ghost use Rattle.sporc_files.specs.Reading.{IsFileFault, SaysFile, SaysFileIfThere, any_bytes};
+ghost use Rattle.sporc_files.specs.Reading.{founder_of, founder_with, genesis_file, is_key_of};
+ghost use Rattle.sporc_files.specs.Reading.{key_file, own_key_file};
 ghost use Rattle.sporc_files.specs.Uses.{AsksOnly};
 
 use crate::fault::Fault;
@@ -44,11 +46,14 @@ pub fn read_bytes<F: Folder>(
     names: &Names<'_>,
     file: File,
 ) -> Result<Vec<u8>, Fault>
-    ensures ok { IfOk result (λ bytes. SaysFile any_bytes (F.told files.old).files (file_name names.now file) bytes.items) }
-    ensures err { IfErr result (IsFileFault any_bytes (F.told files.old).files (F.told files.old).faults (F.told files.new).faults names.now file) }
+    ensures ok { IfOk result (λ bytes. SaysFile any_bytes (F.told files.old).files
+        (file_name names.now file) bytes.items) }
+    ensures err { IfErr result (IsFileFault any_bytes (F.told files.old).files
+        (F.told files.old).faults (F.told files.new).faults names.now file) }
     ensures files { (F.told files.new).files ≡ (F.told files.old).files }
     ensures lent { (F.told files.new).lent ≡ (F.told files.old).lent }
-    ensures may_ask { AsksOnly (file_name names.now file ∷ []) (F.told files.old).asked (F.told files.new).asked }
+    ensures may_ask { AsksOnly (file_name names.now file ∷ []) (F.told files.old).asked
+        (F.told files.new).asked }
     ensures kept { (F.told files.old).faults ≤ (F.told files.new).faults }
 {
     let name = file.name(alloc, names)?;
@@ -65,12 +70,15 @@ pub fn read_if_there<F: Folder>(
     names: &Names<'_>,
     file: File,
 ) -> Result<Option<Vec<u8>>, Fault>
-    ensures ok { IfOk result (λ found. SaysFileIfThere any_bytes (F.told files.old).files (file_name names.now file) (option_map (λ bytes. bytes.items) found)) }
-    ensures err { IfErr result (IsFileFault any_bytes (F.told files.old).files (F.told files.old).faults (F.told files.new).faults names.now file) }
+    ensures ok { IfOk result (λ found. SaysFileIfThere any_bytes (F.told files.old).files
+        (file_name names.now file) (option_map (λ bytes. bytes.items) found)) }
+    ensures err { IfErr result (IsFileFault any_bytes (F.told files.old).files
+        (F.told files.old).faults (F.told files.new).faults names.now file) }
     ensures there { (other : File) → result ≢ Err (Fault.Missing other) }
     ensures files { (F.told files.new).files ≡ (F.told files.old).files }
     ensures lent { (F.told files.new).lent ≡ (F.told files.old).lent }
-    ensures may_ask { AsksOnly (file_name names.now file ∷ []) (F.told files.old).asked (F.told files.new).asked }
+    ensures may_ask { AsksOnly (file_name names.now file ∷ []) (F.told files.old).asked
+        (F.told files.new).asked }
     ensures kept { (F.told files.old).faults ≤ (F.told files.new).faults }
 {
     match read_bytes(alloc, files, names, file) {
@@ -80,18 +88,22 @@ pub fn read_if_there<F: Folder>(
     }
 }
 
-/// What the document begins with. A genesis without an admin, or with a key of no known type, is malformed at 0.
+/// What the document begins with. A genesis without an admin, or with a key of no known type, is
+/// malformed at 0.
 pub fn read_genesis_file<F: Folder>(
     alloc: Global,
     files: &mut F,
     names: &Names<'_>,
 ) -> Result<Genesis, Fault>
-    ensures ok { IfOk result (SaysFile genesis_file (F.told files.old).files (file_name names.now File.Genesis)) }
+    ensures ok { IfOk result
+        (SaysFile genesis_file (F.told files.old).files (file_name names.now File.Genesis)) }
     ensures genesis { IfOk result IsGenesis }
-    ensures err { IfErr result (IsFileFault genesis_file (F.told files.old).files (F.told files.old).faults (F.told files.new).faults names.now File.Genesis) }
+    ensures err { IfErr result (IsFileFault genesis_file (F.told files.old).files
+        (F.told files.old).faults (F.told files.new).faults names.now File.Genesis) }
     ensures files { (F.told files.new).files ≡ (F.told files.old).files }
     ensures lent { (F.told files.new).lent ≡ (F.told files.old).lent }
-    ensures may_ask { AsksOnly (file_name names.now File.Genesis ∷ []) (F.told files.old).asked (F.told files.new).asked }
+    ensures may_ask { AsksOnly (file_name names.now File.Genesis ∷ []) (F.told files.old).asked
+        (F.told files.new).asked }
     ensures kept { (F.told files.old).faults ≤ (F.told files.new).faults }
 {
     let bytes = read_bytes(alloc, files, names, File::Genesis)?;
@@ -105,8 +117,8 @@ pub fn read_genesis_file<F: Folder>(
     }
 }
 
-/// The private key of a device, with its tree, which takes as long as building it. The file of another device is malformed,
-/// as [`key_of_device`] says.
+/// The private key of a device, with its tree, which takes as long as building it. The file of
+/// another device is malformed, as [`key_of_device`] says.
 pub fn read_key_file<R: Threads + Sync, F: Folder>(
     rt: &R,
     alloc: Global,
@@ -114,13 +126,16 @@ pub fn read_key_file<R: Threads + Sync, F: Folder>(
     names: &Names<'_>,
     device: Device,
 ) -> Result<Tree, Fault>
-    ensures ok { IfOk result (SaysFile (key_file device) (F.told files.old).files (file_name names.now (File.Key device))) }
+    ensures ok { IfOk result (SaysFile (key_file device) (F.told files.old).files
+        (file_name names.now (File.Key device))) }
     ensures height { IfOk result (λ key. IsLeafHeight (height_of key.lms)) }
     ensures width { IfOk result (λ key. IsKeyWidth key.ots) }
-    ensures err { IfErr result (IsFileFault (key_file device) (F.told files.old).files (F.told files.old).faults (F.told files.new).faults names.now (File.Key device)) }
+    ensures err { IfErr result (IsFileFault (key_file device) (F.told files.old).files
+        (F.told files.old).faults (F.told files.new).faults names.now (File.Key device)) }
     ensures files { (F.told files.new).files ≡ (F.told files.old).files }
     ensures lent { (F.told files.new).lent ≡ (F.told files.old).lent }
-    ensures may_ask { AsksOnly (file_name names.now (File.Key device) ∷ []) (F.told files.old).asked (F.told files.new).asked }
+    ensures may_ask { AsksOnly (file_name names.now (File.Key device) ∷ []) (F.told files.old).asked
+        (F.told files.new).asked }
     ensures kept { (F.told files.old).faults ≤ (F.told files.new).faults }
 {
     let bytes = read_bytes(alloc, files, names, File::Key(device))?;
@@ -133,9 +148,9 @@ pub fn read_key_file<R: Threads + Sync, F: Folder>(
     }
 }
 
-/// The private key of a device in a document, with its tree. The file of another device is malformed, as [`key_of_device`]
-/// says; that of a founder's first device with another key than the founder's is malformed at 4. The genesis says nothing of
-/// a further device's key.
+/// The private key of a device in a document, with its tree. The file of another device is
+/// malformed, as [`key_of_device`] says; that of a founder's first device with another key than the
+/// founder's is malformed at 4. The genesis says nothing of a further device's key.
 pub fn read_own_key<R: Threads + Sync, F: Folder>(
     rt: &R,
     alloc: Global,
@@ -144,13 +159,17 @@ pub fn read_own_key<R: Threads + Sync, F: Folder>(
     device: Device,
     genesis: &Genesis,
 ) -> Result<Tree, Fault>
-    ensures ok { IfOk result (SaysFile (own_key_file genesis.now.founders device) (F.told files.old).files (file_name names.now (File.Key device))) }
+    ensures ok { IfOk result (SaysFile (own_key_file genesis.now.founders device)
+        (F.told files.old).files (file_name names.now (File.Key device))) }
     ensures height { IfOk result (λ key. IsLeafHeight (height_of key.lms)) }
     ensures width { IfOk result (λ key. IsKeyWidth key.ots) }
-    ensures err { IfErr result (IsFileFault (own_key_file genesis.now.founders device) (F.told files.old).files (F.told files.old).faults (F.told files.new).faults names.now (File.Key device)) }
+    ensures err { IfErr result
+        (IsFileFault (own_key_file genesis.now.founders device) (F.told files.old).files
+        (F.told files.old).faults (F.told files.new).faults names.now (File.Key device)) }
     ensures files { (F.told files.new).files ≡ (F.told files.old).files }
     ensures lent { (F.told files.new).lent ≡ (F.told files.old).lent }
-    ensures may_ask { AsksOnly (file_name names.now (File.Key device) ∷ []) (F.told files.old).asked (F.told files.new).asked }
+    ensures may_ask { AsksOnly (file_name names.now (File.Key device) ∷ []) (F.told files.old).asked
+        (F.told files.new).asked }
     ensures kept { (F.told files.old).faults ≤ (F.told files.new).faults }
 {
     let tree = read_key_file(rt, alloc, files, names, device)?;
@@ -196,12 +215,15 @@ pub fn read_ring_file<F: Folder>(
     names: &Names<'_>,
     member: u16,
 ) -> Result<RingFile, Fault>
-    ensures ok { IfOk result (SaysFile (ring_file_of_member member) (F.told files.old).files (file_name names.now (File.Ring member))) }
+    ensures ok { IfOk result (SaysFile (ring_file_of_member member) (F.told files.old).files
+        (file_name names.now (File.Ring member))) }
     ensures ring { IfOk result IsRingFile }
-    ensures err { IfErr result (IsFileFault (ring_file_of_member member) (F.told files.old).files (F.told files.old).faults (F.told files.new).faults names.now (File.Ring member)) }
+    ensures err { IfErr result (IsFileFault (ring_file_of_member member) (F.told files.old).files
+        (F.told files.old).faults (F.told files.new).faults names.now (File.Ring member)) }
     ensures files { (F.told files.new).files ≡ (F.told files.old).files }
     ensures lent { (F.told files.new).lent ≡ (F.told files.old).lent }
-    ensures may_ask { AsksOnly (file_name names.now (File.Ring member) ∷ []) (F.told files.old).asked (F.told files.new).asked }
+    ensures may_ask { AsksOnly (file_name names.now (File.Ring member) ∷ [])
+        (F.told files.old).asked (F.told files.new).asked }
     ensures kept { (F.told files.old).faults ≤ (F.told files.new).faults }
 {
     let bytes = read_bytes(alloc, files, names, File::Ring(member))?;

@@ -77,7 +77,8 @@ pub(crate) fn push_text(string: &mut String, text: Text) -> Result<(), Memory>
 
 // Appends a number or a device.
 fn push_middle(string: &mut String, middle: Middle) -> Result<(), Memory>
-    ensures { OnOk result (string_bytes string.new ≡ string_bytes string.old ++ middle_bytes middle) }
+    ensures { OnOk result
+        (string_bytes string.new ≡ string_bytes string.old ++ middle_bytes middle) }
 {
     match middle {
         Middle::Nothing => Ok(()),
@@ -88,8 +89,10 @@ fn push_middle(string: &mut String, middle: Middle) -> Result<(), Memory>
 
 // Writes a text.
 pub(crate) fn write_text<O: Sink>(out: &mut O, text: Text) -> Result<(), Failed>
-    ensures ok { OnOk result (Appends (O.told out.old).written (O.told out.new).written (text_bytes text)) }
-    ensures err { OnErr result (AppendsPrefix (O.told out.old).written (O.told out.new).written (text_bytes text)) }
+    ensures ok { OnOk result
+        (Appends (O.told out.old).written (O.told out.new).written (text_bytes text)) }
+    ensures err { OnErr result
+        (AppendsPrefix (O.told out.old).written (O.told out.new).written (text_bytes text)) }
     ensures count { CountsFaults (O.told out.old).faults (O.told out.new).faults result }
 {
     write_all(out, text.before.as_bytes())?;
@@ -99,8 +102,10 @@ pub(crate) fn write_text<O: Sink>(out: &mut O, text: Text) -> Result<(), Failed>
 
 // Writes a number or a device.
 fn write_middle<O: Sink>(out: &mut O, middle: Middle) -> Result<(), Failed>
-    ensures ok { OnOk result (Appends (O.told out.old).written (O.told out.new).written (middle_bytes middle)) }
-    ensures err { OnErr result (AppendsPrefix (O.told out.old).written (O.told out.new).written (middle_bytes middle)) }
+    ensures ok { OnOk result
+        (Appends (O.told out.old).written (O.told out.new).written (middle_bytes middle)) }
+    ensures err { OnErr result
+        (AppendsPrefix (O.told out.old).written (O.told out.new).written (middle_bytes middle)) }
     ensures count { CountsFaults (O.told out.old).faults (O.told out.new).faults result }
 {
     match middle {
@@ -112,8 +117,10 @@ fn write_middle<O: Sink>(out: &mut O, middle: Middle) -> Result<(), Failed>
 
 // Writes a number.
 fn write_number<O: Sink>(out: &mut O, number: u64) -> Result<(), Failed>
-    ensures ok { OnOk result (Appends (O.told out.old).written (O.told out.new).written (decimal number)) }
-    ensures err { OnErr result (AppendsPrefix (O.told out.old).written (O.told out.new).written (decimal number)) }
+    ensures ok { OnOk result
+        (Appends (O.told out.old).written (O.told out.new).written (decimal number)) }
+    ensures err { OnErr result
+        (AppendsPrefix (O.told out.old).written (O.told out.new).written (decimal number)) }
     ensures count { CountsFaults (O.told out.old).faults (O.told out.new).faults result }
 {
     let mut digits = Buffer::new();
@@ -122,8 +129,10 @@ fn write_number<O: Sink>(out: &mut O, number: u64) -> Result<(), Failed>
 
 // Writes a device.
 fn write_device<O: Sink>(out: &mut O, device: Device) -> Result<(), Failed>
-    ensures ok { OnOk result (Appends (O.told out.old).written (O.told out.new).written (device_text device)) }
-    ensures err { OnErr result (AppendsPrefix (O.told out.old).written (O.told out.new).written (device_text device)) }
+    ensures ok { OnOk result
+        (Appends (O.told out.old).written (O.told out.new).written (device_text device)) }
+    ensures err { OnErr result
+        (AppendsPrefix (O.told out.old).written (O.told out.new).written (device_text device)) }
     ensures count { CountsFaults (O.told out.old).faults (O.told out.new).faults result }
 {
     write_number(out, u64::from(device.member))?;

@@ -23,11 +23,15 @@ pub fn write_new_file<F: Folder>(
     bytes: &[u8],
 ) -> Result<(), Fault>
     ensures was_new { OnOk result (HasNoFile (F.told files.old).files (file_name names.now file)) }
-    ensures ok { OnOk result (Stores (file_with names.now file bytes.now ∷ []) (F.told files.old).files (F.told files.new).files) }
-    ensures err { IfErr result (IsNewFault (F.told files.old).files (F.told files.old).faults (F.told files.new).faults names.now file) }
-    ensures left { IfErr result (LeavesFile (file_name names.now file) (F.told files.old).files (F.told files.new).files) }
+    ensures ok { OnOk result (Stores (file_with names.now file bytes.now ∷ [])
+        (F.told files.old).files (F.told files.new).files) }
+    ensures err { IfErr result (IsNewFault (F.told files.old).files (F.told files.old).faults
+        (F.told files.new).faults names.now file) }
+    ensures left { IfErr result
+        (LeavesFile (file_name names.now file) (F.told files.old).files (F.told files.new).files) }
     ensures lent { (F.told files.new).lent ≡ (F.told files.old).lent }
-    ensures may_ask { AsksOnly (file_name names.now file ∷ []) (F.told files.old).asked (F.told files.new).asked }
+    ensures may_ask { AsksOnly (file_name names.now file ∷ []) (F.told files.old).asked
+        (F.told files.new).asked }
     ensures kept { (F.told files.old).faults ≤ (F.told files.new).faults }
 {
     let name = file.name(alloc, names)?;
@@ -45,11 +49,15 @@ pub fn write_whole_file<F: Folder>(
     file: File,
     bytes: &[u8],
 ) -> Result<(), Fault>
-    ensures ok { OnOk result (Stores (file_with names.now file bytes.now ∷ []) (F.told files.old).files (F.told files.new).files) }
-    ensures err { IfErr result (IsOutsideFault (F.told files.old).faults (F.told files.new).faults) }
-    ensures left { IfErr result (LeavesFile (file_name names.now file) (F.told files.old).files (F.told files.new).files) }
+    ensures ok { OnOk result (Stores (file_with names.now file bytes.now ∷ [])
+        (F.told files.old).files (F.told files.new).files) }
+    ensures err { IfErr result
+        (IsOutsideFault (F.told files.old).faults (F.told files.new).faults) }
+    ensures left { IfErr result
+        (LeavesFile (file_name names.now file) (F.told files.old).files (F.told files.new).files) }
     ensures lent { (F.told files.new).lent ≡ (F.told files.old).lent }
-    ensures may_ask { AsksOnly (file_name names.now file ∷ []) (F.told files.old).asked (F.told files.new).asked }
+    ensures may_ask { AsksOnly (file_name names.now file ∷ []) (F.told files.old).asked
+        (F.told files.new).asked }
     ensures kept { (F.told files.old).faults ≤ (F.told files.new).faults }
 {
     let name = file.name(alloc, names)?;

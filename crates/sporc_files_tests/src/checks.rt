@@ -1,5 +1,5 @@
-//! What stops a test. An assertion is proved anew wherever it stands, so each stands here once, but for those whose condition
-//! a call requires.
+//! What stops a test. An assertion is proved anew wherever it stands, so each stands here once, but
+//! for those whose condition a call requires.
 
 use sporc_base::is_same;
 use sporc_files::Fault;

@@ -30,8 +30,8 @@ pub fn add_file(
     files.push(file).expect(rt, "memory");
 }
 
-/// An empty sink that takes seven bytes in one call, none of which fails, in a box: a function that owns it itself is slow to
-/// prove.
+/// An empty sink that takes seven bytes in one call, none of which fails, in a box: a function that
+/// owns it itself is slow to prove.
 pub fn empty_sink(rt: &impl Abort, alloc: Global) -> Box<MemorySink> {
     let sink = MemorySink::new(alloc, 7, Calls::failing(Vec::new(alloc)));
     Box::new(alloc, sink).expect(rt, "memory")

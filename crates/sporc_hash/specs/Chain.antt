@@ -1,5 +1,5 @@
--- The hash chain of a history and the commitments to keys. `sha256` is SHA-256 of FIPS 180-4. A history is the list
--- of its entries' bytes, oldest first.
+-- The hash chain of a history and the commitments to keys. `sha256` is SHA-256 of FIPS 180-4. A
+-- history is the list of its entries' bytes, oldest first.
 use Rattle.std.specs.Prelude.{ℕ, List, [], ◌∷◌, ◌++◌}
 use Rattle.std.specs.Int.{w32, to_be_bytes}
 use Rattle.sha2.specs.Sha256.{sha256}

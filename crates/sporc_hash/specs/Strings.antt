@@ -1,7 +1,8 @@
 -- Every string that is hashed for a history, and when no two of them collide.
 use Rattle.std.specs.Prelude.{◌≡◌, ℕ, suc, zero, List, [], ◌∷◌, ◌++◌, Option, None, Some, Contains}
 use Rattle.sha2.specs.Sha256.{sha256}
-use Rattle.sporc_hash.specs.Chain.{genesis_string, genesis_value, entry_string, link_string, next_value, commitment_string}
+use Rattle.sporc_hash.specs.Chain.{genesis_string, genesis_value, entry_string, link_string}
+use Rattle.sporc_hash.specs.Chain.{next_value, commitment_string}
 
 -- both strings of each entry, from a first value on
 abbrev pub entry_strings : List ℕ → List (List ℕ) → List (List ℕ)

@@ -13,7 +13,8 @@ TipIsIn a b = (length a < length b) × (slice_get a (length a - 1) ≡ slice_get
 
 -- both have one value after k entries, and different values after one entry more
 abbrev pub DivergesAfter : List (List ℕ) → List (List ℕ) → ℕ → Type 0
-DivergesAfter a b k = (k + 1 < length a) × (k + 1 < length b) × (slice_get a k ≡ slice_get b k) × (slice_get a (k + 1) ≢ slice_get b (k + 1))
+DivergesAfter a b k = (k + 1 < length a) × (k + 1 < length b) × (slice_get a k ≡ slice_get b k)
+    × (slice_get a (k + 1) ≢ slice_get b (k + 1))
 
 -- a fact of the number of common entries, where the verdict has one
 abbrev pub IfForked : Verdict → (ℕ → Type 0) → Type 0
@@ -22,9 +23,11 @@ IfForked Same P = ⊤
 IfForked Prefix P = ⊤
 IfForked Longer P = ⊤
 
--- the verdict on two histories: they are equal, one is a prefix of the other, or the first k entries are equal and no more
+-- the verdict on two histories: they are equal, one is a prefix of the other, or the first k
+-- entries are equal and no more
 abbrev pub IsVerdictOn : {X : Type 0} → List X → List X → Verdict → Type 0
 IsVerdictOn x y Same = x ≡ y
 IsVerdictOn x y Prefix = (length x < length y) × (x ≡ take (length x) y)
 IsVerdictOn x y Longer = (length y < length x) × (y ≡ take (length y) x)
-IsVerdictOn x y (ForkedAfter k) = (k < length x) × (k < length y) × (take k x ≡ take k y) × (take (k + 1) x ≢ take (k + 1) y)
+IsVerdictOn x y (ForkedAfter k) =
+    (k < length x) × (k < length y) × (take k x ≡ take k y) × (take (k + 1) x ≢ take (k + 1) y)

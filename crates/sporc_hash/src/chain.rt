@@ -18,7 +18,8 @@ pub fn genesis_hash(genesis: &[u8]) -> Digest32
     hasher.finalize()
 }
 
-/// The value of the chain after `entry`, the bytes of a whole entry, where the value before it is `prev`.
+/// The value of the chain after `entry`, the bytes of a whole entry, where the value before it is
+/// `prev`.
 pub fn next_hash(prev: &Digest32, entry: &[u8]) -> Digest32
     ensures value { result ≡ next_value prev.now entry.now }
 {

@@ -20,10 +20,12 @@ pub enum Verdict {
     ForkedAfter(usize),
 }
 
-/// Compares two histories of one genesis by their chains, each the values before its first entry and after each one.
+/// Compares two histories of one genesis by their chains, each the values before its first entry
+/// and after each one.
 ///
-/// It looks at few of the values: the chains of different histories, once apart, stay apart unless two different strings
-/// have one digest. If two do, `ForkedAfter` names one of the places at which the chains part.
+/// It looks at few of the values: the chains of different histories, once apart, stay apart unless
+/// two different strings have one digest. If two do, `ForkedAfter` names one of the places at which
+/// the chains part.
 pub fn compare(a: &[Digest32], b: &[Digest32]) -> Verdict
     requires positive { 0 < length a.now }
     requires one_genesis { slice_get a.now 0 ≡ slice_get b.now 0 }
@@ -35,8 +37,10 @@ pub fn compare(a: &[Digest32], b: &[Digest32]) -> Verdict
     ensures forked { IfForked result (DivergesAfter a.now b.now) }
 
     // For the chains of two histories, if no two different strings hashed for them have one digest.
-    ensures histories { (genesis : List ℕ) (x y : List (List ℕ)) → a.now ≡ chain genesis x → b.now ≡ chain genesis y
-        → CollisionFree (chain_strings genesis x ++ chain_strings genesis y) → IsVerdictOn x y result }
+    ensures histories { (genesis : List ℕ) (x y : List (List ℕ)) → a.now ≡ chain genesis x
+        → b.now ≡ chain genesis y
+        → CollisionFree (chain_strings genesis x ++ chain_strings genesis y)
+        → IsVerdictOn x y result }
 {
     let last = a.len().min(b.len()) - 1;
     if !agree_at(a, b, last) {
@@ -60,8 +64,8 @@ fn agree_at(a: &[Digest32], b: &[Digest32], at: usize) -> bool
     a[at] == b[at]
 }
 
-// After how many entries two chains part, found by halves between a place at which they agree and one at which they
-// don't.
+// After how many entries two chains part, found by halves between a place at which they agree and
+// one at which they don't.
 fn common_entries(a: &[Digest32], b: &[Digest32], last: usize) -> usize
     requires a_in_bounds { last < length a.now }
     requires b_in_bounds { last < length b.now }

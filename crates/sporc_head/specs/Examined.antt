@@ -35,6 +35,7 @@ abbrev pub key_at : Roster → Option Header → Option (List ℕ)
 key_at roster None = None
 key_at roster (Some h) = key_of roster (author_device h)
 
--- the key that the check of an entry's signature uses: None if the bytes are no entry, or its author has no such live device
+-- the key that the check of an entry's signature uses: None if the bytes are no entry, or its
+-- author has no such live device
 unfoldable pub key_for : Roster → List ℕ → Option (List ℕ)
 key_for roster bytes = key_at roster (header_in bytes)

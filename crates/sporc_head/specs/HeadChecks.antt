@@ -1,5 +1,7 @@
 -- The checks of an entry that need no key of an epoch, over the whole history before it.
-use Rattle.std.specs.Prelude.{Result, Ok, Err, ℕ, ◌+◌, ◌==◌, nat_le, nat_lt, Bool, true, false, not, ◌&&◌, List, [], ◌∷◌, ◌++◌, length, take, map, Option, None, Some, is_some}
+use Rattle.std.specs.Prelude.{Result, Ok, Err, ℕ, ◌+◌, ◌==◌, nat_le, nat_lt, Bool, true, false, not}
+use Rattle.std.specs.Prelude.{◌&&◌, List, [], ◌∷◌, ◌++◌, length, take, map, Option, None, Some}
+use Rattle.std.specs.Prelude.{is_some}
 use Rattle.std.specs.Str.{bytes_eq}
 use Rattle.lms_tree.specs.declared.public_key.LmsPublic.{LmsPublic}
 use Rattle.lms_tree.specs.LmsPublic.{public_key_in}
@@ -10,7 +12,8 @@ use Rattle.sporc_member.specs.declared.role.Role.TheVariants.{Reader, Editor, Ad
 use Rattle.sporc_member.specs.declared.device.Device.{Device}
 use Rattle.sporc_member.specs.declared.member.Member.{Member}
 use Rattle.sporc_member.specs.declared.change.ChangeFault.{ChangeFault}
-use Rattle.sporc_member.specs.Roster.{Roster, numbers_of, member_at, key_of, change_fault_of, after_change}
+use Rattle.sporc_member.specs.Roster.{Roster, numbers_of, member_at, key_of, change_fault_of}
+use Rattle.sporc_member.specs.Roster.{after_change}
 use Rattle.sporc_entry.specs.declared.header.Header.{Header}
 use Rattle.sporc_entry.specs.declared.entry.Entry.{Entry}
 use Rattle.sporc_entry.specs.declared.wrap.Wrap.{Wrap}
@@ -20,8 +23,17 @@ use Rattle.sporc_entry.specs.Entry.{author_device, entry_of, change_of, signed_s
 use Rattle.sporc_entry.specs.Version.{version_of}
 use Rattle.sporc_head.specs.declared.limits.TheConstants.{MAX_ENTRIES}
 use Rattle.sporc_head.specs.declared.refusal.Refusal.{Refusal}
-use Rattle.sporc_head.specs.declared.refusal.Refusal.TheVariants.{Malformed, WrongDocument, WrongPosition, Removed, HistoryFull, WrongVersion, UnknownAuthor, UnknownDevice, BaseAhead, BeforeBarrier, WrongHistory, WrongNumber, BehindOwn, WrongEpoch, NoRight, LeafMismatch, BadSignature, BadChange, WrongWraps}
-use Rattle.sporc_head.specs.History.{epoch_of, roster_of, is_removed, barrier_of, last_of, count_of, hash_of}
+use Rattle.sporc_head.specs.declared.refusal.Refusal.TheVariants.{Malformed, WrongDocument}
+use Rattle.sporc_head.specs.declared.refusal.Refusal.TheVariants.{WrongPosition, Removed}
+use Rattle.sporc_head.specs.declared.refusal.Refusal.TheVariants.{HistoryFull, WrongVersion}
+use Rattle.sporc_head.specs.declared.refusal.Refusal.TheVariants.{UnknownAuthor, UnknownDevice}
+use Rattle.sporc_head.specs.declared.refusal.Refusal.TheVariants.{BaseAhead, BeforeBarrier}
+use Rattle.sporc_head.specs.declared.refusal.Refusal.TheVariants.{WrongHistory, WrongNumber}
+use Rattle.sporc_head.specs.declared.refusal.Refusal.TheVariants.{BehindOwn, WrongEpoch, NoRight}
+use Rattle.sporc_head.specs.declared.refusal.Refusal.TheVariants.{LeafMismatch, BadSignature}
+use Rattle.sporc_head.specs.declared.refusal.Refusal.TheVariants.{BadChange, WrongWraps}
+use Rattle.sporc_head.specs.History.{epoch_of, roster_of, is_removed, barrier_of, last_of, count_of}
+use Rattle.sporc_head.specs.History.{hash_of}
 
 -- a device by its member's number and its own
 abbrev pub device_of_pair : ℕ × ℕ → Device
@@ -74,7 +86,8 @@ roster_checks roster (Some c) =
     ∷ []
 
 -- the checks of where an entry is to stand; `me` may be nobody
-abbrev pub place_checks : Genesis → Option Device → List (List ℕ) → ℕ → Header → List (Option Refusal)
+abbrev pub place_checks : Genesis → Option Device → List (List ℕ) → ℕ → Header
+    → List (Option Refusal)
 place_checks g me entries pos h =
     unless (bytes_eq h.document g.document) WrongDocument
     ∷ unless (pos == length entries + 1) WrongPosition
@@ -105,11 +118,12 @@ author_checks author key e =
     ∷ []
 
 -- all of them, in their order
-unfoldable pub head_checks : Genesis → Option Device → List (List ℕ) → ℕ → Entry → List (Option Refusal)
-head_checks g me entries pos e =
-    place_checks g me entries pos e.header
+unfoldable pub head_checks : Genesis → Option Device → List (List ℕ) → ℕ → Entry
+    → List (Option Refusal)
+head_checks g me entries pos e = place_checks g me entries pos e.header
     ++ (history_checks g entries e.header
-    ++ (author_checks (member_at (roster_of g entries) e.header.author) (key_of (roster_of g entries) (author_device e.header)) e
+    ++ (author_checks (member_at (roster_of g entries) e.header.author)
+    (key_of (roster_of g entries) (author_device e.header)) e
     ++ roster_checks (roster_of g entries) (change_of e)))
 
 -- the first check that fails of an entry, or what reading it met

@@ -1,5 +1,6 @@
 -- What contracts see of a history with what its checks look up, and what its fields keep.
-use Rattle.std.specs.Prelude.{◌≡◌, ℕ, ◌-◌, ◌≤◌, nat_eq, List, Option, length, map, min, vec_len, vec_capacity}
+use Rattle.std.specs.Prelude.{◌≡◌, ℕ, ◌-◌, ◌≤◌, nat_eq, List, Option, length, map, min, vec_len}
+use Rattle.std.specs.Prelude.{vec_capacity}
 use Rattle.std.specs.HashMap.{get, spare}
 use Rattle.std.specs.List.{All}
 use Rattle.sporc_hash.specs.Chain.{chain}
@@ -26,15 +27,17 @@ entries_in a = map (λ v. v.items) a.entries.items
 
 -- the room that each table has
 abbrev pub spare_in : Inside → ℕ
-spare_in a =
-    min (min (vec_capacity a.entries - vec_len a.entries) (vec_capacity a.hashes - vec_len a.hashes))
-    (min a.roster.spare (min (spare a.tables.tallies) (vec_capacity a.tables.removals - vec_len a.tables.removals)))
+spare_in a = min
+    (min (vec_capacity a.entries - vec_len a.entries) (vec_capacity a.hashes - vec_len a.hashes))
+    (min a.roster.spare
+    (min (spare a.tables.tallies) (vec_capacity a.tables.removals - vec_len a.tables.removals)))
 
 abbrev pub model_of : Inside → HeadsModel
 model_of a = record { genesis = a.genesis; entries = entries_in a; spare = spare_in a }
 
 -- what is looked up is what the entries say
-pub record HeadsInvariant (g : Genesis) (entries hashes : List (List ℕ)) (roster : Roster) (barrier epoch : ℕ) (tallies : ℕ → Option Tally) (removals : List Removal) : Type 0 where
+pub record HeadsInvariant (g : Genesis) (entries hashes : List (List ℕ)) (roster : Roster)
+    (barrier epoch : ℕ) (tallies : ℕ → Option Tally) (removals : List Removal) : Type 0 where
   pub genesis : IsGenesis g
   pub chained : hashes ≡ chain (genesis_bytes g) entries
   pub members : roster ≡ roster_of g entries
@@ -45,4 +48,5 @@ pub record HeadsInvariant (g : Genesis) (entries hashes : List (List ℕ)) (rost
   pub sized : All (λ b. length b ≤ MAX_ENTRY) entries
 
 abbrev pub invariant_of : Inside → Type 0
-invariant_of a = HeadsInvariant a.genesis (entries_in a) a.hashes.items a.roster.roster a.barrier a.epoch (get nat_eq a.tables.tallies) a.tables.removals.items
+invariant_of a = HeadsInvariant a.genesis (entries_in a) a.hashes.items a.roster.roster a.barrier
+    a.epoch (get nat_eq a.tables.tallies) a.tables.removals.items

@@ -1,6 +1,7 @@
--- What a history, the list of its entries' bytes, oldest first, says of itself. Everything is recomputed from the first
--- entry.
-use Rattle.std.specs.Prelude.{Result, Ok, Err, ℕ, suc, Bool, false, List, [], ◌∷◌, length, map, Option, if◌then◌else◌, is_some, option_map, count_by}
+-- What a history, the list of its entries' bytes, oldest first, says of itself. Everything is
+-- recomputed from the first entry.
+use Rattle.std.specs.Prelude.{Result, Ok, Err, ℕ, suc, Bool, false, List, [], ◌∷◌, length, map}
+use Rattle.std.specs.Prelude.{Option, if◌then◌else◌, is_some, option_map, count_by}
 use Rattle.std.specs.List.{list_any}
 use Rattle.sporc_hash.specs.Chain.{last_value}
 use Rattle.sporc_member.specs.declared.change.Change.{Change}

@@ -8,7 +8,8 @@ use Rattle.sporc_head.specs.CheckedModel.{CheckedModel}
 use Rattle.sporc_head.specs.History.{hash_of}
 use Rattle.sporc_head.specs.HeadChecks.{head_fault}
 
--- it is what its bytes spell, it has the next value of the chain, and it fails no check at the next position
+-- it is what its bytes spell, it has the next value of the chain, and it fails no check at the next
+-- position
 pub record IsChecked (g : Genesis) (entries : List (List ℕ)) (c : CheckedModel) : Type 0 where
   pub read : entry_of c.bytes ≡ Ok c.entry
   pub sized : length c.bytes ≤ MAX_ENTRY

@@ -3,7 +3,17 @@ use Rattle.std.specs.Prelude.{ℕ, List, ◌++◌, codes}
 use Rattle.std.specs.Fmt.{decimal}
 use Rattle.sporc_member.specs.ChangeFault.{change_fault_name}
 use Rattle.sporc_head.specs.declared.refusal.Refusal.{Refusal}
-use Rattle.sporc_head.specs.declared.refusal.Refusal.TheVariants.{Malformed, WrongDocument, WrongPosition, Removed, HistoryFull, WrongVersion, UnknownAuthor, UnknownDevice, BaseAhead, BeforeBarrier, WrongHistory, WrongNumber, BehindOwn, WrongEpoch, NoRight, LeafMismatch, BadSignature, BadPayload, WrongLength, BadChange, WrongWraps, NoKey, WrongKey, Memory}
+use Rattle.sporc_head.specs.declared.refusal.Refusal.TheVariants.{Malformed, WrongDocument}
+use Rattle.sporc_head.specs.declared.refusal.Refusal.TheVariants.{WrongPosition, Removed}
+use Rattle.sporc_head.specs.declared.refusal.Refusal.TheVariants.{HistoryFull, WrongVersion}
+use Rattle.sporc_head.specs.declared.refusal.Refusal.TheVariants.{UnknownAuthor, UnknownDevice}
+use Rattle.sporc_head.specs.declared.refusal.Refusal.TheVariants.{BaseAhead, BeforeBarrier}
+use Rattle.sporc_head.specs.declared.refusal.Refusal.TheVariants.{WrongHistory, WrongNumber}
+use Rattle.sporc_head.specs.declared.refusal.Refusal.TheVariants.{BehindOwn, WrongEpoch, NoRight}
+use Rattle.sporc_head.specs.declared.refusal.Refusal.TheVariants.{LeafMismatch, BadSignature}
+use Rattle.sporc_head.specs.declared.refusal.Refusal.TheVariants.{BadPayload, WrongLength}
+use Rattle.sporc_head.specs.declared.refusal.Refusal.TheVariants.{BadChange, WrongWraps, NoKey}
+use Rattle.sporc_head.specs.declared.refusal.Refusal.TheVariants.{WrongKey, Memory}
 
 -- the first word of its name
 abbrev pub refusal_word : Refusal → List ℕ

@@ -1,5 +1,6 @@
 -- Tables of what a history says of those who signed its entries, and of those who sign no more.
-use Rattle.std.specs.Prelude.{◌≡◌, ℕ, ◌+◌, ◌*◌, ◌<◌, ◌==◌, Bool, true, ◌&&◌, List, [], ◌∷◌, ◌++◌, Option, None, Some}
+use Rattle.std.specs.Prelude.{◌≡◌, ℕ, ◌+◌, ◌*◌, ◌<◌, ◌==◌, Bool, true, ◌&&◌, List, [], ◌∷◌, ◌++◌}
+use Rattle.std.specs.Prelude.{Option, None, Some}
 use Rattle.std.specs.List.{list_any}
 use Rattle.sporc_member.specs.declared.change.Change.{Change}
 use Rattle.sporc_member.specs.declared.change.Change.TheVariants.{Remove, DropDevice}
@@ -38,11 +39,16 @@ is_gone device removals = list_any (covers device) removals
 -- those removed, after a change
 abbrev pub with_removal : Change → List Removal → List Removal
 with_removal (Remove member) removals = removals ++ record { member = member; device = None } ∷ []
-with_removal (DropDevice member number) removals = removals ++ record { member = member; device = Some number } ∷ []
+with_removal (DropDevice member number) removals =
+    removals ++ record { member = member; device = Some number } ∷ []
 with_removal _ removals = removals
 
--- how many entries each device has, where its last one stands, and whether a change removed it or its member
-pub record TablesMatch (tallies : ℕ → Option Tally) (removals : List Removal) (entries : List (List ℕ)) : Type 0 where
-  pub count : (d : Device) → d.number < DEVICE_NUMBERS → (tally_in tallies d).count ≡ count_of d entries
-  pub last : (d : Device) → d.number < DEVICE_NUMBERS → (tally_in tallies d).last ≡ last_of d entries
+-- how many entries each device has, where its last one stands, and whether a change removed it or
+-- its member
+pub record TablesMatch (tallies : ℕ → Option Tally) (removals : List Removal)
+    (entries : List (List ℕ)) : Type 0 where
+  pub count : (d : Device) → d.number < DEVICE_NUMBERS
+      → (tally_in tallies d).count ≡ count_of d entries
+  pub last : (d : Device) → d.number < DEVICE_NUMBERS
+      → (tally_in tallies d).last ≡ last_of d entries
   pub gone : (d : Device) → is_gone d removals ≡ is_removed d entries

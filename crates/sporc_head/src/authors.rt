@@ -27,7 +27,8 @@ pub(crate) fn check_author(
     known: Option<&Verdict>,
 ) -> Result<(), Refusal>
     requires exact { IfSome known (λ v. IsExactOf v.now entry.now.entry) }
-    ensures { Answers result (first_of (author_checks (Some author.now.member) (Some author.now.key) entry.now.entry)) }
+    ensures { Answers result
+        (first_of (author_checks (Some author.now.member) (Some author.now.key) entry.now.entry)) }
 {
     let header = entry.header();
     if !allows(author.member.role, header.kind) {
@@ -42,7 +43,8 @@ pub(crate) fn check_author(
     Ok(())
 }
 
-// Whether the signature of an entry verifies under the bytes of a key: what is known of that key is not found anew.
+// Whether the signature of an entry verifies under the bytes of a key: what is known of that key is
+// not found anew.
 fn is_signed(entry: &EntryView<'_>, key: &[u8; 56], known: Option<&Verdict>) -> bool
     requires exact { IfSome known (λ v. IsExactOf v.now entry.now.entry) }
     ensures { result ≡ is_signed_under key.now entry.now.entry }
@@ -72,8 +74,8 @@ fn names_leaf(leaf: u32, signature: &[u8]) -> bool
         && u32::from_be_bytes([signature[0], signature[1], signature[2], signature[3]]) == leaf
 }
 
-// Whether a signature of a string verifies under the bytes of a key: of byte 3 and the part of an entry's bytes that its
-// author signs.
+// Whether a signature of a string verifies under the bytes of a key: of byte 3 and the part of an
+// entry's bytes that its author signs.
 pub(crate) fn verifies_under(signed: &[u8], signature: &[u8], key: &[u8; 56]) -> bool
     ensures { result ≡ verifies_under (3 ∷ signed.now) signature.now (public_key_in key.now) }
 {

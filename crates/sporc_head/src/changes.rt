@@ -16,7 +16,8 @@ pub(crate) fn check_change(
     roster: &Roster,
     change: &ChangeBody,
 ) -> Result<(), Refusal>
-    ensures { AnswersUnless Refusal.Memory result (first_of (roster_checks roster.now.roster (Some change.now))) }
+    ensures { AnswersUnless Refusal.Memory result
+        (first_of (roster_checks roster.now.roster (Some change.now))) }
 {
     if let Err(fault) = roster.test(&change.change) {
         return Err(Refusal::BadChange(fault));

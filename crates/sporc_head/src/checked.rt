@@ -13,8 +13,8 @@ use sporc_member::Change;
 use std::alloc::Global;
 use std::marker::Model;
 
-/// An entry that was checked at a history, with the value of the chain after it. It holds the entry's bytes once: its
-/// body is a slice of them.
+/// An entry that was checked at a history, with the value of the chain after it. It holds the
+/// entry's bytes once: its body is a slice of them.
 ///
 /// Contracts see the entry, its bytes and that value.
 #[derive(Drop)]
@@ -45,7 +45,8 @@ impl Checked {
     ) -> Result<Checked, Memory>
         ensures entry { IfOk result (λ checked. checked.entry ≡ view.entry.entry) }
         ensures bytes { IfOk result (λ checked. checked.bytes ≡ view.entry.bytes) }
-        ensures hash { IfOk result (λ checked. checked.hash ≡ next_value before.now view.entry.bytes) }
+        ensures hash { IfOk result
+            (λ checked. checked.hash ≡ next_value before.now view.entry.bytes) }
     {
         let header = *view.header();
         let body_len = view.body().len();

@@ -9,13 +9,14 @@ use sporc_entry::{EntryFault, EntryView};
 use std::alloc::{AllocError, Global};
 use std::marker::Model;
 
-/// What examining an entry's signature under a key found. It is of no use without the entry's bytes.
+/// What examining an entry's signature under a key found. It is of no use without the entry's
+/// bytes.
 #[derive(Clone, Copy)]
 pub struct Verdict {
     /// The bytes of the key.
     pub key: [u8; 56],
-    /// Whether the bytes are an entry whose signature verifies under the key. No signature verifies under a key of no
-    /// known type.
+    /// Whether the bytes are an entry whose signature verifies under the key. No signature verifies
+    /// under a key of no known type.
     pub good: bool,
 }
 
@@ -66,7 +67,8 @@ impl Examined {
     pub fn of(key: &[u8; 56], entry: Vec<u8>) -> Result<Examined, (Vec<u8>, Memory)>
         ensures key { IfOk result (λ examined. examined.key ≡ key.now) }
         ensures entry { IfOk result (λ examined. examined.entry ≡ entry.items) }
-        ensures verdict { IfOk result (λ examined. examined.verdict ≡ is_verified key.now entry.items) }
+        ensures verdict { IfOk result
+            (λ examined. examined.verdict ≡ is_verified key.now entry.items) }
         ensures returned { IfErr result (λ e. e.0 ≡ entry) }
     {
         match Verdict::of(*entry.allocator(), key, entry.as_slice()) {

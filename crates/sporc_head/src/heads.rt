@@ -1,6 +1,8 @@
 //! A history, with what its checks look up.
 
-ghost use Rattle.std.specs.Prelude.{◌≡◌, ◌+◌, ◌<◌, ◌≤◌, ◌∷◌, ◌++◌, [], length, take, map, Option, option_map, None, Some, IfOk, IfErr, IfSome, OnOk, OnErr, IsOk, IsTrue, ◌↔◌};
+ghost use Rattle.std.specs.Prelude.{◌≡◌, ◌+◌, ◌<◌, ◌≤◌, ◌∷◌, ◌++◌, [], length, take, map, Option};
+ghost use Rattle.std.specs.Prelude.{option_map, None, Some, IfOk, IfErr, IfSome, OnOk, OnErr, IsOk};
+ghost use Rattle.std.specs.Prelude.{IsTrue, ◌↔◌};
 ghost use Rattle.std.specs.List.{All};
 ghost use Rattle.sporc_base.specs.FirstFault.{Answers, AnswersUnless, first_of};
 ghost use Rattle.sporc_hash.specs.Chain.{chain};
@@ -8,8 +10,10 @@ ghost use Rattle.sporc_entry.specs.Genesis.{IsGenesis, genesis_bytes};
 ghost use Rattle.sporc_entry.specs.declared.limits.TheConstants.{MAX_ENTRY};
 ghost use Rattle.sporc_member.specs.Roster.{member_at, key_of};
 ghost use Rattle.sporc_entry.specs.Entry.{author_device};
-ghost use Rattle.sporc_head.specs.History.{member_change_of, roster_of, barrier_of, epoch_of, count_of, last_of, hash_of, is_removed};
-ghost use Rattle.sporc_head.specs.HeadChecks.{device_of_pair, place_checks, history_checks, head_checks, head_fault, is_not_removed};
+ghost use Rattle.sporc_head.specs.History.{member_change_of, roster_of, barrier_of, epoch_of};
+ghost use Rattle.sporc_head.specs.History.{count_of, last_of, hash_of, is_removed};
+ghost use Rattle.sporc_head.specs.HeadChecks.{device_of_pair, place_checks, history_checks};
+ghost use Rattle.sporc_head.specs.HeadChecks.{head_checks, head_fault, is_not_removed};
 ghost use Rattle.sporc_head.specs.Examined.{IsExact, IsExactOf, key_for};
 ghost use Rattle.sporc_head.specs.declared.limits.TheConstants.{MAX_ENTRIES};
 ghost use Rattle.sporc_head.specs.IsChecked.{IsChecked};
@@ -28,7 +32,8 @@ use sporc_member::{Change, Device, Roster};
 use std::alloc::Global;
 use std::marker::Model;
 
-/// A history: a document's genesis and the bytes of its entries, with what the checks of the next entry look up.
+/// A history: a document's genesis and the bytes of its entries, with what the checks of the next
+/// entry look up.
 ///
 /// Contracts see the genesis, the entries, and `spare`: how many entries it takes without memory.
 #[derive(Drop)]
@@ -153,7 +158,8 @@ impl Heads {
     /// How many entries an author's device has.
     #[tactic(auto, using(crate::proofs::Grows::count_le))]
     pub fn count_of(&self, author: u16, device: u8) -> u32
-        ensures value { result ≡ count_of (record { member = author; number = device }) self.now.entries }
+        ensures value { result
+            ≡ count_of (record { member = author; number = device }) self.now.entries }
         ensures within { result ≤ length self.now.entries }
     {
         let device = Device {
@@ -165,7 +171,8 @@ impl Heads {
 
     /// The position of the last entry of an author's device, 0 if there is none.
     pub fn last_of(&self, author: u16, device: u8) -> u32
-        ensures value { result ≡ last_of (record { member = author; number = device }) self.now.entries }
+        ensures value { result
+            ≡ last_of (record { member = author; number = device }) self.now.entries }
     {
         let device = Device {
             member: author,
@@ -194,7 +201,8 @@ impl Heads {
         self.tables.reserve()
     }
 
-    /// Appends an entry that was checked at this history. It takes no memory where `spare` is at least 1.
+    /// Appends an entry that was checked at this history. It takes no memory where `spare` is at
+    /// least 1.
     pub fn push(&mut self, checked: Checked) -> Result<(), (Checked, Memory)>
         requires { IsChecked self.old.genesis self.old.entries checked }
         ensures genesis { self.new.genesis ≡ self.old.genesis }
@@ -253,8 +261,9 @@ impl Heads {
         self.entries.push_reserved(checked.into_bytes().into_vec());
     }
 
-    /// The key under which the check of an entry's signature verifies it at this history: that of its author's device. None
-    /// exactly if the bytes are no entry, or its author has no such live device. It takes no memory.
+    /// The key under which the check of an entry's signature verifies it at this history: that of
+    /// its author's device. None exactly if the bytes are no entry, or its author has no such live
+    /// device. It takes no memory.
     #[tactic(auto, unfolding(crate::specs::Examined::key_for))]
     pub fn key_for(&self, entry: &[u8]) -> Option<[u8; 56]>
         ensures value { result ≡ key_for (roster_of self.now.genesis self.now.entries) entry.now }
@@ -265,27 +274,27 @@ impl Heads {
         }
     }
 
-    /// The checks of an entry that is to stand at a position. `me` is a member and its device; without it it isn't asked
-    /// whether the history removes them.
+    /// The checks of an entry that is to stand at a position. `me` is a member and its device;
+    /// without it it isn't asked whether the history removes them.
     pub fn check(&self, me: Option<(u16, u8)>, pos: u32, bytes: &[u8]) -> Result<Checked, Refusal>
-        ensures fault { AnswersUnless Refusal.Memory result
-            (head_fault self.now.genesis (option_map device_of_pair me) self.now.entries pos bytes.now) }
+        ensures fault { AnswersUnless Refusal.Memory result (head_fault self.now.genesis
+            (option_map device_of_pair me) self.now.entries pos bytes.now) }
         ensures checked { IfOk result (IsChecked self.now.genesis self.now.entries) }
         ensures bytes { IfOk result (λ checked. checked.bytes ≡ bytes.now) }
     {
         self.check_known(me.map(device_of_pair), pos, bytes, None)
     }
 
-    /// The checks of an entry whose signature was examined. It is verified anew if the key isn't that of its author's device
-    /// at this history.
+    /// The checks of an entry whose signature was examined. It is verified anew if the key isn't
+    /// that of its author's device at this history.
     pub fn check_examined(
         &self,
         me: Option<(u16, u8)>,
         pos: u32,
         examined: &Examined,
     ) -> Result<Checked, Refusal>
-        ensures fault { AnswersUnless Refusal.Memory result
-            (head_fault self.now.genesis (option_map device_of_pair me) self.now.entries pos examined.now.entry) }
+        ensures fault { AnswersUnless Refusal.Memory result (head_fault self.now.genesis
+            (option_map device_of_pair me) self.now.entries pos examined.now.entry) }
         ensures checked { IfOk result (IsChecked self.now.genesis self.now.entries) }
         ensures bytes { IfOk result (λ checked. checked.bytes ≡ examined.now.entry) }
     {
@@ -307,7 +316,8 @@ impl Heads {
         known: Option<&Verdict>,
     ) -> Result<Checked, Refusal>
         requires exact { IfSome known (λ v. IsExact v.now bytes.now) }
-        ensures fault { AnswersUnless Refusal.Memory result (head_fault self.now.genesis me self.now.entries pos bytes.now) }
+        ensures fault { AnswersUnless Refusal.Memory result
+            (head_fault self.now.genesis me self.now.entries pos bytes.now) }
         ensures checked { IfOk result (IsChecked self.now.genesis self.now.entries) }
         ensures bytes { IfOk result (λ checked. checked.bytes ≡ bytes.now) }
     {
@@ -330,7 +340,8 @@ impl Heads {
         known: Option<&Verdict>,
     ) -> Result<(), Refusal>
         requires exact { IfSome known (λ v. IsExactOf v.now view.now.entry) }
-        ensures { AnswersUnless Refusal.Memory result (first_of (head_checks self.now.genesis me self.now.entries pos view.now.entry)) }
+        ensures { AnswersUnless Refusal.Memory result
+            (first_of (head_checks self.now.genesis me self.now.entries pos view.now.entry)) }
     {
         self.check_place(me, pos, view.header())?;
         let author = self.check_history(view.header())?;
@@ -343,7 +354,8 @@ impl Heads {
 
     // The checks of where an entry is to stand.
     fn check_place(&self, me: Option<Device>, pos: u32, header: &Header) -> Result<(), Refusal>
-        ensures { Answers result (first_of (place_checks self.now.genesis me self.now.entries pos header.now)) }
+        ensures { Answers result
+            (first_of (place_checks self.now.genesis me self.now.entries pos header.now)) }
     {
         if !is_same(&header.document, &self.genesis().document) {
             return Err(Refusal::WrongDocument);
@@ -359,9 +371,12 @@ impl Heads {
 
     // The checks of what an entry says of the history before it, and its author.
     fn check_history(&self, header: &Header) -> Result<Author, Refusal>
-        ensures fault { Answers result (first_of (history_checks self.now.genesis self.now.entries header.now)) }
-        ensures member { IfOk result (λ author. Some author.member ≡ member_at (roster_of self.now.genesis self.now.entries) header.now.author) }
-        ensures key { IfOk result (λ author. Some author.key ≡ key_of (roster_of self.now.genesis self.now.entries) (author_device header.now)) }
+        ensures fault { Answers result
+            (first_of (history_checks self.now.genesis self.now.entries header.now)) }
+        ensures member { IfOk result (λ author. Some author.member
+            ≡ member_at (roster_of self.now.genesis self.now.entries) header.now.author) }
+        ensures key { IfOk result (λ author. Some author.key
+            ≡ key_of (roster_of self.now.genesis self.now.entries) (author_device header.now)) }
     {
         let len = self.len();
         if len >= MAX_ENTRIES {

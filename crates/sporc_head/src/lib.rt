@@ -1,26 +1,32 @@
-//! The checks of an entry against a history that need no key of an epoch, and the history with what they look up.
+//! The checks of an entry against a history that need no key of an epoch, and the history with what
+//! they look up.
 //!
-//! [`Heads`] holds a document's genesis and the bytes of its entries, at most [`MAX_ENTRIES`]. An entry is read once, where
-//! its bytes stand, and copied and hashed once, after all checks: so a refusal copies nothing.
+//! [`Heads`] holds a document's genesis and the bytes of its entries, at most [`MAX_ENTRIES`]. An
+//! entry is read once, where its bytes stand, and copied and hashed once, after all checks: so a
+//! refusal copies nothing.
 //!
 //! ```text
-//! let checked = heads.check(None, heads.len() + 1, bytes)?;   // the first check that fails is the refusal
+//! // the first check that fails is the refusal
+//! let checked = heads.check(None, heads.len() + 1, bytes)?;
 //! heads.push(checked)                                         // takes no memory after `reserve`
 //! ```
 //!
 //! The costly check, of the signature, can be done before an entry's turn:
 //!
 //! ```text
-//! let key = heads.key_for(entry.as_slice());           // the key of its author's device here; takes no memory
+//! // the key of its author's device here; takes no memory
+//! let key = heads.key_for(entry.as_slice());
 //! let examined = Examined::of(&key, entry)?;           // needs no history
-//! let checked = heads.check_examined(None, heads.len() + 1, &examined)?;   // verifies anew only under another key
+//! // verifies anew only under another key
+//! let checked = heads.check_examined(None, heads.len() + 1, &examined)?;
 //! ```
 //!
-//! Proved: a refusal is exactly the first check that fails over the whole list of entries, what is looked up is what that
-//! list says, and an entry that was checked is appended as it is; a verdict is exact, and the answer is the same whatever
-//! key an entry was examined under. Only tested: each refusal by an entry with a real signature that fails its check
-//! alone, and by one that fails all later checks too. Neither: that signatures can't be forged, and that a signature
-//! which was examined isn't verified again.
+//! Proved: a refusal is exactly the first check that fails over the whole list of entries, what is
+//! looked up is what that list says, and an entry that was checked is appended as it is; a verdict
+//! is exact, and the answer is the same whatever key an entry was examined under. Only tested: each
+//! refusal by an entry with a real signature that fails its check alone, and by one that fails all
+//! later checks too. Neither: that signatures can't be forged, and that a signature which was
+//! examined isn't verified again.
 #![tactic(auto)]
 
 mod authors;

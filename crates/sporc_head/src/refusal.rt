@@ -12,7 +12,8 @@ use thiserror::Error;
 /// The first check that an entry fails at a history, in the order of the checks.
 #[derive(Clone, Copy, Debug, PartialEq, Eq, Error)]
 pub enum Refusal {
-    /// The bytes are no entry: the first field from the left that is cut short or forbidden begins at this place.
+    /// The bytes are no entry: the first field from the left that is cut short or forbidden begins
+    /// at this place.
     #[error("the bytes are no entry, from place {0} on")]
     Malformed(usize),
     #[error("it is an entry of another document")]
@@ -67,7 +68,8 @@ pub enum Refusal {
 impl Refusal {
     ghost use Rattle.sporc_head.specs.Refusal.{refusal_name, refusal_code_of, refusal_word};
 
-    /// The first word of its name. Behind it stands nothing, a place, or the name of a change's fault.
+    /// The first word of its name. Behind it stands nothing, a place, or the name of a change's
+    /// fault.
     pub fn word(self) -> &'static str
         ensures value { result.now ≡ refusal_word self }
     {
@@ -116,7 +118,8 @@ impl Refusal {
         Ok(name)
     }
 
-    /// The number of its check, from 1 to 23, and 0 if memory ran out. Checks 22 and 23 are made before and after check 6.
+    /// The number of its check, from 1 to 23, and 0 if memory ran out. Checks 22 and 23 are made
+    /// before and after check 6.
     pub fn code(self) -> u8
         ensures value { result ≡ refusal_code_of self }
     {

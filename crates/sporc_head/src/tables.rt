@@ -1,8 +1,10 @@
 //! Tables of what a history says of those who signed its entries, and of those who sign no more.
 
-ghost use Rattle.std.specs.Prelude.{◌≡◌, ℕ, ◌+◌, ◌<◌, ◌≤◌, ◌^◌, nat_eq, [], Some, None, OnOk, IsOk, if◌then◌else◌, vec_len, vec_capacity};
+ghost use Rattle.std.specs.Prelude.{◌≡◌, ℕ, ◌+◌, ◌<◌, ◌≤◌, ◌^◌, nat_eq, [], Some, None, OnOk, IsOk};
+ghost use Rattle.std.specs.Prelude.{if◌then◌else◌, vec_len, vec_capacity};
 ghost use Rattle.std.specs.HashMap.{get, spare};
-ghost use Rattle.sporc_head.specs.TablesMatch.{rank_of, tally_in, covers, covers_number, is_gone, with_removal};
+ghost use Rattle.sporc_head.specs.TablesMatch.{rank_of, tally_in, covers, covers_number, is_gone};
+ghost use Rattle.sporc_head.specs.TablesMatch.{with_removal};
 
 use crate::limits::DEVICE_NUMBERS;
 use sporc_base::Memory;
@@ -24,7 +26,8 @@ pub(crate) struct Removal {
     pub(crate) device: Option<u8>,
 }
 
-/// The tally of each device that has an entry, by its rank, and who was removed, in the order of the changes.
+/// The tally of each device that has an entry, by its rank, and who was removed, in the order of
+/// the changes.
 #[derive(Drop)]
 pub(crate) struct Tables {
     pub(crate) tallies: HashMap<u32, Tally>,
@@ -52,8 +55,8 @@ pub(crate) fn tally_of(tallies: &HashMap<u32, Tally>, device: Device) -> Tally
 pub(crate) fn record_entry(tallies: &mut HashMap<u32, Tally>, device: Device, position: u32)
     requires room { 1 ≤ spare tallies.old }
     requires limit { (tally_in (get nat_eq tallies.old) device).count + 1 < 2 ^ 32 }
-    ensures { (q : ℕ) → get nat_eq tallies.new q ≡ (if nat_eq (rank_of device) q
-        then Some (record { count = (tally_in (get nat_eq tallies.old) device).count + 1; last = position })
+    ensures { (q : ℕ) → get nat_eq tallies.new q ≡ (if nat_eq (rank_of device) q then Some
+        (record { count = (tally_in (get nat_eq tallies.old) device).count + 1; last = position })
         else get nat_eq tallies.old q) }
 {
     let rank = rank_of(device);
@@ -126,8 +129,10 @@ impl Tables {
     pub(crate) fn reserve(&mut self) -> Result<(), Memory>
         ensures tallies { (q : ℕ) → get nat_eq self.new.tallies q ≡ get nat_eq self.old.tallies q }
         ensures removals { self.new.removals.items ≡ self.old.removals.items }
-        ensures ok { OnOk result ((1 ≤ spare self.new.tallies) × (vec_len self.new.removals < vec_capacity self.new.removals)) }
-        ensures ready { 1 ≤ spare self.old.tallies → vec_len self.old.removals < vec_capacity self.old.removals → IsOk result }
+        ensures ok { OnOk result ((1 ≤ spare self.new.tallies)
+            × (vec_len self.new.removals < vec_capacity self.new.removals)) }
+        ensures ready { 1 ≤ spare self.old.tallies
+            → vec_len self.old.removals < vec_capacity self.old.removals → IsOk result }
     {
         self.removals.reserve(1)?;
         self.tallies.reserve(1)

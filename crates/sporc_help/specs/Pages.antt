@@ -4,7 +4,10 @@ use Rattle.sporc_words.specs.declared.command.Verb.{Verb}
 use Rattle.sporc_words.specs.declared.command.Verb.TheVariants as verbs
 use Rattle.sporc_words.specs.declared.page.Page.{Page}
 use Rattle.sporc_words.specs.declared.page.Page.TheVariants as pages
-use Rattle.sporc_help.specs.declared.pages.TheConstants.{CHECK, CLIENT, COMPARE, ENTRIES, FOUND, HELP, KEYGEN, OVERVIEW, PLAY, PUBLIC, SERVE, SERVE_ALL, TEXT, VERSION, VERSION_PAGE}
+use Rattle.sporc_help.specs.declared.pages.TheConstants.{CHECK, CLIENT, COMPARE, ENTRIES, FOUND}
+use Rattle.sporc_help.specs.declared.pages.TheConstants.{HELP, KEYGEN, OVERVIEW, PLAY, PUBLIC}
+use Rattle.sporc_help.specs.declared.pages.TheConstants.{SERVE, SERVE_ALL, TEXT, VERSION}
+use Rattle.sporc_help.specs.declared.pages.TheConstants.{VERSION_PAGE}
 
 -- of a command by its first word
 unfoldable pub command_text : Verb → List ℕ

@@ -1,6 +1,7 @@
 //! What the program says of itself.
 //!
-//! - [`help`] prints a page: all commands on one screen, or a command's words, files, an example and its statuses.
+//! - [`help`] prints a page: all commands on one screen, or a command's words, files, an example
+//!   and its statuses.
 //! - [`version`] prints the program's name and its version.
 //!
 //! ```text
@@ -8,9 +9,10 @@
 //! version(&mut out)?;                          // `sporc 0.9`
 //! ```
 //!
-//! The texts are constants, which the definitions import, so nothing that is printed stands twice. Proved: a page is written to
-//! the byte, or a prefix of it where the sink fails. Only tested: how wide and how long the pages are, and that the documents
-//! have the same words (`examples/documents`); each form of a line that asks for one (`sporc_commands_tests`,
+//! The texts are constants, which the definitions import, so nothing that is printed stands twice.
+//! Proved: a page is written to the byte, or a prefix of it where the sink fails. Only tested: how
+//! wide and how long the pages are, and that the documents have the same words
+//! (`examples/documents`); each form of a line that asks for one (`sporc_commands_tests`,
 //! `examples/commands/help`). Neither: that a page is right.
 #![tactic(auto)]
 

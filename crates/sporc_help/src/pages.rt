@@ -1,7 +1,8 @@
 //! The texts: an overview of at most 24 lines of 80 columns, pages of 75 columns.
 //!
-//! A page begins with its command's words, up to the first empty line, which docs/MANUAL.md has as a heading. The manual page,
-//! docs/sporc.1, is made of all pages by `examples/manual-page`. `examples/documents` holds both against what stands here.
+//! A page begins with its command's words, up to the first empty line, which docs/MANUAL.md has as
+//! a heading. The manual page, docs/sporc.1, is made of all pages by `examples/manual-page`.
+//! `examples/documents` holds both against what stands here.
 
 /// All commands, on one screen.
 pub const OVERVIEW: &str = "\

@@ -13,8 +13,8 @@ use sporc_member::{Change, Role};
 use std::alloc::Global;
 use std::process::Abort;
 
-// An edit of 19 bytes up to its signature of 2,348, in hexadecimal: version, document, author, number, base, base hash,
-// epoch, leaf, kind, body and length of the signature.
+// An edit of 19 bytes up to its signature of 2,348, in hexadecimal: version, document, author,
+// number, base, base hash, epoch, leaf, kind, body and length of the signature.
 const EDIT: &str = "01\
     d0d0d0d0d0d0d0d0d0d0d0d0d0d0d0d0\
     0102\
@@ -40,15 +40,13 @@ const HEADER: Header = Header {
     kind: 1,
 };
 
-// The body of a change that adds member 3 as an editor: kind, member, role, key, commitment, previous key, and two sealed
-// keys with their members.
-const CHANGE: &str = "01000302\
-    7777777777777777777777777777777777777777777777777777777777777777777777777777777777777777777777777777777777777777\
-    c0c0c0c0c0c0c0c0c0c0c0c0c0c0c0c0c0c0c0c0c0c0c0c0c0c0c0c0c0c0c0c0\
-    e0e0e0e0e0e0e0e0e0e0e0e0e0e0e0e0e0e0e0e0e0e0e0e0e0e0e0e0e0e0e0e0\
-    0002\
-    0001a1a1a1a1a1a1a1a1a1a1a1a1a1a1a1a1a1a1a1a1a1a1a1a1a1a1a1a1a1a1a1a1\
-    0003a3a3a3a3a3a3a3a3a3a3a3a3a3a3a3a3a3a3a3a3a3a3a3a3a3a3a3a3a3a3a3a3";
+// The body of a change that adds member 3 as an editor: kind, member, role, key, commitment,
+// previous key, and two sealed keys with their members.
+const CHANGE: &str = "010003027777777777777777777777777777777777777777777777777777777777777777\
+    777777777777777777777777777777777777777777777777c0c0c0c0c0c0c0c0c0c0c0c0c0c0c0c0c0c0c0c0\
+    c0c0c0c0c0c0c0c0c0c0c0c0e0e0e0e0e0e0e0e0e0e0e0e0e0e0e0e0e0e0e0e0e0e0e0e0e0e0e0e0e0e0e0e0\
+    00020001a1a1a1a1a1a1a1a1a1a1a1a1a1a1a1a1a1a1a1a1a1a1a1a1a1a1a1a1a1a1a1a10003a3a3a3a3a3a3\
+    a3a3a3a3a3a3a3a3a3a3a3a3a3a3a3a3a3a3a3a3a3a3a3a3a3a3";
 
 // So many bytes of one value.
 fn repeated(rt: &impl Abort, alloc: Global, value: u8, count: usize) -> Vec<u8>

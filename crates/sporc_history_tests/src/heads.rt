@@ -8,8 +8,8 @@ use sporc_samples::{CHANGE, Cast, DOCUMENT, Draft, EDIT, History, Member, change
 use std::alloc::Global;
 use std::process::Abort;
 
-// The next entry at a history, and who checks it at which position. Leaf 0 signs each: no check asks which leaves have
-// signed.
+// The next entry at a history, and who checks it at which position. Leaf 0 signs each: no check
+// asks which leaves have signed.
 #[derive(Clone, Copy)]
 struct Attempt {
     me: Option<(u16, u8)>,
@@ -27,7 +27,8 @@ struct Attempt {
     leaf: u32,
     // Whether a bit of its signature is turned.
     turned: bool,
-    // The member that it removes, if it is a change, and the members that it then seals the next key for.
+    // The member that it removes, if it is a change, and the members that it then seals the next
+    // key for.
     removes: Option<u16>,
     sealed_for: [u16; 4],
 }
@@ -53,8 +54,8 @@ impl Attempt {
         }
     }
 
-    // Makes it fail the check of this refusal, at a history that begins with the short one and whose last entry but its
-    // edits by 2 is an edit by 5.
+    // Makes it fail the check of this refusal, at a history that begins with the short one and
+    // whose last entry but its edits by 2 is an edit by 5.
     fn spoil(&mut self, heads: &Heads, refusal: Refusal) {
         match refusal {
             Refusal::WrongDocument => self.document = [8; 16],
@@ -187,8 +188,8 @@ fn has_grown(heads: &Heads) -> bool {
         && heads.is_removed(Device::first(4))
 }
 
-// Why heads refuse an attempt, if they do: the same where its signature was examined before, under the key for it or,
-// if there is none, under no key.
+// Why heads refuse an attempt, if they do: the same where its signature was examined before, under
+// the key for it or, if there is none, under no key.
 fn refusal_of(
     rt: &impl Abort,
     heads: &Heads,
@@ -217,8 +218,8 @@ fn is_refused(
     is_refusal(refusal_of(rt, heads, attempt, bytes), refusal)
 }
 
-// The refusals of a history that is not full, by the last check and those before it. A base that is ahead is neither
-// before the barrier nor behind the author's last entry.
+// The refusals of a history that is not full, by the last check and those before it. A base that is
+// ahead is neither before the barrier nor behind the author's last entry.
 const REFUSALS: [Refusal; 17] = [
     Refusal::WrongWraps,
     Refusal::BadChange(ChangeFault::NotMember),
@@ -316,7 +317,8 @@ fn full_refuses(rt: &impl Abort, alloc: Global, heads: &Heads, cast: &Cast) {
     }
 }
 
-// The short history has grown, and each check refuses at it. So does a full history, before all but the first three.
+// The short history has grown, and each check refuses at it. So does a full history, before all but
+// the first three.
 #[test]
 fn a_history_grows_and_refuses(rt: HostRuntime) {
     let cast = Cast::new(rt.alloc()).expect(&rt, "a cast");
@@ -426,7 +428,8 @@ fn devices_sign(rt: &impl Abort, alloc: Global, cast: &Cast, other: &Member) {
     devices_are_told_apart(rt, alloc, &heads, cast, &mut sample, other);
 }
 
-// The next edit of a history by a device, signed with these keys. What is masked in it no check of heads asks.
+// The next edit of a history by a device, signed with these keys. What is masked in it no check of
+// heads asks.
 fn next_edit(
     rt: &impl Abort,
     alloc: Global,

@@ -8,13 +8,15 @@ use sporc_wire::{ToClient, ToServer};
 use std::alloc::Global;
 use std::process::Abort;
 
-// The empty order of the sample document, in a box: a function that owns an order itself is slow to prove.
+// The empty order of the sample document, in a box: a function that owns an order itself is slow to
+// prove.
 fn opened(rt: &impl Abort, alloc: Global, cast: &Cast) -> Box<Order> {
     let genesis = cast.genesis(alloc).expect(rt, "a genesis");
     Box::new(alloc, Order::open(alloc, genesis).expect(rt, "memory")).expect(rt, "memory")
 }
 
-// What a frame carries. The body of an Entries begins with the byte 3, the position of the first, and how many there are.
+// What a frame carries. The body of an Entries begins with the byte 3, the position of the first,
+// and how many there are.
 fn heard_of(frame: &[u8]) -> &'static str {
     match frame {
         [_, _, _, _, 3, 0, 0, 0, 1, 1, ..] => "an entry from 1",
@@ -117,7 +119,8 @@ fn examined(rt: &impl Abort, alloc: Global, key: &[u8; 56], entry: &[u8]) -> Exa
     Examined::of(key, entry).ok().expect(rt, "memory")
 }
 
-// An entry that was examined under its author's key, and one that was examined under the key of another's author.
+// An entry that was examined under its author's key, and one that was examined under the key of
+// another's author.
 fn orders_examined(rt: &impl Abort, alloc: Global, order: &mut Order, entries: &[Vec<u8>]) {
     let first = entries.first().expect(rt, "an entry").as_slice();
     let second = entries.last().expect(rt, "an entry").as_slice();

@@ -1,11 +1,12 @@
-//! Tails of logs: bytes that are none, and a server that is stopped at each call of its tail's file.
+//! Tails of logs: bytes that are none, and a server that is stopped at each call of its tail's
+//! file.
 
 use crate::checks::{check, check_at};
 use crate::samples::short_sample;
 use sporc_base::is_same;
 use sporc_head::Refusal;
-use sporc_order::{Order, Tail};
 use sporc_memory::{AppendRequest, Calls, MemoryAppendFile};
+use sporc_order::{Order, Tail};
 use sporc_outside::FileBytes;
 use sporc_samples::Cast;
 use sporc_store::{TailFault, TailFile};
@@ -19,7 +20,8 @@ fn file_of(rt: &impl Abort, alloc: Global, bytes: &[u8]) -> MemoryAppendFile {
     MemoryAppendFile::new(alloc, name, bytes, Calls::failing(Vec::new(alloc))).expect(rt, "memory")
 }
 
-// An order that took the first few of these entries, in a box: a function that owns an order itself is slow to prove.
+// An order that took the first few of these entries, in a box: a function that owns an order itself
+// is slow to prove.
 fn order_of(
     rt: &impl Abort,
     alloc: Global,
@@ -40,8 +42,8 @@ const EXAMPLE: &str = "\
     5350543107070707070707070707070707070707000000020000000261620000000300000001\
     63";
 
-// What opening answers to the first bytes of the example, so many of them, once those from a place on are these: the tail of a
-// log of one entry.
+// What opening answers to the first bytes of the example, so many of them, once those from a place
+// on are these: the tail of a log of one entry.
 struct Row {
     len: usize,
     at: usize,
@@ -50,7 +52,8 @@ struct Row {
 }
 
 const ROWS: [Row; 21] = [
-    // Cut: nothing, parts of the head, the head, and parts of the first record; then "ab" is taken, which is no entry.
+    // Cut: nothing, parts of the head, the head, and parts of the first record; then "ab" is taken,
+    // which is no entry.
     Row {
         len: 0,
         at: 0,
@@ -149,7 +152,8 @@ const ROWS: [Row; 21] = [
         bytes: b"\x03",
         fault: Some(TailFault::Malformed(20)),
     },
-    // An entry of the greatest length, which is cut, and one more; a record twice, one behind a gap, and one too long behind another.
+    // An entry of the greatest length, which is cut, and one more; a record twice, one behind a
+    // gap, and one too long behind another.
     Row {
         len: 39,
         at: 24,
@@ -254,7 +258,8 @@ fn put_all(rt: &impl Abort, alloc: Global, cast: &Cast, entries: &[Vec<u8>]) -> 
     tail.close()
 }
 
-// Stops in the middle of an append, each of which leaves these bytes and a part of those behind them.
+// Stops in the middle of an append, each of which leaves these bytes and a part of those behind
+// them.
 fn stops_in(
     rt: &impl Abort,
     alloc: Global,

@@ -17,31 +17,37 @@ use Rattle.sporc_commands.specs.Moments.{ChangesFolderAlone, IsBehind, Moment, a
 use Rattle.sporc_commands.specs.Rounds.{GoRounds, Round, Standing}
 use Rattle.sporc_commands.specs.Serving.{HasLogged, ServedFiles, ended}
 use Rattle.sporc_commands.specs.Tails.{GivesBack, after_last}
-use Rattle.sporc_hosting.specs.Loading.{AreFilesOfAll, ChangesTails, OpenLogModel, orders_in, with_tails_made}
+use Rattle.sporc_hosting.specs.Loading.{AreFilesOfAll, ChangesTails, OpenLogModel, orders_in}
+use Rattle.sporc_hosting.specs.Loading.{with_tails_made}
 use Rattle.sporc_hosting.specs.Saving.{KeepsLogs}
 
 -- ---- the tails
 
--- The tail of each log was given back, the last one first, as `serve` gives one back. Of their faults the first is answered, but out of memory
--- goes before others
-abbrev pub GivesAllBack : List OpenLogModel → List OrderModel → Result (Unit {0}) Fault → FolderTold → FolderTold → Result (Unit {0}) Fault → Type 0
+-- The tail of each log was given back, the last one first, as `serve` gives one back. Of their
+-- faults the first is answered, but out of memory goes before others
+abbrev pub GivesAllBack : List OpenLogModel → List OrderModel → Result (Unit {0}) Fault → FolderTold
+    → FolderTold → Result (Unit {0}) Fault → Type 0
 GivesAllBack [] [] saved a b given = (b ≡ a) × (given ≡ Ok tt)
 GivesAllBack (log ∷ logs) (order ∷ orders) saved a b given =
-    (mid : FolderTold) × (others : Result (Unit {0}) Fault) × (one : Result (Unit {0}) Fault) × GivesAllBack logs orders saved a mid others
-    × GivesBack log.name (record { before = mid; after = b }) log.logged order.genesis.document order.entries saved one
+    (mid : FolderTold) × (others : Result (Unit {0}) Fault) × (one : Result (Unit {0}) Fault)
+    × GivesAllBack logs orders saved a mid others × GivesBack log.name
+    (record { before = mid; after = b }) log.logged order.genesis.document order.entries saved one
     × (given ≡ first_fault others one)
 GivesAllBack logs orders saved a b given = ⊥
 
 -- all files were read, of which the tails were made if there were none, and nothing else was done
-pub record AreOpened (names : List (List ℕ)) (folder : Use FolderTold) (out : Use StreamTold) (opened : Moment) : Type 0 where
+pub record AreOpened (names : List (List ℕ)) (folder : Use FolderTold) (out : Use StreamTold)
+    (opened : Moment) : Type 0 where
   pub files : opened.folder.files ≡ with_tails_made names folder.before.files
   pub since : folder.before.faults ≤ opened.folder.faults
   pub written : opened.out.written ≡ out.before.written
   pub sink_faults : opened.out.faults ≡ out.before.faults
 
 module _ (names : List (List ℕ)) (sessions : ℕ) where
-  -- one round: sessions were served from these orders, and each log was saved, whatever came of that
-  pub record IsRoundOfAll (a : Standing (List OrderModel)) (r : Round (List OrderModel)) : Type 0 where
+  -- one round: sessions were served from these orders, and each log was saved, whatever came of
+  -- that
+  pub record IsRoundOfAll (a : Standing (List OrderModel))
+      (r : Round (List OrderModel)) : Type 0 where
     pub served : Result (Unit {0}) ServeFault
     pub serves : AreServed a.held r.after.held a.net r.after.net sessions served
     pub keeps : KeepsLogs names r.after.held a.moment r.after.moment r.saved
@@ -49,21 +55,23 @@ module _ (names : List (List ℕ)) (sessions : ℕ) where
     pub behind : IsBehind a.moment r.after.moment
 
   module _ (times : ℕ) (folder : Use FolderTold) (out : Use StreamTold) (old new : NetTold) where
-    -- nothing was served: the files of a document failed, one was named twice, memory ran out, or the folder failed; no file but the tails may have
-    -- changed
+    -- nothing was served: the files of a document failed, one was named twice, memory ran out, or
+    -- the folder failed; no file but the tails may have changed
     pub record NoneServed (answer : Result (Unit {0}) Fault) : Type 0 where
       pub contents : List ServedFiles
       pub are : AreFilesOfAll folder.before.files names contents
       pub fault : Fault
       pub given : Result (Unit {0}) Fault
       pub answer_is : answer ≡ after_last (Err fault) given
-      pub fails : AnswersUnlessOutside (λ (orders : List OrderModel). orders) (Rose folder.before.faults folder.after.faults) (Err fault) (orders_in 1 [] contents)
+      pub fails : AnswersUnlessOutside (λ (orders : List OrderModel). orders)
+          (Rose folder.before.faults folder.after.faults) (Err fault) (orders_in 1 [] contents)
       pub changes : ChangesTails names folder.before.files folder.after.files
       pub net : new ≡ old
       pub unwritten : IsUnwritten out
 
-    -- sessions were served from the orders in the files, so many times at the most, and the logs were saved each time. Then the tails are gone if all logs
-    -- have all entries, and else they give them
+    -- sessions were served from the orders in the files, so many times at the most, and the logs
+    -- were saved each time. Then the tails are gone if all logs have all entries, and else they
+    -- give them
     pub record AllServed (answer : Result (Unit {0}) Fault) : Type 0 where
       pub contents : List ServedFiles
       pub are : AreFilesOfAll folder.before.files names contents
@@ -71,14 +79,17 @@ module _ (names : List (List ℕ)) (sessions : ℕ) where
       pub begins : orders_in 1 [] contents ≡ Ok before
       pub logs : List OpenLogModel
       pub have_logged : Both (λ content log. HasLogged content log.logged) contents logs
-      pub named : Both (λ name log. log.name ≡ file_name (names_of_document name) files.Tail) names logs
+      pub named : Both
+          (λ name log. log.name ≡ file_name (names_of_document name) files.Tail) names logs
       pub opened : Moment
       pub is_opened : AreOpened names folder out opened
       pub last : Round (List OrderModel)
-      pub rounds : GoRounds IsRoundOfAll times (record { held = before; moment = opened; net = old }) last
+      pub rounds : GoRounds IsRoundOfAll times
+          (record { held = before; moment = opened; net = old }) last
       pub net : new ≡ last.after.net
       pub given : Result (Unit {0}) Fault
-      pub gives : GivesAllBack logs last.after.held last.saved last.after.moment.folder folder.after given
+      pub gives :
+          GivesAllBack logs last.after.held last.saved last.after.moment.folder folder.after given
       pub alone : ChangesFolderAlone last.after.moment (at_end folder out)
       pub answer_is : answer ≡ after_last last.answer given
 

@@ -18,12 +18,14 @@ logs_of (name ∷ names) = file_name (names_of_document name) files.Log ∷ logs
 abbrev pub document_line : List ℕ → ℕ → List ℕ
 document_line name len = codes "log " ++ (name ++ (codes " " ++ (decimal len ++ codes "\n")))
 
--- Each log was saved, in this order, as `serve` saves one, whatever came of those before it. Of their faults the first is answered, but out of
--- memory goes before others.
-abbrev pub KeepsLogs : List (List ℕ) → List OrderModel → Moment → Moment → Result (Unit {0}) Fault → Type 0
+-- Each log was saved, in this order, as `serve` saves one, whatever came of those before it. Of
+-- their faults the first is answered, but out of memory goes before others.
+abbrev pub KeepsLogs : List (List ℕ) → List OrderModel → Moment → Moment
+    → Result (Unit {0}) Fault → Type 0
 KeepsLogs [] [] a b answer = (b ≡ a) × (answer ≡ Ok tt)
-KeepsLogs (name ∷ names) (order ∷ orders) a b answer =
-    (mid : Moment) × (one : Result (Unit {0}) Fault) × (others : Result (Unit {0}) Fault) × IsBehind a mid
-    × KeepsLog (names_of_document name) (folder_between a mid) (sink_between a mid) order (document_line name (length order.entries)) one
+KeepsLogs (name ∷ names) (order ∷ orders) a b answer = (mid : Moment)
+    × (one : Result (Unit {0}) Fault) × (others : Result (Unit {0}) Fault) × IsBehind a mid
+    × KeepsLog (names_of_document name) (folder_between a mid) (sink_between a mid) order
+    (document_line name (length order.entries)) one
     × KeepsLogs names orders mid b others × (answer ≡ first_fault one others)
 KeepsLogs names orders a b answer = ⊥

@@ -21,10 +21,13 @@ pub(crate) fn give_back_all<F: Folder>(
     saved: Result<(), Fault>,
 ) -> Result<(), Fault>
     requires one_length { length logs.now ≡ length orders.now }
-    requires tails { (front : List (LogTailModel F.Appended)) × (mine : List (LogTailModel F.Appended)) × (tails.old.items ≡ front ++ mine)
+    requires tails { (front : List (LogTailModel F.Appended))
+        × (mine : List (LogTailModel F.Appended)) × (tails.old.items ≡ front ++ mine)
         × AreKept (KeepsBehind F.Appended.told) mine orders.now }
-    ensures gives { GivesAllBack logs.now orders.now saved (F.told files.old) (F.told files.new) result }
-    ensures tails { (front : List (LogTailModel F.Appended)) (mine : List (LogTailModel F.Appended)) → tails.old.items ≡ front ++ mine
+    ensures gives { GivesAllBack logs.now orders.now saved (F.told files.old)
+        (F.told files.new) result }
+    ensures tails { (front : List (LogTailModel F.Appended)) (mine : List (LogTailModel F.Appended))
+        → tails.old.items ≡ front ++ mine
         → length mine ≡ length orders.now → tails.new.items ≡ front }
     ensures lent { (F.told files.new).lent ≡ (F.told files.old).lent }
     ensures asked { (F.told files.new).asked ≡ (F.told files.old).asked }
@@ -53,8 +56,8 @@ fn give_back<F: Folder>(
     saved: Result<(), Fault>,
 ) -> Result<(), Fault>
     requires tail { ∥ KeepsBehind F.Appended.told tail order.now.entries ∥₁ }
-    ensures gives { GivesBack log.now.name (use_of F.told files.old files.new) log.now.logged order.now.genesis.document
-        order.now.entries saved result }
+    ensures gives { GivesBack log.now.name (use_of F.told files.old files.new) log.now.logged
+        order.now.genesis.document order.now.entries saved result }
     ensures lent { (F.told files.new).lent ≡ (F.told files.old).lent }
     ensures asked { (F.told files.new).asked ≡ (F.told files.old).asked }
     ensures kept { (F.told files.old).faults ≤ (F.told files.new).faults }

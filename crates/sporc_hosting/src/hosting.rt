@@ -23,13 +23,14 @@ use std::alloc::Global;
 use std::sync::Wait;
 use std::thread::Threads;
 
-/// `serve-all ADDRESS --sessions K NAME ..` serves so many sessions of the documents of these names, each from its log, or
-/// from an empty one if there is none. Whatever came of the sessions, it then saves each log in the order of the names, also
-/// if one before it was not saved, and writes `log NAME LEN` for each, how many entries it has.
+/// `serve-all ADDRESS --sessions K NAME ..` serves so many sessions of the documents of these
+/// names, each from its log, or from an empty one if there is none. Whatever came of the sessions,
+/// it then saves each log in the order of the names, also if one before it was not saved, and
+/// writes `log NAME LEN` for each, how many entries it has.
 ///
-/// If two names are of one document, that is a fault of the later, `Fault::Exists`, once its log was loaded; nothing is served
-/// then. A fault of the server goes before those of saving, and of these the first counts, but out of memory at the saving
-/// goes before all.
+/// If two names are of one document, that is a fault of the later, `Fault::Exists`, once its log
+/// was loaded; nothing is served then. A fault of the server goes before those of saving, and of
+/// these the first counts, but out of memory at the saving goes before all.
 pub fn serve_all<R: Threads + Wait + Sync, F: Folder, N: Listen + Send, O: Sink, G: Gate + Sync>(
     rt: &R,
     alloc: Global,
@@ -54,9 +55,11 @@ where
         (N.told net.old) (N.told net.new)
         result }
     ensures lent { (F.told files.new).lent ≡ (F.told files.old).lent }
-    ensures files_may_ask { AsksOnly (files_of_all names.now) (F.told files.old).asked (F.told files.new).asked }
+    ensures files_may_ask { AsksOnly (files_of_all names.now) (F.told files.old).asked
+        (F.told files.new).asked }
     ensures files_kept { (F.told files.old).faults ≤ (F.told files.new).faults }
-    ensures net_may_ask { AsksAgain times (N.told net.old).asked (N.told net.new).asked address.now }
+    ensures net_may_ask { AsksAgain times (N.told net.old).asked
+        (N.told net.new).asked address.now }
     ensures shut { AreShutBehind (N.told net.old).returned (N.told net.new).returned }
     ensures links_out { (N.told net.new).out ≡ (N.told net.old).out }
     ensures net_kept { (N.told net.old).faults ≤ (N.told net.new).faults }
@@ -88,7 +91,8 @@ where
     F::Appended: Drop,
     requires one_length { length held.logs.items ≡ length held.docs }
     requires tails { AreKept (KeepsBehind F.Appended.told) held.tails.items held.docs }
-    ensures gives { GivesAllBack held.logs.items held.docs saved (F.told files.old) (F.told files.new) result }
+    ensures gives { GivesAllBack held.logs.items held.docs saved (F.told files.old)
+        (F.told files.new) result }
     ensures lent { (F.told files.new).lent ≡ (F.told files.old).lent }
     ensures asked { (F.told files.new).asked ≡ (F.told files.old).asked }
     ensures kept { (F.told files.old).faults ≤ (F.told files.new).faults }

@@ -1,6 +1,7 @@
 //! The orders in the logs and the tails of several documents.
 
-ghost use Rattle.std.specs.Prelude.{◌≡◌, ◌≢◌, ◌≤◌, ◌<◌, ◌+◌, ◌^◌, ◌∷◌, ◌++◌, [], ℕ, List, length, IfOk, OnOk, OnErr, option_map, string_bytes};
+ghost use Rattle.std.specs.Prelude.{◌≡◌, ◌≢◌, ◌≤◌, ◌<◌, ◌+◌, ◌^◌, ◌∷◌, ◌++◌, [], ℕ, List, length};
+ghost use Rattle.std.specs.Prelude.{IfOk, OnOk, OnErr, option_map, string_bytes};
 ghost use Rattle.std.specs.Vec.{vec_len, vec_capacity};
 ghost use Rattle.sporc_entry.specs.Genesis.{IsGenesis};
 ghost use Rattle.sporc_outside.specs.Files.{ChangesFile, made_in};
@@ -12,7 +13,10 @@ ghost use Rattle.sporc_files.specs.Uses.{AsksOnly};
 ghost use Rattle.sporc_files.specs.Faults.{AnswersUnlessOutside};
 ghost use Rattle.sporc_commands.specs.Serving.{ServedFiles};
 ghost use Rattle.sporc_commands.specs.Tails.{KeepsBehind, TakesTail};
-ghost use Rattle.sporc_hosting.specs.Loading.{AreOpen, ChangesTails, FindsHeld, FindsUnlessHeld, OpensMore, OpensOne, added, fault_of_adding, files_of_all, files_of_one, is_held, opened_to, with_tail_made, with_tails_made};
+ghost use Rattle.sporc_hosting.specs.Loading.{AreOpen, ChangesTails, FindsHeld, FindsUnlessHeld};
+ghost use Rattle.sporc_hosting.specs.Loading.{OpensMore, OpensOne, added, fault_of_adding};
+ghost use Rattle.sporc_hosting.specs.Loading.{files_of_all, files_of_one, is_held, opened_to};
+ghost use Rattle.sporc_hosting.specs.Loading.{with_tail_made, with_tails_made};
 
 use sporc_base::{Memory, is_same};
 use sporc_commands::{KeptOrder, LogTail, OpenedOrder, open_order_behind, read_log};
@@ -67,8 +71,8 @@ pub(crate) struct OpenDocs<A: AppendFile> {
     pub(crate) logs: Vec<OpenLog>,
 }
 
-// Opens the documents of these names behind those that are open, of which the first has this number among all. If that fails,
-// those that were opened are.
+// Opens the documents of these names behind those that are open, of which the first has this number
+// among all. If that fails, those that were opened are.
 pub(crate) fn open_documents<R: Threads + Wait + Sync, F: Folder, G: Gate + Sync>(
     rt: &R,
     alloc: Global,
@@ -82,12 +86,15 @@ pub(crate) fn open_documents<R: Threads + Wait + Sync, F: Folder, G: Gate + Sync
     requires numbers_limit { number + length names.now < 2 ^ 32 }
     ensures opens { (first : List (List ℕ)) (begun : List ServedFiles)
         → AreOpen F.Appended.told first begun held.old.docs held.old.tails.items held.old.logs.items
-        → OpensMore F.Appended.told (F.told files.old).files names.now number (F.told files.old).faults (F.told files.new).faults result
+        → OpensMore F.Appended.told (F.told files.old).files names.now number
+        (F.told files.old).faults (F.told files.new).faults result
         held.old.docs held.new.docs held.new.tails.items held.new.logs.items first begun }
-    ensures made { OnOk result ((F.told files.new).files ≡ with_tails_made names.now (F.told files.old).files) }
+    ensures made { OnOk result
+        ((F.told files.new).files ≡ with_tails_made names.now (F.told files.old).files) }
     ensures changes { ChangesTails names.now (F.told files.old).files (F.told files.new).files }
     ensures lent { (F.told files.new).lent ≡ (F.told files.old).lent }
-    ensures may_ask { AsksOnly (files_of_all names.now) (F.told files.old).asked (F.told files.new).asked }
+    ensures may_ask { AsksOnly (files_of_all names.now) (F.told files.old).asked
+        (F.told files.new).asked }
     ensures kept { (F.told files.old).faults ≤ (F.told files.new).faults }
 {
     let Some((name, others)) = names.split_first() else {
@@ -110,13 +117,17 @@ fn open_document<R: Threads + Wait + Sync, F: Folder, G: Gate + Sync>(
     requires limit { length held.old.docs < MAX_DOCUMENTS }
     ensures opens { (first : List (List ℕ)) (begun : List ServedFiles)
         → AreOpen F.Appended.told first begun held.old.docs held.old.tails.items held.old.logs.items
-        → OpensOne F.Appended.told (F.told files.old).files name.now number (F.told files.old).faults (F.told files.new).faults result
+        → OpensOne F.Appended.told (F.told files.old).files name.now number
+        (F.told files.old).faults (F.told files.new).faults result
         held.old.docs held.new.docs held.new.tails.items held.new.logs.items first begun }
     ensures one { OnOk result (length held.new.docs ≡ length held.old.docs + 1) }
-    ensures made { OnOk result ((F.told files.new).files ≡ with_tail_made name.now (F.told files.old).files) }
-    ensures changes { ChangesTails (name.now ∷ []) (F.told files.old).files (F.told files.new).files }
+    ensures made { OnOk result
+        ((F.told files.new).files ≡ with_tail_made name.now (F.told files.old).files) }
+    ensures changes { ChangesTails (name.now ∷ []) (F.told files.old).files
+        (F.told files.new).files }
     ensures lent { (F.told files.new).lent ≡ (F.told files.old).lent }
-    ensures may_ask { AsksOnly (files_of_one name.now) (F.told files.old).asked (F.told files.new).asked }
+    ensures may_ask { AsksOnly (files_of_one name.now) (F.told files.old).asked
+        (F.told files.new).asked }
     ensures kept { (F.told files.old).faults ≤ (F.told files.new).faults }
 {
     make_room(held)?;
@@ -127,7 +138,8 @@ fn open_document<R: Threads + Wait + Sync, F: Folder, G: Gate + Sync>(
     }
 }
 
-// Opens a document, unless one of these orders is of it: then its log is loaded for its faults, and its tail is left alone.
+// Opens a document, unless one of these orders is of it: then its log is loaded for its faults, and
+// its tail is left alone.
 fn open_unless_held<R: Threads + Wait + Sync, F: Folder, G: Gate + Sync>(
     rt: &R,
     alloc: Global,
@@ -137,15 +149,18 @@ fn open_unless_held<R: Threads + Wait + Sync, F: Folder, G: Gate + Sync>(
     number: u32,
     gate: &G,
 ) -> Result<OpenedOrder<F::Appended>, Fault>
-    ensures found { FindsUnlessHeld (λ it. it.kept.order) (λ it. it.logged) (F.told files.old).files names.now number orders.now (F.told files.old).faults
-        (F.told files.new).faults result }
-    ensures tail { IfOk result (λ it. KeepsBehind F.Appended.told it.kept.tail it.kept.order.entries) }
+    ensures found { FindsUnlessHeld (λ it. it.kept.order) (λ it. it.logged) (F.told files.old).files
+        names.now number orders.now (F.told files.old).faults (F.told files.new).faults result }
+    ensures tail { IfOk result
+        (λ it. KeepsBehind F.Appended.told it.kept.tail it.kept.order.entries) }
     ensures name { IfOk result (λ it. string_bytes it.name ≡ file_name names.now File.Tail) }
-    ensures made { OnOk result ((F.told files.new).files ≡ option_map (λ told. made_in told (file_name names.now File.Tail)) (F.told files.old).files) }
-    ensures changes { OnErr result (ChangesFile (F.told files.old).files (F.told files.new).files (file_name names.now File.Tail)) }
+    ensures made { OnOk result ((F.told files.new).files ≡ option_map
+        (λ told. made_in told (file_name names.now File.Tail)) (F.told files.old).files) }
+    ensures changes { OnErr result (ChangesFile (F.told files.old).files (F.told files.new).files
+        (file_name names.now File.Tail)) }
     ensures lent { (F.told files.new).lent ≡ (F.told files.old).lent }
-    ensures may_ask { AsksOnly (file_name names.now File.Genesis ∷ file_name names.now File.Tail ∷ file_name names.now File.Log ∷ [])
-        (F.told files.old).asked (F.told files.new).asked }
+    ensures may_ask { AsksOnly (file_name names.now File.Genesis ∷ file_name names.now File.Tail
+        ∷ file_name names.now File.Log ∷ []) (F.told files.old).asked (F.told files.new).asked }
     ensures kept { (F.told files.old).faults ≤ (F.told files.new).faults }
 {
     let genesis = read_genesis_file(alloc, files, names)?;
@@ -166,10 +181,12 @@ fn fault_of_held<R: Threads + Wait + Sync, F: Folder, G: Gate + Sync>(
     gate: &G,
 ) -> Fault
     requires genesis { IsGenesis genesis }
-    ensures found { FindsHeld (F.told files.old).files (file_name names.now File.Log) (F.told files.old).faults (F.told files.new).faults number genesis result }
+    ensures found { FindsHeld (F.told files.old).files (file_name names.now File.Log)
+        (F.told files.old).faults (F.told files.new).faults number genesis result }
     ensures files { (F.told files.new).files ≡ (F.told files.old).files }
     ensures lent { (F.told files.new).lent ≡ (F.told files.old).lent }
-    ensures may_ask { AsksOnly (file_name names.now File.Log ∷ []) (F.told files.old).asked (F.told files.new).asked }
+    ensures may_ask { AsksOnly (file_name names.now File.Log ∷ []) (F.told files.old).asked
+        (F.told files.new).asked }
     ensures kept { (F.told files.old).faults ≤ (F.told files.new).faults }
 {
     match read_log(rt, alloc, files, names, genesis, gate) {
@@ -199,14 +216,16 @@ fn make_room<A: AppendFile>(held: &mut OpenDocs<A>) -> Result<(), Memory>
     ensures docs { held.new.docs ≡ held.old.docs }
     ensures tails { held.new.tails.items ≡ held.old.tails.items }
     ensures logs { held.new.logs.items ≡ held.old.logs.items }
-    ensures ok { OnOk result ((vec_len held.new.tails < vec_capacity held.new.tails) × (vec_len held.new.logs < vec_capacity held.new.logs)) }
+    ensures ok { OnOk result ((vec_len held.new.tails < vec_capacity held.new.tails)
+        × (vec_len held.new.logs < vec_capacity held.new.logs)) }
 {
     held.tails.reserve(1)?;
     held.logs.reserve(1)?;
     Ok(())
 }
 
-// Adds a document that was opened, unless it is held: then its tail's file goes back, and those that are open stay as they are.
+// Adds a document that was opened, unless it is held: then its tail's file goes back, and those
+// that are open stay as they are.
 fn add<F: Folder>(
     files: &mut F,
     held: &mut OpenDocs<F::Appended>,
@@ -216,14 +235,19 @@ fn add<F: Folder>(
     requires limit { length held.old.docs < MAX_DOCUMENTS }
     requires tails_room { vec_len held.old.tails < vec_capacity held.old.tails }
     requires logs_room { vec_len held.old.logs < vec_capacity held.old.logs }
-    ensures value { AnswersUnlessOutside (λ docs. docs) ⊥ (opened_to result held.new.docs) (added number held.old.docs opened.kept.order) }
+    ensures value { AnswersUnlessOutside (λ docs. docs) ⊥ (opened_to result held.new.docs)
+        (added number held.old.docs opened.kept.order) }
     ensures docs { OnOk result (held.new.docs ≡ held.old.docs ++ opened.kept.order ∷ []) }
-    ensures tails { OnOk result (held.new.tails.items ≡ held.old.tails.items ++ opened.kept.tail ∷ []) }
-    ensures logs { OnOk result (held.new.logs.items ≡ held.old.logs.items ++ record { name = string_bytes opened.name; logged = opened.logged } ∷ []) }
-    ensures unchanged { OnErr result ((held.new.docs ≡ held.old.docs) × (held.new.tails.items ≡ held.old.tails.items)
+    ensures tails { OnOk result
+        (held.new.tails.items ≡ held.old.tails.items ++ opened.kept.tail ∷ []) }
+    ensures logs { OnOk result (held.new.logs.items ≡ held.old.logs.items
+        ++ record { name = string_bytes opened.name; logged = opened.logged } ∷ []) }
+    ensures unchanged { OnErr result
+        ((held.new.docs ≡ held.old.docs) × (held.new.tails.items ≡ held.old.tails.items)
         × (held.new.logs.items ≡ held.old.logs.items)) }
     ensures files { OnOk result ((F.told files.new).files ≡ (F.told files.old).files) }
-    ensures back { OnErr result (TakesTail (string_bytes opened.name) (use_of F.told files.old files.new)) }
+    ensures back { OnErr result
+        (TakesTail (string_bytes opened.name) (use_of F.told files.old files.new)) }
     ensures lent { (F.told files.new).lent ≡ (F.told files.old).lent }
     ensures asked { (F.told files.new).asked ≡ (F.told files.old).asked }
     ensures kept { (F.told files.old).faults ≤ (F.told files.new).faults }

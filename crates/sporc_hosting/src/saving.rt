@@ -17,7 +17,8 @@ use sporc_words::Word;
 use std::alloc::Global;
 use std::fmt::Write;
 
-// Saves the log of each of these documents, also if one before it was not saved, and tells how many entries each has.
+// Saves the log of each of these documents, also if one before it was not saved, and tells how many
+// entries each has.
 #[tactic(auto, using(crate::proofs::Saved::as_many_left))]
 pub(crate) fn keep_logs<F: Folder, O: Sink>(
     alloc: Global,
@@ -31,7 +32,8 @@ pub(crate) fn keep_logs<F: Folder, O: Sink>(
         (moment_of F.told O.told files.new out.new)
         result }
     ensures lent { (F.told files.new).lent ≡ (F.told files.old).lent }
-    ensures may_ask { AsksOnly (logs_of names.now) (F.told files.old).asked (F.told files.new).asked }
+    ensures may_ask { AsksOnly (logs_of names.now) (F.told files.old).asked
+        (F.told files.new).asked }
     ensures kept { (F.told files.old).faults ≤ (F.told files.new).faults }
     ensures out_kept { (O.told out.old).faults ≤ (O.told out.new).faults }
 {
@@ -54,10 +56,12 @@ fn keep_document<F: Folder, O: Sink>(
     name: &Word,
     order: &Order,
 ) -> Result<(), Fault>
-    ensures keeps { KeepsLog (names_of_document name.now) (use_of F.told files.old files.new) (use_of O.told out.old out.new)
-        order.now (document_line name.now (length order.now.entries)) result }
+    ensures keeps { KeepsLog (names_of_document name.now) (use_of F.told files.old files.new)
+        (use_of O.told out.old out.new) order.now
+        (document_line name.now (length order.now.entries)) result }
     ensures lent { (F.told files.new).lent ≡ (F.told files.old).lent }
-    ensures may_ask { AsksOnly (file_name (names_of_document name.now) File.Log ∷ []) (F.told files.old).asked (F.told files.new).asked }
+    ensures may_ask { AsksOnly (file_name (names_of_document name.now) File.Log ∷ [])
+        (F.told files.old).asked (F.told files.new).asked }
     ensures kept { (F.told files.old).faults ≤ (F.told files.new).faults }
     ensures out_kept { (O.told out.old).faults ≤ (O.told out.new).faults }
 {

@@ -10,4 +10,5 @@ pub record DrawsWords (before after : Option (List (List ℕ))) (words : List (L
 
 -- at most so many words are drawn, as `DrawsWords` says
 abbrev pub DrawsWordsUpTo : ℕ → Option (List (List ℕ)) → Option (List (List ℕ)) → Type 0
-DrawsWordsUpTo most before after = (words : List (List ℕ)) × (length words ≤ most) × DrawsWords before after words
+DrawsWordsUpTo most before after =
+    (words : List (List ℕ)) × (length words ≤ most) × DrawsWords before after words

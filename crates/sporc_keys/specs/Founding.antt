@@ -1,5 +1,7 @@
 -- What a document begins with: its genesis, and a ring for each number that is named.
-use Rattle.std.specs.Prelude.{◌≡◌, ℕ, ◌+◌, ◌==◌, ◌≤◌, nat_lt, nat_eq, Bool, true, false, List, [], ◌∷◌, ◌++◌, length, take, map, fold, filter_map, find, option_map, is_none, Option, None, Some, if◌then◌else◌}
+use Rattle.std.specs.Prelude.{◌≡◌, ℕ, ◌+◌, ◌==◌, ◌≤◌, nat_lt, nat_eq, Bool, true, false, List, []}
+use Rattle.std.specs.Prelude.{◌∷◌, ◌++◌, length, take, map, fold, filter_map, find, option_map}
+use Rattle.std.specs.Prelude.{is_none, Option, None, Some, if◌then◌else◌}
 use Rattle.std.specs.List.{AllByRecursion, list_any, zip, IsDistinct}
 use Rattle.lms_tree.specs.LmsPublic.{public_key_bytes, public_key_in}
 use Rattle.sporc_hash.specs.Chain.{commitment_of}
@@ -27,7 +29,8 @@ numbers_of all = map number_of all
 
 -- who is a member from the beginning
 abbrev pub founder_in : Named → Option Founder
-founder_in (named.Founder member role key) = Some (record { member = member; role = role; key = public_key_bytes key })
+founder_in (named.Founder member role key) =
+    Some (record { member = member; role = role; key = public_key_bytes key })
 founder_in (named.Joiner member) = None
 
 abbrev pub founders_in : List Named → List Founder
@@ -46,7 +49,8 @@ is_first_admin (named.Joiner member) = false
 -- one more, among some in ascending order of their numbers
 abbrev pub insert_named : Named → List Named → List Named
 insert_named n [] = n ∷ []
-insert_named n (m ∷ ms) = if nat_lt (number_of n) (number_of m) then n ∷ m ∷ ms else m ∷ insert_named n ms
+insert_named n (m ∷ ms) =
+    if nat_lt (number_of n) (number_of m) then n ∷ m ∷ ms else m ∷ insert_named n ms
 
 -- in ascending order of their numbers
 abbrev pub in_order : List Named → List Named
@@ -83,9 +87,10 @@ abbrev pub numbers_in : SharedKey → ℕ × ℕ
 numbers_in s = (s.first, s.second)
 
 -- more keys, for these pairs in their order, one drawn word after another
-abbrev pub SharesMore : Option (List (List ℕ)) → Option (List (List ℕ)) → List (ℕ × ℕ) → List SharedKey → List SharedKey → Type 0
-SharesMore before after pairs old new =
-    (more : List SharedKey) × (new ≡ old ++ more) × (map numbers_in more ≡ pairs) × DrawsWords before after (map (λ s. s.key) more)
+abbrev pub SharesMore : Option (List (List ℕ)) → Option (List (List ℕ)) → List (ℕ × ℕ)
+    → List SharedKey → List SharedKey → Type 0
+SharesMore before after pairs old new = (more : List SharedKey) × (new ≡ old ++ more)
+    × (map numbers_in more ≡ pairs) × DrawsWords before after (map (λ s. s.key) more)
 
 -- the key that a member has of a pair, if it is one of the two: under the number of the other
 abbrev pub pair_key_of : ℕ → SharedKey → Option PairKey
@@ -110,15 +115,21 @@ epoch_key_of key (named.Founder member role public) = Some key
 epoch_key_of key (named.Joiner member) = None
 
 abbrev pub ring_of : List ℕ → List SharedKey → Named → RingFile
-ring_of key shared n =
-    record { member = number_of n; epoch_key = epoch_key_of key n; pairs = pair_keys_of (number_of n) shared }
+ring_of key shared n = record {
+  member = number_of n;
+  epoch_key = epoch_key_of key n;
+  pairs = pair_keys_of (number_of n) shared;
+}
 
 abbrev pub genesis_of : List ℕ → List ℕ → List Named → Genesis
-genesis_of document key all =
-    record { document = document; commitment = commitment_of document 0 key; founders = founders_in all }
+genesis_of document key all = record {
+  document = document;
+  commitment = commitment_of document 0 key;
+  founders = founders_in all;
+}
 
--- what those in ascending order of their numbers begin with, by words: the document is the first 16 bytes of the first, the
--- key of epoch 0 the second, and the pairs share the others
+-- what those in ascending order of their numbers begin with, by words: the document is the first 16
+-- bytes of the first, the key of epoch 0 the second, and the pairs share the others
 abbrev pub found_of : List Named → List ℕ → List ℕ → List (List ℕ) → Founding
 found_of all first key words = record {
   genesis = genesis_of (take 16 first) key all;
@@ -130,7 +141,8 @@ abbrev pub words_for : List Named → ℕ
 words_for all = 2 + length (pairs_of (numbers_of all))
 
 -- what was made of the words that a chance gave, one for each pair behind two
-abbrev pub IsFounding : Option (List (List ℕ)) → Option (List (List ℕ)) → List Named → Founding → Type 0
-IsFounding before after all founding =
-    (first key : List ℕ) × (words : List (List ℕ)) × (length words ≡ length (pairs_of (numbers_of all)))
+abbrev pub IsFounding : Option (List (List ℕ)) → Option (List (List ℕ)) → List Named
+    → Founding → Type 0
+IsFounding before after all founding = (first key : List ℕ) × (words : List (List ℕ))
+    × (length words ≡ length (pairs_of (numbers_of all)))
     × DrawsWords before after (first ∷ key ∷ words) × (founding ≡ found_of all first key words)

@@ -10,7 +10,8 @@
 -- | SEED | 32 | |
 --
 -- Nothing follows.
-use Rattle.std.specs.Prelude.{◌≡◌, ◌⊎◌, ℕ, ◌^◌, ◌<◌, ◌==◌, List, [], ◌∷◌, ◌++◌, length, codes, bytes_eq, find, Result, Ok, if◌then◌else◌}
+use Rattle.std.specs.Prelude.{◌≡◌, ◌⊎◌, ℕ, ◌^◌, ◌<◌, ◌==◌, List, [], ◌∷◌, ◌++◌, length, codes}
+use Rattle.std.specs.Prelude.{bytes_eq, find, Result, Ok, if◌then◌else◌}
 use Rattle.std.specs.Int.{w8, w16, w32, to_be_bytes}
 use Rattle.lms_ots.specs.declared.ots_type.OtsType.{OtsType}
 use Rattle.lms_ots.specs.declared.ots_type.OtsType.TheVariants.{W4, W8}
@@ -34,7 +35,8 @@ format_of number = if number == FIRST_DEVICE then codes "SPK1" else codes "SPK2"
 
 -- the device's number, which must be this one; that of a first device stands in no field
 unfoldable pub device_number_at : ℕ → Reading → Result (ℕ × Reading) ℕ
-device_number_at number r = if number == FIRST_DEVICE then Ok (number, r) else number_within number number w8 r
+device_number_at number r =
+    if number == FIRST_DEVICE then Ok (number, r) else number_within number number w8 r
 
 -- the type of a tree
 unfoldable pub lms_type_at : Reading → Result (LmsType × Reading) ℕ
@@ -60,10 +62,19 @@ key_file_at device r = do
   ots ← ots_type_at lms.1
   id ← bytes_at 16 ots.1
   seed ← bytes_at 32 id.1
-  Ok (record { device = record { member = member.0; number = number.0 }; lms = lms.0; ots = ots.0; id = id.0; seed = seed.0 }, seed.1)
+  Ok (
+    record {
+      device = record { member = member.0; number = number.0 };
+      lms = lms.0;
+      ots = ots.0;
+      id = id.0;
+      seed = seed.0;
+    },
+    seed.1,
+  )
 
--- the key file of a device that bytes spell, or the place of the first field that is cut short or forbidden, as the number
--- of another member or device is
+-- the key file of a device that bytes spell, or the place of the first field that is cut short or
+-- forbidden, as the number of another member or device is
 abbrev pub key_file_of : Device → List ℕ → Result KeyFile ℕ
 key_file_of device bytes = whole (key_file_at device) bytes
 
@@ -75,9 +86,9 @@ device_number_bytes number = if number == FIRST_DEVICE then [] else number ∷ [
 
 -- the bytes of a key file
 unfoldable pub key_file_bytes : KeyFile → List ℕ
-key_file_bytes k =
-    format_of k.device.number ++ (to_be_bytes w16 k.device.member ++ (device_number_bytes k.device.number
-    ++ (to_be_bytes w32 (lms_code_of k.lms) ++ (to_be_bytes w32 (ots_code_of k.ots) ++ (k.id ++ k.seed)))))
+key_file_bytes k = format_of k.device.number
+    ++ (to_be_bytes w16 k.device.member ++ (device_number_bytes k.device.number ++ (to_be_bytes w32
+    (lms_code_of k.lms) ++ (to_be_bytes w32 (ots_code_of k.ots) ++ (k.id ++ k.seed)))))
 
 -- the widths of one-time keys that a key file may name
 abbrev pub IsKeyWidth : OtsType → Type 0
@@ -94,11 +105,13 @@ pub record IsKeyFile (k : KeyFile) : Type 0 where
 
 -- ---- the file of another device
 
--- where the file of one device is malformed as that of another: at the format if one of them is a member's first device, or at
--- the first number that differs
+-- where the file of one device is malformed as that of another: at the format if one of them is a
+-- member's first device, or at the first number that differs
 abbrev pub place_of_other : Device → Device → ℕ
 place_of_other wanted found =
-    if bytes_eq (format_of found.number) (format_of wanted.number) then if wanted.member == found.member then 6 else 4 else 0
+    if bytes_eq (format_of found.number) (format_of wanted.number)
+    then if wanted.member == found.member then 6 else 4
+    else 0
 
 -- ---- the key
 

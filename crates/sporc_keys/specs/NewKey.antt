@@ -29,6 +29,7 @@ abbrev pub keygen_of : Device → LmsType → OtsType → List ℕ → List ℕ 
 keygen_of device lms ots first second = made_of (key_file_by device lms ots first second)
 
 -- a key that was made of the two words that a chance gave
-abbrev pub IsKeygen : Option (List (List ℕ)) → Option (List (List ℕ)) → Device → LmsType → OtsType → NewKey → Type 0
-IsKeygen before after device lms ots key =
-    (first second : List ℕ) × DrawsWords before after (first ∷ second ∷ []) × (key ≡ keygen_of device lms ots first second)
+abbrev pub IsKeygen : Option (List (List ℕ)) → Option (List (List ℕ)) → Device → LmsType → OtsType
+    → NewKey → Type 0
+IsKeygen before after device lms ots key = (first second : List ℕ)
+    × DrawsWords before after (first ∷ second ∷ []) × (key ≡ keygen_of device lms ots first second)

@@ -9,7 +9,8 @@
 -- | keys shared with members, each | 2 member, 32 key | strictly ascending |
 --
 -- Nothing follows.
-use Rattle.std.specs.Prelude.{◌≡◌, ℕ, ◌+◌, ◌^◌, ◌<◌, ◌==◌, List, [], ◌∷◌, ◌++◌, length, map, fold, codes, Option, None, Some, Result, Ok, IfSome, if◌then◌else◌}
+use Rattle.std.specs.Prelude.{◌≡◌, ℕ, ◌+◌, ◌^◌, ◌<◌, ◌==◌, List, [], ◌∷◌, ◌++◌, length, map, fold}
+use Rattle.std.specs.Prelude.{codes, Option, None, Some, Result, Ok, IfSome, if◌then◌else◌}
 use Rattle.std.specs.FinMap.{empty, insert}
 use Rattle.std.specs.Int.{w8, w16, to_be_bytes}
 use Rattle.std.specs.List.{AllByRecursion, flat_map}
@@ -36,7 +37,8 @@ pair_at least r = do
   key ← bytes_at 32 member.1
   Ok (record { member = member.0; key = key.0 }, key.1)
 
--- a key shared with a member whose number is at least this, and the least number of the one after it
+-- a key shared with a member whose number is at least this, and the least number of the one after
+-- it
 unfoldable pub next_pair : ℕ × Reading → Result (PairKey × (ℕ × Reading)) ℕ
 next_pair (least, r) = do
   p ← pair_at least r
@@ -79,8 +81,8 @@ pair_bytes p = to_be_bytes w16 p.member ++ p.key
 
 -- the bytes of a ring file
 unfoldable pub ring_file_bytes : RingFile → List ℕ
-ring_file_bytes f =
-    codes "SPR1" ++ (to_be_bytes w16 f.member ++ (epoch_key_bytes f.epoch_key ++ (to_be_bytes w16 (length f.pairs) ++ flat_map pair_bytes f.pairs)))
+ring_file_bytes f = codes "SPR1" ++ (to_be_bytes w16 f.member ++ (epoch_key_bytes f.epoch_key
+    ++ (to_be_bytes w16 (length f.pairs) ++ flat_map pair_bytes f.pairs)))
 
 pub record IsPairKey (p : PairKey) : Type 0 where
   pub member : p.member < 2 ^ 16

@@ -1,6 +1,7 @@
 //! Words drawn from a chance.
 
-ghost use Rattle.std.specs.Prelude.{◌≡◌, ◌<◌, ◌≤◌, [], Err, length, slice_index, take, OnOk, OnErr, IfOk};
+ghost use Rattle.std.specs.Prelude.{◌≡◌, ◌<◌, ◌≤◌, [], Err, length, slice_index, take, OnOk, OnErr};
+ghost use Rattle.std.specs.Prelude.{IfOk};
 ghost use Rattle.sporc_outside.specs.Counts.{Rose};
 ghost use Rattle.sporc_keys.specs.Drawn.{DrawsWordsUpTo};
 ghost use Rattle.sporc_keys.specs.Founding.{SharesMore, pairs_of, row};
@@ -37,8 +38,10 @@ fn draw_row<C: Chance>(
 ) -> Result<(), DrawFault>
     ensures ok { OnOk result (SharesMore (C.told chance.old).given (C.told chance.new).given
         (row first numbers.now) shared.old.items shared.new.items) }
-    ensures chance { result ≡ Err DrawFault.Chance → Rose (C.told chance.old).faults (C.told chance.new).faults }
-    ensures drawn { OnErr result (DrawsWordsUpTo (length numbers.now) (C.told chance.old).given (C.told chance.new).given) }
+    ensures chance { result ≡ Err DrawFault.Chance
+        → Rose (C.told chance.old).faults (C.told chance.new).faults }
+    ensures drawn { OnErr result
+        (DrawsWordsUpTo (length numbers.now) (C.told chance.old).given (C.told chance.new).given) }
     ensures kept { (C.told chance.old).faults ≤ (C.told chance.new).faults }
 {
     for second in numbers {
@@ -58,10 +61,12 @@ pub(crate) fn draw_pairs<C: Chance>(
     chance: &mut C,
     numbers: &[u16],
 ) -> Result<Vec<SharedKey>, DrawFault>
-    ensures ok { IfOk result (λ shared. SharesMore (C.told chance.old).given (C.told chance.new).given
-        (pairs_of numbers.now) [] shared.items) }
-    ensures chance { result ≡ Err DrawFault.Chance → Rose (C.told chance.old).faults (C.told chance.new).faults }
-    ensures drawn { OnErr result (DrawsWordsUpTo (length (pairs_of numbers.now)) (C.told chance.old).given (C.told chance.new).given) }
+    ensures ok { IfOk result (λ shared. SharesMore (C.told chance.old).given
+        (C.told chance.new).given (pairs_of numbers.now) [] shared.items) }
+    ensures chance { result ≡ Err DrawFault.Chance
+        → Rose (C.told chance.old).faults (C.told chance.new).faults }
+    ensures drawn { OnErr result (DrawsWordsUpTo (length (pairs_of numbers.now))
+        (C.told chance.old).given (C.told chance.new).given) }
     ensures kept { (C.told chance.old).faults ≤ (C.told chance.new).faults }
 {
     let mut shared = Vec::new(alloc);

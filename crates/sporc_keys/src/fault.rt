@@ -8,8 +8,8 @@ use sporc_outside::Failed;
 use std::alloc::{AllocError, AllocFailed};
 use thiserror::Error;
 
-/// The first field that is cut short or has a forbidden value begins at this place; if bytes follow the last field, it is
-/// that of the first of them.
+/// The first field that is cut short or has a forbidden value begins at this place; if bytes follow
+/// the last field, it is that of the first of them.
 #[derive(Clone, Copy, Debug, PartialEq, Eq, Error)]
 #[error("malformed at {0}")]
 pub struct Malformed(pub usize);
@@ -17,8 +17,8 @@ pub struct Malformed(pub usize);
 /// Why bytes are no ring file.
 #[derive(Clone, Copy, Debug, PartialEq, Eq, Error)]
 pub enum RingFileFault {
-    /// The first field that is cut short or has a forbidden value begins at this place; if bytes follow the last field, it
-    /// is that of the first of them.
+    /// The first field that is cut short or has a forbidden value begins at this place; if bytes
+    /// follow the last field, it is that of the first of them.
     #[error("malformed at {0}")]
     Malformed(usize),
     /// Out of memory.

@@ -43,7 +43,8 @@ fn founders_of(alloc: Global, named: &[Named]) -> Result<Vec<Founder>, Memory>
 
 // Appends one who is named, if it is a founder.
 fn put_founder(founders: &mut Vec<Founder>, one: &Named) -> Result<(), Memory>
-    ensures value { OnOk result (founders.new.items ≡ founders.old.items ++ filter_map founder_in (one.now ∷ [])) }
+    ensures value { OnOk result
+        (founders.new.items ≡ founders.old.items ++ filter_map founder_in (one.now ∷ [])) }
     ensures keys { OnOk result (AllByRecursion IsKnownKey founders.old.items
         → AllByRecursion IsKnownKey founders.new.items) }
 {

@@ -23,16 +23,18 @@ use std::alloc::Global;
 /// Ring files, seen as the list of them.
 pub type Rings = Items<RingFile>;
 
-/// What a document begins with: its genesis, and the ring file of each who is named, in ascending order of their numbers.
+/// What a document begins with: its genesis, and the ring file of each who is named, in ascending
+/// order of their numbers.
 #[derive(Drop)]
 pub struct Founding {
     pub genesis: Genesis,
     pub rings: Rings,
 }
 
-/// What a document begins with that these found, in whatever order they are named. Of the words of the chance the first
-/// gives its number, the first 16 bytes of it; the second is the key of epoch 0; then each pair of numbers has a word for the
-/// key that they share, `(i, j)` with `i <= j`, in ascending order of `i`, then `j`: at most 2,082 words.
+/// What a document begins with that these found, in whatever order they are named. Of the words of
+/// the chance the first gives its number, the first 16 bytes of it; the second is the key of epoch
+/// 0; then each pair of numbers has a word for the key that they share, `(i, j)` with `i <= j`, in
+/// ascending order of `i`, then `j`: at most 2,082 words.
 ///
 /// A founder's ring has the key of epoch 0, a joiner's does not.
 pub fn found<C: Chance>(
@@ -41,12 +43,14 @@ pub fn found<C: Chance>(
     named: &[Named],
 ) -> Result<Founding, DrawFault>
     requires named { CanFound named.now }
-    ensures ok { IfOk result (λ founding.
-        IsFounding (C.told chance.old).given (C.told chance.new).given (in_order named.now) founding) }
+    ensures ok { IfOk result (λ founding. IsFounding (C.told chance.old).given
+        (C.told chance.new).given (in_order named.now) founding) }
     ensures genesis { IfOk result (λ founding. IsGenesis founding.genesis) }
     ensures rings { IfOk result (λ founding. AllByRecursion IsRingFile founding.rings) }
-    ensures chance { result ≡ Err DrawFault.Chance → Rose (C.told chance.old).faults (C.told chance.new).faults }
-    ensures drawn { OnErr result (DrawsWordsUpTo (words_for (in_order named.now)) (C.told chance.old).given (C.told chance.new).given) }
+    ensures chance { result ≡ Err DrawFault.Chance
+        → Rose (C.told chance.old).faults (C.told chance.new).faults }
+    ensures drawn { OnErr result (DrawsWordsUpTo (words_for (in_order named.now))
+        (C.told chance.old).given (C.told chance.new).given) }
     ensures kept { (C.told chance.old).faults ≤ (C.told chance.new).faults }
 {
     let named = in_order(alloc, named)?;

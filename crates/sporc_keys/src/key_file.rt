@@ -6,7 +6,9 @@ ghost use Rattle.lms_ots.specs.declared.ots_type.OtsType.TheVariants.{W4, W8};
 ghost use Rattle.lms_tree.specs.LmsType.{lms_code_of};
 ghost use Rattle.lms_tree.specs.declared.lms_type.LmsType.TheVariants.{H5, H10, H15};
 ghost use Rattle.sporc_bytes.specs.Fields.{Reads};
-ghost use Rattle.sporc_keys.specs.KeyFile.{IsKeyFile, device_number_at, device_number_bytes, format_of, key_file_at, key_file_bytes, key_file_of, lms_type_at, ots_type_at, private_in};
+ghost use Rattle.sporc_keys.specs.KeyFile.{IsKeyFile, device_number_at, device_number_bytes};
+ghost use Rattle.sporc_keys.specs.KeyFile.{format_of, key_file_at, key_file_bytes, key_file_of};
+ghost use Rattle.sporc_keys.specs.KeyFile.{lms_type_at, ots_type_at, private_in};
 
 use crate::fault::Malformed;
 use crate::format::read_format;
@@ -21,8 +23,8 @@ use std::thread::Threads;
 // How many workers build a tree.
 const BUILDERS: u32 = 4;
 
-/// A device's key: the two types, the identifier `I` and the seed of its tree (RFC 8554, section 5.2 and Appendix A). In
-/// a file the tree has height 5, 10 or 15, and the one-time keys W4 or W8.
+/// A device's key: the two types, the identifier `I` and the seed of its tree (RFC 8554, section
+/// 5.2 and Appendix A). In a file the tree has height 5, 10 or 15, and the one-time keys W4 or W8.
 #[derive(Clone, Copy)]
 pub struct KeyFile {
     pub device: Device,
@@ -102,7 +104,8 @@ fn read_ots_type(cursor: &mut Cursor<'_>) -> Result<OtsType, Short>
     }
 }
 
-// The device's number that stands next, which must be this one. That of a first device stands in no field.
+// The device's number that stands next, which must be this one. That of a first device stands in no
+// field.
 #[tactic(auto, unfolding(crate::specs::KeyFile::device_number_at))]
 fn read_device_number(cursor: &mut Cursor<'_>, number: u8) -> Result<u8, Short>
     ensures { Reads (λ found. (found, cursor.new)) result (device_number_at number cursor.old) }
@@ -144,12 +147,14 @@ fn read_all(bytes: &[u8], device: Device) -> Result<KeyFile, Short>
     Ok(file)
 }
 
-/// The key file of this device that these bytes spell. Malformed are that of another member, at the member's number, which
-/// stands at 4, that of another further device of the member, at the device's number, which stands at 6, and that of a
-/// further device in place of the first, or the other way round, at 0.
+/// The key file of this device that these bytes spell. Malformed are that of another member, at the
+/// member's number, which stands at 4, that of another further device of the member, at the
+/// device's number, which stands at 6, and that of a further device in place of the first, or the
+/// other way round, at 0.
 pub fn key_of_device(bytes: &[u8], device: Device) -> Result<KeyFile, Malformed>
     // What is read is spelled so.
-    ensures found { IfOk result (λ k. IsKeyFile k × (k.device ≡ device) × (bytes.now ≡ key_file_bytes k)) }
+    ensures found { IfOk result
+        (λ k. IsKeyFile k × (k.device ≡ device) × (bytes.now ≡ key_file_bytes k)) }
     ensures ok { IfOk result (λ k. key_file_of device bytes.now ≡ Ok k) }
     ensures err { IfErr result (λ malformed. key_file_of device bytes.now ≡ Err malformed.0) }
 {

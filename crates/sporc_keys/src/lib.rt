@@ -1,21 +1,27 @@
 //! The files of keys and of rings, and what they are made of.
 //!
-//! A device's key file has the seed of its signatures, and a member's ring file the keys that it has from the beginning, with
-//! all its devices: the key of epoch 0, if it is a founder, and a key shared with each other member that is named. Both
-//! formats have big-endian numbers and one spelling; a reader answers the file, or the place of the first byte of the first
-//! field that is cut short or has a forbidden value.
+//! A device's key file has the seed of its signatures, and a member's ring file the keys that it
+//! has from the beginning, with all its devices: the key of epoch 0, if it is a founder, and a key
+//! shared with each other member that is named. Both formats have big-endian numbers and one
+//! spelling; a reader answers the file, or the place of the first byte of the first field that is
+//! cut short or has a forbidden value.
 //!
 //! ```text
-//! let key = keygen(rt, alloc, &mut chance, Device::first(3), LmsType::H10, OtsType::W4)?;  // key file, public key, blank leaf file
-//! let founding = found(alloc, &mut chance, &named)?;                                       // genesis and rings
-//! let file = key_of_device(bytes, Device::first(3))?;                                      // Malformed(4) if it is another member's
+//! // key file, public key, blank leaf file
+//! let key = keygen(rt, alloc, &mut chance, Device::first(3), LmsType::H10, OtsType::W4)?;
+//! // genesis and rings
+//! let founding = found(alloc, &mut chance, &named)?;
+//! // Malformed(4) if it is another member's
+//! let file = key_of_device(bytes, Device::first(3))?;
 //! let ring = ring_of_member(alloc, bytes, 3)?;
 //! ```
 //!
-//! Proved: what is read is spelled so, what is spelled so is read, and which place is named otherwise; that the key file of
-//! another device is refused ([`laws`]); what is made of which words of the chance, and how many a call that failed may have drawn; that each two who are named share
-//! one key, which is in both rings. Only tested: the bytes of small files, spelled by hand, and that calls succeed with
-//! ample memory (`sporc_files_tests`). Neither: that a chance is random, and that keys stay secret.
+//! Proved: what is read is spelled so, what is spelled so is read, and which place is named
+//! otherwise; that the key file of another device is refused ([`laws`]); what is made of which
+//! words of the chance, and how many a call that failed may have drawn; that each two who are named
+//! share one key, which is in both rings. Only tested: the bytes of small files, spelled by hand,
+//! and that calls succeed with ample memory (`sporc_files_tests`). Neither: that a chance is
+//! random, and that keys stay secret.
 #![tactic(auto)]
 
 mod draw;

@@ -20,7 +20,8 @@ use sporc_outside::Chance;
 use std::alloc::Global;
 use std::thread::Threads;
 
-/// A key that is new: its file, its public key, and the bytes of its leaf file, of which no leaf is taken.
+/// A key that is new: its file, its public key, and the bytes of its leaf file, of which no leaf is
+/// taken.
 #[derive(Drop)]
 pub struct NewKey {
     pub file: KeyFile,
@@ -28,8 +29,8 @@ pub struct NewKey {
     pub leaves: Bytes,
 }
 
-/// A new key of a device, made of two words of the chance: `I` is the first 16 bytes of the one, `SEED` the other. Its
-/// tree is built, as [`KeyFile::tree`] builds it.
+/// A new key of a device, made of two words of the chance: `I` is the first 16 bytes of the one,
+/// `SEED` the other. Its tree is built, as [`KeyFile::tree`] builds it.
 pub fn keygen<R: Threads + Sync, C: Chance>(
     rt: &R,
     alloc: Global,
@@ -40,10 +41,13 @@ pub fn keygen<R: Threads + Sync, C: Chance>(
 ) -> Result<NewKey, DrawFault>
     requires height { IsLeafHeight (height_of lms) }
     requires width { IsKeyWidth ots }
-    ensures ok { IfOk result (λ key. IsKeygen (C.told chance.old).given (C.told chance.new).given device lms ots key) }
+    ensures ok { IfOk result
+        (λ key. IsKeygen (C.told chance.old).given (C.told chance.new).given device lms ots key) }
     ensures spelled { IfOk result (λ key. IsKeyFile key.file) }
-    ensures chance { result ≡ Err DrawFault.Chance → Rose (C.told chance.old).faults (C.told chance.new).faults }
-    ensures drawn { OnErr result (DrawsWordsUpTo 2 (C.told chance.old).given (C.told chance.new).given) }
+    ensures chance { result ≡ Err DrawFault.Chance
+        → Rose (C.told chance.old).faults (C.told chance.new).faults }
+    ensures drawn { OnErr result
+        (DrawsWordsUpTo 2 (C.told chance.old).given (C.told chance.new).given) }
     ensures kept { (C.told chance.old).faults ≤ (C.told chance.new).faults }
 {
     let first = chance.fill32()?;

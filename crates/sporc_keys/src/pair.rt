@@ -7,7 +7,8 @@ use crate::ring_file::PairKey;
 use sporc_base::Memory;
 use std::alloc::Global;
 
-/// The key that two share; the number of the first is not above that of the second, and they may be one.
+/// The key that two share; the number of the first is not above that of the second, and they may be
+/// one.
 #[derive(Clone, Copy)]
 pub struct SharedKey {
     pub first: u16,

@@ -3,14 +3,16 @@
 ghost use Rattle.std.specs.Prelude.{◌≡◌, ◌++◌, IfOk, OnOk};
 ghost use Rattle.std.specs.List.{flat_map};
 ghost use Rattle.sporc_epoch.specs.Keys.{pairs_in};
-ghost use Rattle.sporc_keys.specs.RingFile.{IsRingFile, epoch_key_bytes, epoch_keys, pair_bytes, pair_keys, ring_file_bytes, with_pair};
+ghost use Rattle.sporc_keys.specs.RingFile.{IsRingFile, epoch_key_bytes, epoch_keys, pair_bytes};
+ghost use Rattle.sporc_keys.specs.RingFile.{pair_keys, ring_file_bytes, with_pair};
 
 use sporc_base::{Items, Memory};
 use sporc_bytes::Out;
 use sporc_epoch::{Pairs, Ring};
 use std::alloc::Global;
 
-/// A key of 32 bytes that a member shares with another, or has for itself, under the other's number.
+/// A key of 32 bytes that a member shares with another, or has for itself, under the other's
+/// number.
 #[derive(Clone, Copy)]
 pub struct PairKey {
     pub member: u16,

@@ -4,7 +4,9 @@ ghost use Rattle.std.specs.Prelude.{◌≡◌, IfOk};
 ghost use Rattle.sporc_base.specs.Outcome.{GivesUnless};
 ghost use Rattle.sporc_bytes.specs.Fields.{Reads, fault_as};
 ghost use Rattle.sporc_keys.specs.Fields.{whole};
-ghost use Rattle.sporc_keys.specs.RingFile.{IsRingFile, epoch_key_at, pair_at, pairs_at, ring_file_at, ring_file_bytes, ring_file_in, ring_file_of_member};
+ghost use Rattle.sporc_keys.specs.RingFile.{IsRingFile, epoch_key_at, pair_at, pairs_at};
+ghost use Rattle.sporc_keys.specs.RingFile.{ring_file_at, ring_file_bytes, ring_file_in};
+ghost use Rattle.sporc_keys.specs.RingFile.{ring_file_of_member};
 
 use crate::fault::RingFileFault;
 use crate::format::read_format;
@@ -100,9 +102,11 @@ pub fn read_ring_file(alloc: Global, bytes: &[u8]) -> Result<RingFile, RingFileF
     read_all(alloc, bytes, 0, HIGHEST_MEMBER)
 }
 
-/// The ring file of this member that these bytes spell: that of another is malformed at its number, which stands at 4.
+/// The ring file of this member that these bytes spell: that of another is malformed at its number,
+/// which stands at 4.
 pub fn ring_of_member(alloc: Global, bytes: &[u8], member: u16) -> Result<RingFile, RingFileFault>
-    ensures found { IfOk result (λ f. IsRingFile f × (f.member ≡ member) × (bytes.now ≡ ring_file_bytes f)) }
+    ensures found { IfOk result
+        (λ f. IsRingFile f × (f.member ≡ member) × (bytes.now ≡ ring_file_bytes f)) }
     ensures value { GivesUnless RingFileFault.Memory (λ f. f) result
         (fault_as RingFileFault.Malformed (ring_file_of_member member bytes.now)) }
 {

@@ -5,7 +5,8 @@ use Rattle.sporc_suffix.specs.Forms.{later_over}
 use Rattle.sporc_entry.specs.declared.genesis.Genesis.{Genesis}
 use Rattle.sporc_line.specs.Kit.{Kit}
 use Rattle.sporc_line.specs.Keys.{epoch_key}
-use Rattle.sporc_line.specs.Operations.{Operation, What, Edited, Changed, Unread, operation_in, operations}
+use Rattle.sporc_line.specs.Operations.{Operation, What, Edited, Changed, Unread, operation_in}
+use Rattle.sporc_line.specs.Operations.{operations}
 
 -- the text after forms, from the empty text on
 abbrev pub text_after : List (List Mark) → List ℕ
@@ -32,7 +33,8 @@ forms_of genesis kit entries = forms_from [] (operations genesis kit entries)
 
 -- the form that an entry gets that comes next
 abbrev pub next_form : Genesis → Kit → List (List ℕ) → List ℕ → List Mark
-next_form genesis kit entries bytes = form_of (forms_of genesis kit entries) (operation_in (epoch_key genesis kit entries) bytes)
+next_form genesis kit entries bytes =
+    form_of (forms_of genesis kit entries) (operation_in (epoch_key genesis kit entries) bytes)
 
 -- the committed text
 abbrev pub text_of : Genesis → Kit → List (List ℕ) → List ℕ

@@ -1,5 +1,6 @@
 -- The checks of an entry that is to stand at a position of a history, one line each.
-use Rattle.std.specs.Prelude.{ℕ, ◌+◌, ◌==◌, Bool, false, ◌&&◌, ◌||◌, List, [], ◌∷◌, ◌++◌, length, take, Option, None, Some, is_some}
+use Rattle.std.specs.Prelude.{ℕ, ◌+◌, ◌==◌, Bool, false, ◌&&◌, ◌||◌, List, [], ◌∷◌, ◌++◌, length}
+use Rattle.std.specs.Prelude.{take, Option, None, Some, is_some}
 use Rattle.std.specs.Str.{bytes_eq}
 use Rattle.sporc_base.specs.FirstFault.{unless}
 use Rattle.sporc_hash.specs.Chain.{commitment_of}
@@ -12,7 +13,8 @@ use Rattle.sporc_entry.specs.declared.genesis.Genesis.{Genesis}
 use Rattle.sporc_entry.specs.Entry.{entry_of, change_of}
 use Rattle.sporc_epoch.specs.Wraps.{previous_opened}
 use Rattle.sporc_head.specs.declared.refusal.Refusal.{Refusal}
-use Rattle.sporc_head.specs.declared.refusal.Refusal.TheVariants.{BadPayload, WrongLength, NoKey, WrongKey}
+use Rattle.sporc_head.specs.declared.refusal.Refusal.TheVariants.{BadPayload, WrongLength, NoKey}
+use Rattle.sporc_head.specs.declared.refusal.Refusal.TheVariants.{WrongKey}
 use Rattle.sporc_head.specs.History.{changes, epoch_of}
 use Rattle.sporc_head.specs.HeadChecks.{head_checks, fault_read}
 use Rattle.sporc_line.specs.Kit.{Kit}
@@ -32,35 +34,43 @@ edit_checks len marks =
     ∷ unless (is_over len marks) WrongLength
     ∷ []
 
--- whether a key meets the commitment of the change that starts its epoch, and opens the sealed key of the epoch before
+-- whether a key meets the commitment of the change that starts its epoch, and opens the sealed key
+-- of the epoch before
 abbrev pub is_new_key : List ℕ → ℕ → ChangeBody → Option (List ℕ) → Option (List ℕ) → Bool
 is_new_key document epoch c (Some old) (Some key) =
-    bytes_eq (commitment_of document epoch key) c.commitment && bytes_eq (previous_opened c epoch key) old
+    bytes_eq (commitment_of document epoch key) c.commitment
+    && bytes_eq (previous_opened c epoch key) old
 is_new_key document epoch c old key = false
 
 -- the checks of the key that a change starts, for a device that it doesn't remove
-abbrev pub new_key_checks : List ℕ → Device → ℕ → ChangeBody → Option (List ℕ) → Option (List ℕ) → List (Option Refusal)
+abbrev pub new_key_checks : List ℕ → Device → ℕ → ChangeBody → Option (List ℕ) → Option (List ℕ)
+    → List (Option Refusal)
 new_key_checks document me epoch c old key =
     unless (removes me c.change || is_some key) NoKey
     ∷ unless (removes me c.change || is_new_key document epoch c old key) WrongKey
     ∷ []
 
 -- the checks that need keys
-abbrev pub key_checks_of : Genesis → Kit → List (List ℕ) → Entry → Option ChangeBody → List (Option Refusal)
+abbrev pub key_checks_of : Genesis → Kit → List (List ℕ) → Entry → Option ChangeBody
+    → List (Option Refusal)
 key_checks_of genesis kit entries e None =
-    edit_checks (length (text_of genesis kit (take e.header.base entries))) (edit_marks (epoch_key genesis kit entries e.header.epoch) e)
+    edit_checks (length (text_of genesis kit (take e.header.base entries)))
+    (edit_marks (epoch_key genesis kit entries e.header.epoch) e)
 key_checks_of genesis kit entries e (Some c) =
     let epoch = epoch_of entries in
     let next = changes entries ++ record { header = e.header; body = c } ∷ [] in
-    new_key_checks genesis.document kit.me (epoch + 1) c (epoch_key genesis kit entries epoch) (key_after genesis kit next (epoch + 1))
+    new_key_checks genesis.document kit.me (epoch + 1) c (epoch_key genesis kit entries epoch)
+    (key_after genesis kit next (epoch + 1))
 
 unfoldable pub key_checks : Genesis → Kit → List (List ℕ) → Entry → List (Option Refusal)
 key_checks genesis kit entries e = key_checks_of genesis kit entries e (change_of e)
 
 -- all checks, in their order
 abbrev pub line_checks : Genesis → Kit → List (List ℕ) → ℕ → Entry → List (Option Refusal)
-line_checks genesis kit entries position e = head_checks genesis (Some kit.me) entries position e ++ key_checks genesis kit entries e
+line_checks genesis kit entries position e =
+    head_checks genesis (Some kit.me) entries position e ++ key_checks genesis kit entries e
 
 -- the first check that fails of an entry that is to stand at a position
 unfoldable pub first_fault : Genesis → Kit → List (List ℕ) → ℕ → List ℕ → Option Refusal
-first_fault genesis kit entries position bytes = fault_read (line_checks genesis kit entries position) (entry_of bytes)
+first_fault genesis kit entries position bytes =
+    fault_read (line_checks genesis kit entries position) (entry_of bytes)

@@ -11,7 +11,8 @@ use Rattle.sporc_line.specs.Keys.{epoch_key}
 use Rattle.sporc_line.specs.Document.{forms_of, text_of}
 use Rattle.sporc_line.specs.Good.{Good}
 
--- a document's genesis, what a member was given, the entries that it accepted, and how many more take no memory
+-- a document's genesis, what a member was given, the entries that it accepted, and how many more
+-- take no memory
 pub record LineModel : Type 0 where
   pub genesis : Genesis
   pub kit : Kit
@@ -19,7 +20,8 @@ pub record LineModel : Type 0 where
   pub spare : ℕ
 
 -- the history is good, and what is kept at hand of it is what the entries say
-pub record LineInvariant (genesis : Genesis) (kit : Kit) (entries : List (List ℕ)) (key : Option (List ℕ)) (base : ℕ) (forms : List (List Mark)) (text : List ℕ) : Type 0 where
+pub record LineInvariant (genesis : Genesis) (kit : Kit) (entries : List (List ℕ))
+    (key : Option (List ℕ)) (base : ℕ) (forms : List (List Mark)) (text : List ℕ) : Type 0 where
   pub good : Good genesis kit entries
   pub room : length entries ≤ MAX_ENTRIES
   pub key_is : key ≡ epoch_key genesis kit entries (epoch_of entries)

@@ -32,7 +32,8 @@ pub record Operation : Type 0 where
 abbrev pub marks_in : List ℕ → ℕ → List ℕ → Option (List Mark)
 marks_in key stream body = result_ok (read_delta (mask_of key stream body))
 
--- an edit's marks, its body unmasked under its epoch's key, where there is that key and the body is a delta
+-- an edit's marks, its body unmasked under its epoch's key, where there is that key and the body is
+-- a delta
 abbrev pub edit_marks : Option (List ℕ) → Entry → Option (List Mark)
 edit_marks None e = None
 edit_marks (Some key) e = marks_in key (stream_of e.header) e.body
@@ -47,12 +48,17 @@ what_of key e (Some c) = Changed c.change
 
 -- an entry, where this is its epoch's key
 abbrev pub operation_of : Option (List ℕ) → Entry → Operation
-operation_of key e =
-    record { author = author_device e.header; number = e.header.number; base = e.header.base; what = what_of key e (change_of e) }
+operation_of key e = record {
+  author = author_device e.header;
+  number = e.header.number;
+  base = e.header.base;
+  what = what_of key e (change_of e);
+}
 
 abbrev pub operation_read : (ℕ → Option (List ℕ)) → Result Entry ℕ → Operation
 operation_read keys (Ok e) = operation_of (keys e.header.epoch) e
-operation_read keys (Err at) = record { author = first_device 0; number = 0; base = 0; what = Unread }
+operation_read keys (Err at) =
+    record { author = first_device 0; number = 0; base = 0; what = Unread }
 
 -- what an entry's bytes do, under the keys of epochs
 unfoldable pub operation_in : (ℕ → Option (List ℕ)) → List ℕ → Operation

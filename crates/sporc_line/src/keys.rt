@@ -12,7 +12,8 @@ use sporc_hash::commit;
 use sporc_head::Refusal;
 use sporc_member::Device;
 
-/// The checks of the key of the epoch that a change starts, for a device that holds the key `old` of the epoch before.
+/// The checks of the key of the epoch that a change starts, for a device that holds the key `old`
+/// of the epoch before.
 pub(crate) fn check_new_key(
     document: &[u8; 16],
     me: Device,
@@ -21,7 +22,8 @@ pub(crate) fn check_new_key(
     old: Option<[u8; 32]>,
     key: Option<[u8; 32]>,
 ) -> Result<(), Refusal>
-    ensures fault { Answers result (first_of (new_key_checks document.now me epoch body.now old key)) }
+    ensures fault { Answers result
+        (first_of (new_key_checks document.now me epoch body.now old key)) }
 {
     if is_removal(&body.change, me) {
         return Ok(());
@@ -35,7 +37,8 @@ pub(crate) fn check_new_key(
     Ok(())
 }
 
-// Whether a key meets the commitment of the change that starts its epoch, and opens the sealed key of the epoch before.
+// Whether a key meets the commitment of the change that starts its epoch, and opens the sealed key
+// of the epoch before.
 fn is_new_key(
     document: &[u8; 16],
     epoch: u32,

@@ -77,8 +77,8 @@ impl MemberKit {
         })
     }
 
-    /// The key of the epoch that a change starts: from the member's own wrap, or its hint, if the change has no wrap for
-    /// it. None if the change removes the member or drops the device.
+    /// The key of the epoch that a change starts: from the member's own wrap, or its hint, if the
+    /// change has no wrap for it. None if the change removes the member or drops the device.
     pub(crate) fn started_key(
         &self,
         header: &Header,

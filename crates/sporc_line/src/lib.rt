@@ -1,25 +1,30 @@
-//! A history as one member reads it: the entries that it accepted, with their forms, the text and the key of the last
-//! epoch, and the first check that an entry fails.
+//! A history as one member reads it: the entries that it accepted, with their forms, the text and
+//! the key of the last epoch, and the first check that an entry fails.
 //!
-//! - [`Line`]: opened with a document's genesis and what the member was given. `accept` appends an entry or answers the
-//!   first of the 23 checks that fails; `prepare` and `commit` are its two halves, the second of which takes no memory.
-//!   `accept_examined` and `prepare_examined` do the same with an entry whose signature was examined before its turn, under
-//!   the key that `key_for` tells.
-//! - `specs/`: each of the definitions recomputes everything from the first entry: the keys of epochs (`Keys`), what each
-//!   entry does (`Operations`), forms and text (`Document`), the checks (`LineChecks`), good histories (`Good`), and the
-//!   strings that are hashed for one (`LineStrings`).
-//! - [`laws`]: members with one good history read it alike; what one entry more makes of a good history.
+//! - [`Line`]: opened with a document's genesis and what the member was given. `accept` appends an
+//!   entry or answers the first of the 23 checks that fails; `prepare` and `commit` are its two
+//!   halves, the second of which takes no memory. `accept_examined` and `prepare_examined` do the
+//!   same with an entry whose signature was examined before its turn, under the key that `key_for`
+//!   tells.
+//! - `specs/`: each of the definitions recomputes everything from the first entry: the keys of
+//!   epochs (`Keys`), what each entry does (`Operations`), forms and text (`Document`), the checks
+//!   (`LineChecks`), good histories (`Good`), and the strings that are hashed for one
+//!   (`LineStrings`).
+//! - [`laws`]: members with one good history read it alike; what one entry more makes of a good
+//!   history.
 //!
 //! ```text
 //! let mut line = Line::open(alloc, genesis, me, device, ring, pairs)?;     // NoKey, WrongKey
-//! line.accept(1, entry)?;                                                  // or the first check that fails
+//! // or the first check that fails
+//! line.accept(1, entry)?;
 //! let text = line.text()?;
 //! ```
 //!
-//! Proved: `prepare` and `accept`, and what does the same with an examined entry, answer exactly the first fault of the
-//! definition, unless memory runs out, and leave the line as it is, or append; every getter is its definition over the
-//! list; the history stays good after any calls; both laws. Nothing is looked up in the list while an entry is checked.
-//! Only tested: each refusal by entries with real signatures, and what members, a joiner and a removed member read
+//! Proved: `prepare` and `accept`, and what does the same with an examined entry, answer exactly
+//! the first fault of the definition, unless memory runs out, and leave the line as it is, or
+//! append; every getter is its definition over the list; the history stays good after any calls;
+//! both laws. Nothing is looked up in the list while an entry is checked. Only tested: each refusal
+//! by entries with real signatures, and what members, a joiner and a removed member read
 //! (`sporc_history_tests`). Neither: how long a call takes.
 #![tactic(auto)]
 

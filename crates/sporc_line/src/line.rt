@@ -1,6 +1,7 @@
 //! A history as one member reads it.
 
-ghost use Rattle.std.specs.Prelude.{◌≡◌, ◌-◌, ◌≤◌, [], length, take, map, slice_get, Some, IfOk, is_none, option_copied, IsTrue, ◌↔◌};
+ghost use Rattle.std.specs.Prelude.{◌≡◌, ◌-◌, ◌≤◌, [], length, take, map, slice_get, Some, IfOk};
+ghost use Rattle.std.specs.Prelude.{is_none, option_copied, IsTrue, ◌↔◌};
 ghost use Rattle.std.specs.String.{string_bytes};
 ghost use Rattle.std.specs.Str.{chars, encode_utf8_all};
 ghost use Rattle.std.specs.FinMap as map;
@@ -38,11 +39,11 @@ use sporc_text::Doc;
 use std::alloc::Global;
 use std::marker::Model;
 
-/// A history as one member reads it: the entries that it accepted, with their forms, the text and the key of the last
-/// epoch.
+/// A history as one member reads it: the entries that it accepted, with their forms, the text and
+/// the key of the last epoch.
 ///
-/// Contracts see the document's genesis, what the member was given, the entries, and `spare`: how many more entries take
-/// no memory.
+/// Contracts see the document's genesis, what the member was given, the entries, and `spare`: how
+/// many more entries take no memory.
 #[derive(Drop)]
 pub struct Line {
     alloc: Global,
@@ -70,8 +71,8 @@ impl Model for Line {
 }
 
 impl Line {
-    /// The empty history of a document for a device of a member, by both numbers, a ring with the key of epoch 0 or a joiner's
-    /// hints, and the member's pairwise keys.
+    /// The empty history of a document for a device of a member, by both numbers, a ring with the
+    /// key of epoch 0 or a joiner's hints, and the member's pairwise keys.
     pub fn open(
         alloc: Global,
         genesis: Genesis,
@@ -81,9 +82,11 @@ impl Line {
         pairs: Pairs,
     ) -> Result<Line, LineOpenFault>
         requires { IsGenesis genesis }
-        ensures fault { AnswersUnless LineOpenFault.Memory result (first_of (open_checks genesis (map.get ring.keys 0))) }
+        ensures fault { AnswersUnless LineOpenFault.Memory result
+            (first_of (open_checks genesis (map.get ring.keys 0))) }
         ensures genesis { IfOk result (λ line. line.genesis ≡ genesis) }
-        ensures kit { IfOk result (λ line. line.kit ≡ kit_of (record { member = me; number = device }) ring.keys (pairs_in pairs)) }
+        ensures kit { IfOk result (λ line. line.kit
+            ≡ kit_of (record { member = me; number = device }) ring.keys (pairs_in pairs)) }
         ensures empty { IfOk result (λ line. line.entries ≡ []) }
     {
         let me = Device {
@@ -117,7 +120,8 @@ impl Line {
         })
     }
 
-    /// The empty history of the same document for the same member, with what it was given at the opening.
+    /// The empty history of the same document for the same member, with what it was given at the
+    /// opening.
     pub fn reopen(&self) -> Result<Line, Memory>
         ensures genesis { IfOk result (λ line. line.genesis ≡ self.now.genesis) }
         ensures kit { IfOk result (λ line. line.kit ≡ self.now.kit) }
@@ -171,7 +175,8 @@ impl Line {
     pub fn form(&self, i: u32) -> &Delta
         requires positive { 1 ≤ i }
         requires in_bounds { i ≤ length self.now.entries }
-        ensures value { slice_get (forms_of self.now.genesis self.now.kit self.now.entries) (i - 1) ≡ Some result.now }
+        ensures value { slice_get (forms_of self.now.genesis self.now.kit self.now.entries) (i - 1)
+            ≡ Some result.now }
     {
         self.forms.form(i - 1)
     }
@@ -179,7 +184,8 @@ impl Line {
     /// How many characters the text had after `i` entries.
     pub fn text_len_at(&self, i: u32) -> u64
         requires { i ≤ length self.now.entries }
-        ensures value { result ≡ length (text_of self.now.genesis self.now.kit (take i self.now.entries)) }
+        ensures value { result
+            ≡ length (text_of self.now.genesis self.now.kit (take i self.now.entries)) }
         ensures within { result ≤ MAX_COMMITTED_LEN }
     {
         if i == self.heads.len() {
@@ -219,8 +225,9 @@ impl Line {
         &self.heads
     }
 
-    /// The key under which the check of an entry's signature verifies it at this line: that of its author's device. None
-    /// exactly if the bytes are no entry, or its author has no such live device. It takes no memory.
+    /// The key under which the check of an entry's signature verifies it at this line: that of its
+    /// author's device. None exactly if the bytes are no entry, or its author has no such live
+    /// device. It takes no memory.
     pub fn key_for(&self, entry: &[u8]) -> Option<[u8; 56]>
         ensures value { result ≡ key_for (roster_of self.now.genesis self.now.entries) entry.now }
     {
@@ -264,7 +271,8 @@ impl Line {
 
     /// The key of the last epoch. None if the member was removed or the device dropped.
     pub fn key(&self) -> Option<&[u8; 32]>
-        ensures value { option_copied result ≡ epoch_key self.now.genesis self.now.kit self.now.entries (epoch_of self.now.entries) }
+        ensures value { option_copied result
+            ≡ epoch_key self.now.genesis self.now.kit self.now.entries (epoch_of self.now.entries) }
         ensures none { is_none result ≡ is_removed self.now.kit.me self.now.entries }
     {
         self.key.as_ref()
@@ -272,9 +280,12 @@ impl Line {
 
     /// The committed text as UTF-8.
     pub fn text(&self) -> Result<String, Memory>
-        ensures ok { IfOk result (λ t. string_bytes t ≡ encode_utf8_all (text_of self.now.genesis self.now.kit self.now.entries)) }
-        ensures characters { IfOk result (λ t. chars (string_bytes t) ≡ text_of self.now.genesis self.now.kit self.now.entries) }
-        ensures within { length (text_of self.now.genesis self.now.kit self.now.entries) ≤ MAX_COMMITTED_LEN }
+        ensures ok { IfOk result (λ t. string_bytes t
+            ≡ encode_utf8_all (text_of self.now.genesis self.now.kit self.now.entries)) }
+        ensures characters { IfOk result
+            (λ t. chars (string_bytes t) ≡ text_of self.now.genesis self.now.kit self.now.entries) }
+        ensures within { length (text_of self.now.genesis self.now.kit self.now.entries)
+            ≤ MAX_COMMITTED_LEN }
     {
         self.text.text()
     }

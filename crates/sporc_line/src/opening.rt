@@ -17,7 +17,8 @@ pub(crate) fn opening_key(
 ) -> Result<[u8; 32], LineOpenFault>
     ensures fault { Answers result (first_of (open_checks genesis.now key)) }
     ensures value { IfOk result (λ k. key ≡ Some k) }
-    ensures meets { IfOk result (λ k. commitment_of genesis.now.document 0 k ≡ genesis.now.commitment) }
+    ensures meets { IfOk result
+        (λ k. commitment_of genesis.now.document 0 k ≡ genesis.now.commitment) }
 {
     let Some(key) = key else {
         return Err(LineOpenFault::NoKey);

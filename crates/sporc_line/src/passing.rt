@@ -11,12 +11,13 @@ use sporc_suffix::{Blocks, Steps};
 use std::marker::Brand;
 use std::sync::ledger::{Blank, Ledger};
 
-/// What marks, stated on the text after the first `from` forms, become behind all forms. There are none after an edit of the
-/// last text, whose marks are the form.
+/// What marks, stated on the text after the first `from` forms, become behind all forms. There are
+/// none after an edit of the last text, whose marks are the form.
 pub(crate) fn pass_forms(forms: &Blocks, marks: Delta, from: u32) -> Result<Delta, Memory>
     requires in_bounds { from ≤ length forms.now.forms }
     requires base { base_len marks ≡ reached forms.now.base (take from forms.now.forms) }
-    requires limit { base_len marks + inserted_len marks + all_inserted (drop from forms.now.forms) ≤ MAX_TEXT_LEN }
+    requires limit { base_len marks + inserted_len marks + all_inserted (drop from forms.now.forms)
+        ≤ MAX_TEXT_LEN }
     ensures ok { IfOk result (λ form. form ≡ later_over marks (drop from forms.now.forms)) }
 {
     if from == forms.len() {
@@ -37,7 +38,8 @@ fn pass_counted<L: Ledger>(
     requires positive { 0 < blank.parts }
     requires in_bounds { from ≤ length forms.now.forms }
     requires base { base_len marks.now ≡ reached forms.now.base (take from forms.now.forms) }
-    requires limit { base_len marks.now + inserted_len marks.now + all_inserted (drop from forms.now.forms) ≤ MAX_TEXT_LEN }
+    requires limit { base_len marks.now + inserted_len marks.now
+        + all_inserted (drop from forms.now.forms) ≤ MAX_TEXT_LEN }
     ensures ok { IfOk result (λ form. form ≡ later_over marks.now (drop from forms.now.forms)) }
 {
     let mut steps: Steps<L> = Steps::new(blank);

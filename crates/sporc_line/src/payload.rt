@@ -21,7 +21,8 @@ pub(crate) fn read_payload(
     body: &[u8],
 ) -> Result<Delta, Refusal>
     requires { length body.now ≤ MAX_DELTA_BYTES }
-    ensures fault { AnswersUnless Refusal.Memory result (unless (is_some (marks_in key.now stream body.now)) Refusal.BadPayload) }
+    ensures fault { AnswersUnless Refusal.Memory result
+        (unless (is_some (marks_in key.now stream body.now)) Refusal.BadPayload) }
     ensures ok { IfOk result (λ delta. marks_in key.now stream body.now ≡ Some delta) }
 {
     let bytes = unmasked(alloc, key, stream, body)?;

@@ -12,8 +12,8 @@ use std::marker::Model;
 
 /// An entry that failed no check at a line, with all that its commit needs.
 ///
-/// Contracts see the checked entry, its form with the runs of forms that it ends, how it rewrites the text, and the key of
-/// the last epoch after it.
+/// Contracts see the checked entry, its form with the runs of forms that it ends, how it rewrites
+/// the text, and the key of the last epoch after it.
 #[derive(Drop)]
 pub struct Prepared {
     pub(crate) checked: Checked,
@@ -47,7 +47,8 @@ impl Prepared {
         self.checked.change().is_some()
     }
 
-    /// Its form: an edit's marks, restated behind the forms since its base; or, of a change, the delta that keeps all.
+    /// Its form: an edit's marks, restated behind the forms since its base; or, of a change, the
+    /// delta that keeps all.
     pub fn form(&self) -> &Delta
         ensures value { result.now ≡ self.now.form }
     {

@@ -1,7 +1,12 @@
 -- What is printed and sent of a fault of a change.
 use Rattle.std.specs.Prelude.{ℕ, ◌==◌, List, [], ◌∷◌, Option, find, codes}
 use Rattle.sporc_member.specs.declared.change.ChangeFault.{ChangeFault}
-use Rattle.sporc_member.specs.declared.change.ChangeFault.TheVariants.{NumberUsed, NotMember, SameRole, LastAdmin, RosterFull, BadKey, DeviceUsed, NoDevice, LastDevice, DevicesFull, NotUpgraded, AlreadyUpgraded}
+use Rattle.sporc_member.specs.declared.change.ChangeFault.TheVariants.{NumberUsed, NotMember}
+use Rattle.sporc_member.specs.declared.change.ChangeFault.TheVariants.{SameRole, LastAdmin}
+use Rattle.sporc_member.specs.declared.change.ChangeFault.TheVariants.{RosterFull, BadKey}
+use Rattle.sporc_member.specs.declared.change.ChangeFault.TheVariants.{DeviceUsed, NoDevice}
+use Rattle.sporc_member.specs.declared.change.ChangeFault.TheVariants.{LastDevice, DevicesFull}
+use Rattle.sporc_member.specs.declared.change.ChangeFault.TheVariants.{NotUpgraded, AlreadyUpgraded}
 
 -- its name
 abbrev pub change_fault_name : ChangeFault → List ℕ

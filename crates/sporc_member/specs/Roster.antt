@@ -1,13 +1,21 @@
 -- The members of a document and their devices, as its changes make them from the founders.
-use Rattle.std.specs.Prelude.{ℕ, ◌==◌, Bool, true, false, not, ◌&&◌, nat_lt, List, [], ◌∷◌, ◌++◌, length, Option, None, Some, is_some, if◌then◌else◌, filter, find, map, option_map, fold}
+use Rattle.std.specs.Prelude.{ℕ, ◌==◌, Bool, true, false, not, ◌&&◌, nat_lt, List, [], ◌∷◌, ◌++◌}
+use Rattle.std.specs.Prelude.{length, Option, None, Some, is_some, if◌then◌else◌, filter, find, map}
+use Rattle.std.specs.Prelude.{option_map, fold}
 use Rattle.std.specs.List.{list_any}
 use Rattle.lms_tree.specs.LmsPublic.{public_key_in}
 use Rattle.sporc_member.specs.declared.limits.TheConstants.{MAX_DEVICES, MAX_MEMBERS}
 use Rattle.sporc_member.specs.declared.role.Role.{Role}
 use Rattle.sporc_member.specs.declared.change.Change.{Change}
-use Rattle.sporc_member.specs.declared.change.Change.TheVariants.{Add, Remove, SetRole, AddDevice, DropDevice, Upgrade}
+use Rattle.sporc_member.specs.declared.change.Change.TheVariants.{Add, Remove, SetRole, AddDevice}
+use Rattle.sporc_member.specs.declared.change.Change.TheVariants.{DropDevice, Upgrade}
 use Rattle.sporc_member.specs.declared.change.ChangeFault.{ChangeFault}
-use Rattle.sporc_member.specs.declared.change.ChangeFault.TheVariants.{NumberUsed, NotMember, SameRole, LastAdmin, RosterFull, BadKey, DeviceUsed, NoDevice, LastDevice, DevicesFull, NotUpgraded, AlreadyUpgraded}
+use Rattle.sporc_member.specs.declared.change.ChangeFault.TheVariants.{NumberUsed, NotMember}
+use Rattle.sporc_member.specs.declared.change.ChangeFault.TheVariants.{SameRole, LastAdmin}
+use Rattle.sporc_member.specs.declared.change.ChangeFault.TheVariants.{RosterFull, BadKey}
+use Rattle.sporc_member.specs.declared.change.ChangeFault.TheVariants.{DeviceUsed, NoDevice}
+use Rattle.sporc_member.specs.declared.change.ChangeFault.TheVariants.{LastDevice, DevicesFull}
+use Rattle.sporc_member.specs.declared.change.ChangeFault.TheVariants.{NotUpgraded, AlreadyUpgraded}
 use Rattle.sporc_member.specs.declared.device.Device.{Device}
 use Rattle.sporc_member.specs.declared.device.LiveDevice.{LiveDevice}
 use Rattle.sporc_member.specs.declared.founder.Founder.{Founder}
@@ -41,7 +49,8 @@ key_of roster who = option_map (λ d. d.key) (find (λ d. same_device d.device w
 
 -- the numbers of a member's live devices
 abbrev pub devices_of : Roster → ℕ → List ℕ
-devices_of roster number = map (λ d. d.device.number) (filter (λ d. d.device.member == number) roster.devices)
+devices_of roster number =
+    map (λ d. d.device.number) (filter (λ d. d.device.member == number) roster.devices)
 
 -- whether a number was ever a member's: each began with a device
 abbrev pub is_used : Roster → ℕ → Bool

@@ -68,7 +68,8 @@ pub enum ChangeFault {
 }
 
 impl ChangeFault {
-    ghost use Rattle.sporc_member.specs.ChangeFault.{change_fault_name, change_fault_code_of, change_fault_with_code};
+    ghost use Rattle.sporc_member.specs.ChangeFault.{change_fault_name, change_fault_code_of};
+    ghost use Rattle.sporc_member.specs.ChangeFault.{change_fault_with_code};
 
     /// The name that is printed.
     pub fn name(self) -> &'static str

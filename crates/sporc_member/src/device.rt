@@ -5,8 +5,8 @@ ghost use Rattle.std.specs.Prelude.{◌≡◌};
 /// The number of the device that each member begins with.
 pub const FIRST_DEVICE: u8 = 0;
 
-/// A device of a member, by the member's number and its own, which no later device of the member has. Each device signs
-/// with a key of its own.
+/// A device of a member, by the member's number and its own, which no later device of the member
+/// has. Each device signs with a key of its own.
 #[derive(Clone, Copy, PartialEq, Eq)]
 pub struct Device {
     pub member: u16,
@@ -33,7 +33,8 @@ impl Device {
         self.member == other.member && self.number == other.number
     }
 
-    // Whether it stands before the other one in the order of members, and of numbers where the member is one.
+    // Whether it stands before the other one in the order of members, and of numbers where the
+    // member is one.
     pub(crate) fn is_before(self, other: Device) -> bool
         ensures { result ≡ is_before self other }
     {

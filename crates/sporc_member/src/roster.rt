@@ -1,6 +1,7 @@
 //! The members and their devices as changes make them.
 
-ghost use Rattle.std.specs.Prelude.{◌≡◌, ◌≤◌, true, false, [], length, option_map, is_some, IfOk, OnOk, OnErr, IsOk, None};
+ghost use Rattle.std.specs.Prelude.{◌≡◌, ◌≤◌, true, false, [], length, option_map, is_some, IfOk};
+ghost use Rattle.std.specs.Prelude.{OnOk, OnErr, IsOk, None};
 ghost use Rattle.std.specs.Option.{option_copied};
 ghost use Rattle.sporc_member.specs.declared.device.TheConstants.{FIRST_DEVICE};
 ghost use Rattle.sporc_member.specs.declared.limits.TheConstants.{MAX_MEMBERS};
@@ -25,8 +26,8 @@ use sporc_base::Memory;
 use std::alloc::Global;
 use std::marker::Model;
 
-/// The members in ascending order of their numbers with their live devices, every device that ever was one, and whether the
-/// document was upgraded.
+/// The members in ascending order of their numbers with their live devices, every device that ever
+/// was one, and whether the document was upgraded.
 ///
 /// Contracts see the roster, and `spare`: how many changes it can make without memory.
 #[derive(Drop)]
@@ -51,7 +52,9 @@ impl Model for Roster {
 
 impl Roster {
     ghost use Rattle.sporc_base.specs.FirstFault.{Answers};
-    ghost use Rattle.sporc_member.specs.Roster.{founder_numbers, numbers_of, member_at, key_of, devices_of, is_used, is_device_used, change_fault_of, after_change, founded};
+    ghost use Rattle.sporc_member.specs.Roster.{founder_numbers, numbers_of, member_at, key_of};
+    ghost use Rattle.sporc_member.specs.Roster.{devices_of, is_used, is_device_used};
+    ghost use Rattle.sporc_member.specs.Roster.{change_fault_of, after_change, founded};
 
     /// The roster of the founders.
     pub fn found(alloc: Global, founders: &[Founder]) -> Result<Roster, Memory>
@@ -121,12 +124,16 @@ impl Roster {
         &self.device_numbers[first..end]
     }
 
-    /// The public key of a live device of the member with this number. Up to the Upgrade only its first device has one.
+    /// The public key of a live device of the member with this number. Up to the Upgrade only its
+    /// first device has one.
     pub fn key(&self, member: u16, device: u8) -> Option<&[u8; 56]>
-        ensures value { option_copied result ≡ key_of self.now.roster (record { member = member; number = device }) }
-        ensures member { is_some (key_of self.now.roster (record { member = member; number = device })) ≡ true
+        ensures value { option_copied result
+            ≡ key_of self.now.roster (record { member = member; number = device }) }
+        ensures member { is_some
+            (key_of self.now.roster (record { member = member; number = device })) ≡ true
             → is_some (member_at self.now.roster member) ≡ true }
-        ensures first { is_some (key_of self.now.roster (record { member = member; number = device })) ≡ true
+        ensures first { is_some
+            (key_of self.now.roster (record { member = member; number = device })) ≡ true
             → self.now.roster.upgraded ≡ false → device ≡ FIRST_DEVICE }
     {
         let device = Device {
@@ -165,7 +172,8 @@ impl Roster {
     }
 
     fn test_add(&self, member: u16, role: Role, key: &[u8; 56]) -> Result<(), ChangeFault>
-        ensures { Answers result (change_fault_of self.now.roster (Change.Add member role key.now)) }
+        ensures { Answers result
+            (change_fault_of self.now.roster (Change.Add member role key.now)) }
     {
         let _ = role;
         if member == 0 || self.is_used(member) {
@@ -209,7 +217,8 @@ impl Roster {
     }
 
     fn test_add_device(&self, member: u16, device: u8, key: &[u8; 56]) -> Result<(), ChangeFault>
-        ensures { Answers result (change_fault_of self.now.roster (Change.AddDevice member device key.now)) }
+        ensures { Answers result
+            (change_fault_of self.now.roster (Change.AddDevice member device key.now)) }
     {
         if !self.upgraded() {
             return Err(ChangeFault::NotUpgraded);
@@ -233,7 +242,8 @@ impl Roster {
     }
 
     fn test_drop_device(&self, member: u16, device: u8) -> Result<(), ChangeFault>
-        ensures { Answers result (change_fault_of self.now.roster (Change.DropDevice member device)) }
+        ensures { Answers result
+            (change_fault_of self.now.roster (Change.DropDevice member device)) }
     {
         if !self.upgraded() {
             return Err(ChangeFault::NotUpgraded);
@@ -307,7 +317,8 @@ impl Roster {
 
     fn add(&mut self, member: u16, role: Role, key: [u8; 56]) -> Result<(), Memory>
         requires accepted { change_fault_of self.old.roster (Change.Add member role key) ≡ None }
-        ensures ok { OnOk result (self.new.roster ≡ after_change self.old.roster (Change.Add member role key)) }
+        ensures ok { OnOk result
+            (self.new.roster ≡ after_change self.old.roster (Change.Add member role key)) }
         ensures memory { OnErr result (self.new.roster ≡ self.old.roster) }
         ensures ready { 1 ≤ self.old.spare → IsOk result }
     {
@@ -341,8 +352,10 @@ impl Roster {
     }
 
     fn add_device(&mut self, member: u16, device: u8, key: [u8; 56]) -> Result<(), Memory>
-        requires accepted { change_fault_of self.old.roster (Change.AddDevice member device key) ≡ None }
-        ensures ok { OnOk result (self.new.roster ≡ after_change self.old.roster (Change.AddDevice member device key)) }
+        requires accepted { change_fault_of self.old.roster (Change.AddDevice member device key)
+            ≡ None }
+        ensures ok { OnOk result
+            (self.new.roster ≡ after_change self.old.roster (Change.AddDevice member device key)) }
         ensures memory { OnErr result (self.new.roster ≡ self.old.roster) }
         ensures ready { 1 ≤ self.old.spare → IsOk result }
     {
@@ -381,7 +394,8 @@ impl Roster {
 
     /// The numbers of the members after a change, ascending where `test` accepts it.
     pub fn members_after(&self, change: &Change) -> Result<Vec<u16>, Memory>
-        ensures ok { IfOk result (λ numbers. numbers.items ≡ numbers_of (after_change self.now.roster change.now).members) }
+        ensures ok { IfOk result (λ numbers. numbers.items
+            ≡ numbers_of (after_change self.now.roster change.now).members) }
     {
         let alloc = *self.numbers.allocator();
         let numbers = self.numbers.as_slice();

@@ -1,12 +1,15 @@
--- A file that is appended to, in memory, as its log tells it: what a read gives and what a crash may leave, after any of its calls.
-use Rattle.std.specs.Prelude.{◌≡◌, ◌⊎◌, ℕ, Bool, List, [], ◌∷◌, ◌++◌, ◌/◌, length, take, fold, if◌then◌else◌, true, false, Result, Ok, Err, Some, refl}
+-- A file that is appended to, in memory, as its log tells it: what a read gives and what a crash
+-- may leave, after any of its calls.
+use Rattle.std.specs.Prelude.{◌≡◌, ◌⊎◌, ℕ, Bool, List, [], ◌∷◌, ◌++◌, ◌/◌, length, take, fold}
+use Rattle.std.specs.Prelude.{if◌then◌else◌, true, false, Result, Ok, Err, Some, refl}
 use Rattle.std.proofs.Common.{subst, sym, inl}
 use Rattle.std.proofs.Math.Seq.{take-length}
 use Rattle.sporc_outside.specs.AppendFile.{AppendTold}
 use Rattle.sporc_memory.specs.CallsModel.{CallsModel}
 use Rattle.sporc_memory.specs.declared.append_call.AppendCall.{AppendCall}
 use Rattle.sporc_memory.specs.declared.append_call.AppendRequest.{AppendRequest}
-use Rattle.sporc_memory.specs.declared.append_call.AppendRequest.TheVariants.{Read, Append, Cut, Sync}
+use Rattle.sporc_memory.specs.declared.append_call.AppendRequest.TheVariants.{Read, Append, Cut}
+use Rattle.sporc_memory.specs.declared.append_call.AppendRequest.TheVariants.{Sync}
 
 -- its name, what it held at first, its calls since, and which of them are to fail
 pub record MemoryAppendFileModel : Type 0 where
@@ -28,7 +31,8 @@ pub record AppendState : Type 0 where
   pub bytes : List ℕ
   pub unsynced : List Loose
 
--- the state after a request that succeeded or failed; an append or a cut that failed leaves what a read gives
+-- the state after a request that succeeded or failed; an append or a cut that failed leaves what a
+-- read gives
 abbrev pub after_request : AppendState → Bool → AppendRequest → AppendState
 after_request s done (Append more) = record {
   bytes = if done then s.bytes ++ more else s.bytes;
@@ -52,9 +56,11 @@ IsWrite Read = ⊥
 IsWrite Sync = ⊥
 
 -- the log after a call that returned this; a call that failed may be missing in it
-abbrev pub LogsCall : {T E : Type 0} → List AppendCall → List AppendCall → AppendRequest → Result T E → Type 0
+abbrev pub LogsCall : {T E : Type 0} → List AppendCall → List AppendCall → AppendRequest
+    → Result T E → Type 0
 LogsCall old new request (Ok _) = new ≡ old ++ record { request = request; done = true } ∷ []
-LogsCall old new request (Err _) = (new ≡ old ++ record { request = request; done = false } ∷ []) ⊎ (new ≡ old)
+LogsCall old new request (Err _) =
+    (new ≡ old ++ record { request = request; done = false } ∷ []) ⊎ (new ≡ old)
 
 -- the state after these calls on a file of these bytes
 abbrev pub state_after : List ℕ → List AppendCall → AppendState
@@ -67,7 +73,8 @@ bytes_of file = (state_after file.first file.log).bytes
 -- one of these, with a prefix of what may stand behind it
 abbrev pub IsLoose : List Loose → List ℕ → Type 0
 IsLoose [] image = ⊥
-IsLoose (part ∷ parts) image = ((n : ℕ) × (image ≡ part.bytes ++ take n part.behind)) ⊎ IsLoose parts image
+IsLoose (part ∷ parts) image =
+    ((n : ℕ) × (image ≡ part.bytes ++ take n part.behind)) ⊎ IsLoose parts image
 
 -- what a crash in this state may leave
 abbrev pub IsImage : AppendState → List ℕ → Type 0
@@ -86,21 +93,26 @@ file_told file = record {
   faults = file.calls.faults;
 }
 
--- three of what a part may leave: with nothing behind it, with half of what may stand there, and with all of that
+-- three of what a part may leave: with nothing behind it, with half of what may stand there, and
+-- with all of that
 abbrev pub three_of : Loose → List (List ℕ)
-three_of part = part.bytes ∷ (part.bytes ++ take (length part.behind / 2) part.behind) ∷ (part.bytes ++ part.behind) ∷ []
+three_of part = part.bytes ∷ (part.bytes ++ take (length part.behind / 2) part.behind)
+    ∷ (part.bytes ++ part.behind) ∷ []
 
 -- three for each part, those of the first part last
 abbrev pub listed_of : List Loose → List (List ℕ)
 listed_of [] = []
 listed_of (part ∷ parts) = listed_of parts ++ three_of part
 
--- some of the images: three for each part since the last sync that succeeded, and last of them what a read gives
+-- some of the images: three for each part since the last sync that succeeded, and last of them what
+-- a read gives
 abbrev pub some_images : AppendState → List (List ℕ)
 some_images s = listed_of s.unsynced ++ s.bytes ∷ []
 
 -- what a read gives is an image
-pub bytes_are_image : (file : MemoryAppendFileModel) → images_of file (length file.log) (bytes_of file)
+pub bytes_are_image : (file : MemoryAppendFileModel)
+    → images_of file (length file.log) (bytes_of file)
 bytes_are_image file =
-    let P : List AppendCall → Type 0 = λ log. IsImage (state_after file.first log) (bytes_of file) in
+    let P : List AppendCall → Type 0 =
+    λ log. IsImage (state_after file.first log) (bytes_of file) in
     subst P (sym (take-length file.log)) (inl refl)

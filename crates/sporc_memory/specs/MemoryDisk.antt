@@ -1,5 +1,8 @@
--- A disk in memory as its log tells it: what a read gives and what a crash may leave, after any of its calls.
-use Rattle.std.specs.Prelude.{◌≡◌, ◌⊎◌, ℕ, ◌+◌, ◌<◌, ◌≤◌, Bool, true, false, List, [], ◌∷◌, ◌++◌, length, take, fold, slice_index, if◌then◌else◌, Result, Ok, Err, Some, refl}
+-- A disk in memory as its log tells it: what a read gives and what a crash may leave, after any of
+-- its calls.
+use Rattle.std.specs.Prelude.{◌≡◌, ◌⊎◌, ℕ, ◌+◌, ◌<◌, ◌≤◌, Bool, true, false, List, [], ◌∷◌, ◌++◌}
+use Rattle.std.specs.Prelude.{length, take, fold, slice_index, if◌then◌else◌, Result, Ok, Err, Some}
+use Rattle.std.specs.Prelude.{refl}
 use Rattle.std.proofs.Common.{subst, sym, inr}
 use Rattle.std.proofs.Math.Seq.{take-length}
 use Rattle.sporc_memory.specs.CallsModel.{CallsModel}
@@ -14,7 +17,8 @@ pub record MemoryDiskModel : Type 0 where
   pub log : List DiskCall
   pub calls : CallsModel
 
--- what a read gives, and the ranges (from, length) that were written since the last sync that succeeded
+-- what a read gives, and the ranges (from, length) that were written since the last sync that
+-- succeeded
 pub record DiskState : Type 0 where
   pub bytes : List ℕ
   pub unsynced : List (ℕ × ℕ)
@@ -40,9 +44,11 @@ IsWrite (Read at len) = ⊥
 IsWrite Sync = ⊥
 
 -- the log after a call that returned this; a call that failed may be missing in it
-abbrev pub LogsCall : {T E : Type 0} → List DiskCall → List DiskCall → DiskRequest → Result T E → Type 0
+abbrev pub LogsCall : {T E : Type 0} → List DiskCall → List DiskCall → DiskRequest
+    → Result T E → Type 0
 LogsCall old new request (Ok _) = new ≡ old ++ record { request = request; done = true } ∷ []
-LogsCall old new request (Err _) = (new ≡ old ++ record { request = request; done = false } ∷ []) ⊎ (new ≡ old)
+LogsCall old new request (Err _) =
+    (new ≡ old ++ record { request = request; done = false } ∷ []) ⊎ (new ≡ old)
 
 -- the state after these calls on a disk of these bytes
 abbrev pub state_after : List ℕ → List DiskCall → DiskState
@@ -57,7 +63,8 @@ abbrev pub IsUnsynced : List (ℕ × ℕ) → ℕ → Type 0
 IsUnsynced [] i = ⊥
 IsUnsynced (range ∷ ranges) i = ((range.0 ≤ i) × (i < range.0 + range.1)) ⊎ IsUnsynced ranges i
 
--- what a crash in this state may leave: anything in the unsynced ranges, and elsewhere what a read gives
+-- what a crash in this state may leave: anything in the unsynced ranges, and elsewhere what a read
+-- gives
 pub record IsImage (s : DiskState) (image : List ℕ) : Type 0 where
   pub length : length image ≡ length s.bytes
   pub synced : (i : ℕ) → IsUnsynced s.unsynced i ⊎ (slice_index image i ≡ slice_index s.bytes i)
@@ -70,7 +77,8 @@ pub record IsSpoilt (s : DiskState) (byte : ℕ) (image : List ℕ) : Type 0 whe
 
 -- four of the images: what a read gives, and that with the unsynced bytes as 0, as 1 and as 255
 abbrev pub AreListed : DiskState → List (List ℕ) → Type 0
-AreListed s (same ∷ zeros ∷ ones ∷ highest ∷ []) = (same ≡ s.bytes) × IsSpoilt s 0 zeros × IsSpoilt s 1 ones × IsSpoilt s 255 highest
+AreListed s (same ∷ zeros ∷ ones ∷ highest ∷ []) =
+    (same ≡ s.bytes) × IsSpoilt s 0 zeros × IsSpoilt s 1 ones × IsSpoilt s 255 highest
 AreListed s others = ⊥
 
 -- what a crash after the first m calls may leave
@@ -78,7 +86,12 @@ abbrev pub images_of : MemoryDiskModel → ℕ → List ℕ → Type 0
 images_of disk m image = IsImage (state_after disk.first (take m disk.log)) image
 
 abbrev pub disk_told : MemoryDiskModel → DiskTold
-disk_told disk = record { stored = Some (bytes_of disk); moment = length disk.log; images = images_of disk; faults = disk.calls.faults }
+disk_told disk = record {
+  stored = Some (bytes_of disk);
+  moment = length disk.log;
+  images = images_of disk;
+  faults = disk.calls.faults;
+}
 
 -- what a read gives is an image
 image_itself : (s : DiskState) → IsImage s s.bytes

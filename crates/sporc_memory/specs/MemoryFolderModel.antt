@@ -1,15 +1,18 @@
 -- What contracts see of a folder in memory.
 use Rattle.std.specs.List.{All}
-use Rattle.std.specs.Prelude.{ℕ, List, Some, IsSome, ◌≡◌, ◌<◌, suc, ◌++◌, length, take, drop, None, slice_set, slice_index_or}
+use Rattle.std.specs.Prelude.{ℕ, List, Some, IsSome, ◌≡◌, ◌<◌, suc, ◌++◌, length, take, drop, None}
+use Rattle.std.specs.Prelude.{slice_set, slice_index_or}
 use Rattle.sporc_memory.specs.CallsModel.{CallsModel}
 use Rattle.sporc_outside.specs.Files.{file_in, IsTooLong, with_file, without_file}
 use Rattle.sporc_outside.specs.Folders.{FolderTold}
 use Rattle.sporc_outside.specs.declared.file_fault.FileFault.{FileFault}
-use Rattle.sporc_outside.specs.declared.file_fault.FileFault.TheVariants.{Missing, Failed, TooLong, Exists, Memory}
+use Rattle.sporc_outside.specs.declared.file_fault.FileFault.TheVariants.{Missing, Failed, TooLong}
+use Rattle.sporc_outside.specs.declared.file_fault.FileFault.TheVariants.{Exists, Memory}
 use Rattle.sporc_outside.specs.declared.named_file.NamedFile.{NamedFile}
 
--- the files, the names asked for, the names of the files whose disks are out, the last one first, the calls, and which
--- calls of the next disk and of the next file that is handed out to be appended to are to fail
+-- the files, the names asked for, the names of the files whose disks are out, the last one first,
+-- the calls, and which calls of the next disk and of the next file that is handed out to be
+-- appended to are to fail
 pub record MemoryFolderModel : Type 0 where
   pub files : List NamedFile
   pub asked : List (List ℕ)
@@ -23,7 +26,12 @@ abbrev pub HasEach : List NamedFile → List (List ℕ) → Type 0
 HasEach files names = All (λ name. IsSome (file_in files name)) names
 
 abbrev pub folder_told : MemoryFolderModel → FolderTold
-folder_told f = record { files = Some f.files; asked = Some f.asked; lent = Some f.lent; faults = f.calls.faults }
+folder_told f = record {
+  files = Some f.files;
+  asked = Some f.asked;
+  lent = Some f.lent;
+  faults = f.calls.faults;
+}
 
 -- why the bytes of a file in memory are not handed out
 abbrev pub IsAbsence : List NamedFile → List ℕ → FileFault → Type 0
@@ -39,5 +47,6 @@ pub record IsPlaceOf (files : List NamedFile) (name : List ℕ) (place : ℕ) : 
   pub file : NamedFile
   pub is : (other : NamedFile) → slice_index_or files place other ≡ file
   pub found : file_in files name ≡ Some file.bytes
-  pub others : (bytes : List ℕ) → with_file files name bytes ≡ slice_set files place (record file { bytes = bytes })
+  pub others : (bytes : List ℕ)
+      → with_file files name bytes ≡ slice_set files place (record file { bytes = bytes })
   pub without : without_file files name ≡ take place files ++ drop (suc place) files

@@ -2,8 +2,8 @@
 use Rattle.std.specs.Prelude.{ℕ, Bool, List}
 use Rattle.sporc_memory.specs.CallsModel.{CallsModel}
 
--- the bytes that are left to be read, those that were written, the most bytes that a call moves, the calls of both
--- directions, and whether it was shut
+-- the bytes that are left to be read, those that were written, the most bytes that a call moves,
+-- the calls of both directions, and whether it was shut
 pub record MemoryLinkModel : Type 0 where
   pub left : List ℕ
   pub written : List ℕ

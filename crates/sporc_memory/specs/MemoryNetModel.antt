@@ -6,8 +6,8 @@ use Rattle.sporc_memory.specs.MemoryStreams.{link_told}
 use Rattle.sporc_outside.specs.Nets.{NetTold}
 use Rattle.sporc_memory.specs.declared.memory_link.MemoryLink.{MemoryLink}
 
--- the addresses asked for, the links that are still to come, those that were taken back, how many are out, the calls, and
--- the faults of the links that were taken back
+-- the addresses asked for, the links that are still to come, those that were taken back, how many
+-- are out, the calls, and the faults of the links that were taken back
 pub record MemoryNetModel : Type 0 where
   pub asked : List (List ℕ)
   pub coming : List MemoryLink

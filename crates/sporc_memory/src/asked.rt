@@ -8,7 +8,8 @@ use crate::calls::Calls;
 use sporc_outside::{Failed, FileBytes};
 use std::alloc::Global;
 
-// Counts a call, and keeps the name that it asks for. It fails where there is no memory for the name.
+// Counts a call, and keeps the name that it asks for. It fails where there is no memory for the
+// name.
 pub(crate) fn ask(
     alloc: Global,
     calls: &mut Calls,

@@ -86,7 +86,8 @@ impl Calls {
 
     /// Counts the faults of an object that was taken back.
     pub fn add_faults(&mut self, faults: u64)
-        ensures counted { self.new ≡ record self.old { faults = count_of_both self.old.faults faults } }
+        ensures counted { self.new
+            ≡ record self.old { faults = count_of_both self.old.faults faults } }
     {
         self.faults = self.faults.saturating_add(faults);
     }

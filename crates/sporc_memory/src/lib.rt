@@ -1,10 +1,10 @@
-//! The outside in memory, for tests and for plays: objects that tell contracts their content, each with a list of the calls
-//! that are to fail.
+//! The outside in memory, for tests and for plays: objects that tell contracts their content, each
+//! with a list of the calls that are to fail.
 //!
-//! - [`MemorySource`], [`MemorySink`] and [`MemoryLink`] move bytes in pieces of a size that is chosen; a [`MemoryNet`] makes
-//!   links.
-//! - [`MemoryFolder`] keeps files, [`MemoryDisk`] and [`MemoryAppendFile`] keep what a crash may leave of them, and
-//!   [`ListedChance`] gives the random words that it was made with.
+//! - [`MemorySource`], [`MemorySink`] and [`MemoryLink`] move bytes in pieces of a size that is
+//!   chosen; a [`MemoryNet`] makes links.
+//! - [`MemoryFolder`] keeps files, [`MemoryDisk`] and [`MemoryAppendFile`] keep what a crash may
+//!   leave of them, and [`ListedChance`] gives the random words that it was made with.
 //! - [`Calls`] counts the calls of one of them, and lets those fail whose numbers are listed.
 //! - The links of a [`PipeNet`] join two threads, and tell nothing.
 //!
@@ -14,8 +14,8 @@
 //! sink.as_slice()                                     // hello
 //! ```
 //!
-//! Proved: what each call does to the told content and to the counts. Only tested: that a call succeeds with ample memory.
-//! Neither: nothing else is claimed.
+//! Proved: what each call does to the told content and to the counts. Only tested: that a call
+//! succeeds with ample memory. Neither: nothing else is claimed.
 #![tactic(auto)]
 
 mod append_call;

@@ -9,7 +9,8 @@ use crate::calls::Calls;
 use sporc_outside::{Chance, Counted, Failed};
 use std::marker::Model;
 
-/// Gives the words of a list in order, and tells them. A call behind the last word fails, and so do the listed calls.
+/// Gives the words of a list in order, and tells them. A call behind the last word fails, and so do
+/// the listed calls.
 #[derive(Drop)]
 pub struct ListedChance {
     words: Vec<[u8; 32]>,
@@ -23,7 +24,11 @@ impl Model for ListedChance {
 
     ghost Value = { ListedChanceModel };
 
-    ghost view = { λ c. record { given = take c.at c.words.items; left = drop c.at c.words.items; calls = c.calls } };
+    ghost view = { λ c. record {
+      given = take c.at c.words.items;
+      left = drop c.at c.words.items;
+      calls = c.calls;
+    } };
 
     ghost invariant = { λ c. c.at ≤ vec_len c.words };
 }
@@ -58,7 +63,8 @@ impl Chance for ListedChance {
     ghost faults_are_told = { λ _. refl };
 
     fn fill32(&mut self) -> Result<[u8; 32], Failed>
-        ensures ok { IfOk result (λ word. AppendsItem (Some self.old.given) (Some self.new.given) word) }
+        ensures ok { IfOk result
+            (λ word. AppendsItem (Some self.old.given) (Some self.new.given) word) }
         ensures next { IfOk result (λ word. self.old.left ≡ word ∷ self.new.left) }
         ensures err { OnErr result (Some self.new.given ≡ Some self.old.given) }
         ensures call { CountsCall self.old.calls self.new.calls result }

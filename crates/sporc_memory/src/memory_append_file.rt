@@ -1,13 +1,16 @@
 //! Files in memory that are appended to.
 
-ghost use Rattle.std.specs.Prelude.{◌≡◌, ◌+◌, ◌++◌, ◌<◌, ◌≤◌, ◌↔◌, ℕ, List, [], Some, length, map, take, vec_len, IfOk, IfErr, IfSome, IsTrue, OnOk, OnErr};
+ghost use Rattle.std.specs.Prelude.{◌≡◌, ◌+◌, ◌++◌, ◌<◌, ◌≤◌, ◌↔◌, ℕ, List, [], Some, length, map};
+ghost use Rattle.std.specs.Prelude.{take, vec_len, IfOk, IfErr, IfSome, IsTrue, OnOk, OnErr};
 ghost use Rattle.std.specs.List.{All};
 ghost use Rattle.std.specs.Vec.{vec_capacity};
 ghost use Rattle.sporc_outside.specs.AppendFile.{GrowsBy, IsWholeFault, MayBeCut};
 ghost use Rattle.sporc_memory.specs.CallsModel.{CountsCall};
 ghost use Rattle.sporc_outside.specs.Counts.{CountsFaults};
 ghost use Rattle.sporc_outside.specs.LeafDisk.{CrashStep, IsSame};
-ghost use Rattle.sporc_memory.specs.MemoryAppendFile.{AppendState, IsImage, LogsCall, after_call, listed_of, loose, some_images, state_after, three_of};
+ghost use Rattle.sporc_memory.specs.MemoryAppendFile.{AppendState, IsImage, LogsCall, after_call};
+ghost use Rattle.sporc_memory.specs.MemoryAppendFile.{listed_of, loose, some_images, state_after};
+ghost use Rattle.sporc_memory.specs.MemoryAppendFile.{three_of};
 ghost use Rattle.sporc_outside.specs.Told.{GoesTold};
 ghost use Rattle.sporc_outside.specs.declared.file_fault.TheConstants.{MAX_FILE};
 
@@ -17,8 +20,8 @@ use sporc_outside::{AppendFile, Counted, Failed, FileBytes, FileFault, MAX_FILE}
 use std::alloc::{AllocError, Global};
 use std::marker::Model;
 
-/// A file that is appended to, which keeps its bytes and tells them, with a log of all its calls, from which what a crash after
-/// any of them may leave is read. A call that finds no memory fails.
+/// A file that is appended to, which keeps its bytes and tells them, with a log of all its calls,
+/// from which what a crash after any of them may leave is read. A call that finds no memory fails.
 #[derive(Drop)]
 pub struct MemoryAppendFile {
     alloc: Global,
@@ -35,7 +38,8 @@ impl Model for MemoryAppendFile {
 
     ghost Value = { MemoryAppendFileModel };
 
-    ghost view = { λ f. record { name = f.name; first = f.first.items; log = f.log.items; calls = f.calls } };
+    ghost view = { λ f.
+        record { name = f.name; first = f.first.items; log = f.log.items; calls = f.calls } };
 
     ghost invariant = { λ f. f.bytes.items ≡ (state_after f.first.items f.log.items).bytes };
 }
@@ -51,7 +55,8 @@ impl MemoryAppendFile {
         bytes: Vec<u8>,
         calls: Calls,
     ) -> Result<MemoryAppendFile, AllocError>
-        ensures ok { IfOk result (λ file. file ≡ record { name = name; first = bytes.items; log = []; calls = calls }) }
+        ensures ok { IfOk result
+            (λ file. file ≡ record { name = name; first = bytes.items; log = []; calls = calls }) }
     {
         let first = Vec::from_slice(alloc, &bytes)?;
         Ok(MemoryAppendFile {
@@ -85,14 +90,15 @@ impl MemoryAppendFile {
         self.log.as_slice()
     }
 
-    /// Some of what a crash after the first so many of its calls may leave: for each append and each cut since the last sync
-    /// that succeeded by then what was there, the same with half of what was appended, and with all of it; and last of them
-    /// what a read gave.
+    /// Some of what a crash after the first so many of its calls may leave: for each append and
+    /// each cut since the last sync that succeeded by then what was there, the same with half of
+    /// what was appended, and with all of it; and last of them what a read gave.
     pub fn images(&self, calls: usize) -> Result<Vec<Vec<u8>>, AllocError>
         requires { calls ≤ length self.now.log }
-        ensures listed { IfOk result (λ images.
-            map (λ image. image.items) images.items ≡ some_images (state_after self.now.first (take calls self.now.log))) }
-        ensures images { IfOk result (λ images. All (images_of self.now calls) (map (λ image. image.items) images.items)) }
+        ensures listed { IfOk result (λ images. map (λ image. image.items) images.items
+            ≡ some_images (state_after self.now.first (take calls self.now.log))) }
+        ensures images { IfOk result
+            (λ images. All (images_of self.now calls) (map (λ image. image.items) images.items)) }
     {
         list_images(self.alloc, &self.first, &self.log[..calls])
     }
@@ -111,8 +117,8 @@ impl MemoryAppendFile {
         ensures logged { LogsCall self.old.log self.new.log request result }
         ensures bytes { bytes_of self.new ≡ bytes_of self.old }
         ensures name { self.new.name ≡ self.old.name }
-        ensures images { CrashStep (length self.old.log) (length self.new.log) (images_of self.old) (images_of self.new)
-            IsSame }
+        ensures images { CrashStep (length self.old.log) (length self.new.log) (images_of self.old)
+            (images_of self.new) IsSame }
         ensures time { OnOk result (length self.old.log < length self.new.log) }
         ensures call { CountsCall self.old.calls self.new.calls result }
         ensures count { CountsFaults self.old.calls.faults self.new.calls.faults result }
@@ -131,7 +137,8 @@ impl Counted for MemoryAppendFile {
 
 impl AppendFile for MemoryAppendFile {
     ghost use Rattle.std.specs.Prelude.{Some, length, refl};
-    ghost use Rattle.sporc_memory.specs.MemoryAppendFile.{bytes_of, images_of, bytes_are_image, file_told};
+    ghost use Rattle.sporc_memory.specs.MemoryAppendFile.{bytes_of, images_of, bytes_are_image};
+    ghost use Rattle.sporc_memory.specs.MemoryAppendFile.{file_told};
 
     ghost told = { file_told };
 
@@ -144,11 +151,12 @@ impl AppendFile for MemoryAppendFile {
     fn read_whole(&mut self, alloc: Global) -> Result<Vec<u8>, FileFault>
         ensures bytes { IfOk result (λ bytes. bytes.items ≡ bytes_of self.old) }
         ensures within { IfOk result (λ bytes. length bytes.items ≤ MAX_FILE) }
-        ensures err { IfErr result (IsWholeFault (Some (bytes_of self.old)) self.old.calls.faults self.new.calls.faults) }
+        ensures err { IfErr result
+            (IsWholeFault (Some (bytes_of self.old)) self.old.calls.faults self.new.calls.faults) }
         ensures stored { Some (bytes_of self.new) ≡ Some (bytes_of self.old) }
         ensures name { Some self.new.name ≡ Some self.old.name }
-        ensures images { CrashStep (length self.old.log) (length self.new.log) (images_of self.old) (images_of self.new)
-            IsSame }
+        ensures images { CrashStep (length self.old.log) (length self.new.log) (images_of self.old)
+            (images_of self.new) IsSame }
         ensures call { CountsCall self.old.calls self.new.calls result }
         ensures kept { self.old.calls.faults ≤ self.new.calls.faults }
     {
@@ -161,12 +169,14 @@ impl AppendFile for MemoryAppendFile {
     }
 
     fn append(&mut self, bytes: &[u8]) -> Result<(), Failed>
-        ensures appended { OnOk result (Some (bytes_of self.new) ≡ Some (bytes_of self.old ++ bytes.now)) }
+        ensures appended { OnOk result
+            (Some (bytes_of self.new) ≡ Some (bytes_of self.old ++ bytes.now)) }
         ensures within { OnOk result (length (bytes_of self.new) ≤ MAX_FILE) }
-        ensures prefix { OnErr result (GoesTold (GrowsBy bytes.now) (Some (bytes_of self.old)) (Some (bytes_of self.new))) }
+        ensures prefix { OnErr result
+            (GoesTold (GrowsBy bytes.now) (Some (bytes_of self.old)) (Some (bytes_of self.new))) }
         ensures name { Some self.new.name ≡ Some self.old.name }
-        ensures images { CrashStep (length self.old.log) (length self.new.log) (images_of self.old) (images_of self.new)
-            (GrowsBy bytes.now) }
+        ensures images { CrashStep (length self.old.log) (length self.new.log) (images_of self.old)
+            (images_of self.new) (GrowsBy bytes.now) }
         ensures time { OnOk result (length self.old.log < length self.new.log) }
         ensures call { CountsCall self.old.calls self.new.calls result }
         ensures count { CountsFaults self.old.calls.faults self.new.calls.faults result }
@@ -186,10 +196,11 @@ impl AppendFile for MemoryAppendFile {
     fn cut(&mut self, len: u64) -> Result<(), Failed>
         requires { len ≤ length (bytes_of self.old) }
         ensures cut { OnOk result (Some (bytes_of self.new) ≡ Some (take len (bytes_of self.old))) }
-        ensures uncut { OnErr result (GoesTold (MayBeCut len) (Some (bytes_of self.old)) (Some (bytes_of self.new))) }
+        ensures uncut { OnErr result
+            (GoesTold (MayBeCut len) (Some (bytes_of self.old)) (Some (bytes_of self.new))) }
         ensures name { Some self.new.name ≡ Some self.old.name }
-        ensures images { CrashStep (length self.old.log) (length self.new.log) (images_of self.old) (images_of self.new)
-            (MayBeCut len) }
+        ensures images { CrashStep (length self.old.log) (length self.new.log) (images_of self.old)
+            (images_of self.new) (MayBeCut len) }
         ensures time { OnOk result (length self.old.log < length self.new.log) }
         ensures call { CountsCall self.old.calls self.new.calls result }
         ensures count { CountsFaults self.old.calls.faults self.new.calls.faults result }
@@ -201,11 +212,12 @@ impl AppendFile for MemoryAppendFile {
 
     fn sync(&mut self) -> Result<(), Failed>
         ensures durable { OnOk result
-            ((image : List ℕ) → images_of self.new (length self.new.log) image → Some (bytes_of self.new) ≡ Some image) }
+            ((image : List ℕ) → images_of self.new (length self.new.log) image
+            → Some (bytes_of self.new) ≡ Some image) }
         ensures stored { Some (bytes_of self.new) ≡ Some (bytes_of self.old) }
         ensures name { Some self.new.name ≡ Some self.old.name }
-        ensures images { CrashStep (length self.old.log) (length self.new.log) (images_of self.old) (images_of self.new)
-            IsSame }
+        ensures images { CrashStep (length self.old.log) (length self.new.log) (images_of self.old)
+            (images_of self.new) IsSame }
         ensures time { OnOk result (length self.old.log < length self.new.log) }
         ensures call { CountsCall self.old.calls self.new.calls result }
         ensures count { CountsFaults self.old.calls.faults self.new.calls.faults result }
@@ -238,8 +250,9 @@ fn list_call(
     bytes: &[u8],
     images: &mut Vec<Vec<u8>>,
 ) -> Result<(), AllocError>
-    ensures { (s : AppendState) → s.bytes ≡ bytes.now → map (λ image. image.items) images.old.items ≡ listed_of s.unsynced
-        → OnOk result (map (λ image. image.items) images.new.items ≡ listed_of (after_call s call.now).unsynced) }
+    ensures { (s : AppendState) → s.bytes ≡ bytes.now
+        → map (λ image. image.items) images.old.items ≡ listed_of s.unsynced → OnOk result
+        (map (λ image. image.items) images.new.items ≡ listed_of (after_call s call.now).unsynced) }
 {
     match &call.request {
         AppendRequest::Append { bytes: more } => push_loose(alloc, images, bytes, more.as_slice()),
@@ -254,7 +267,8 @@ fn list_call(
 
 // Makes of bytes what a read gives after a call.
 fn change(call: &AppendCall, bytes: &mut Vec<u8>) -> Result<(), AllocError>
-    ensures { (s : AppendState) → s.bytes ≡ bytes.old.items → OnOk result (bytes.new.items ≡ (after_call s call.now).bytes) }
+    ensures { (s : AppendState) → s.bytes ≡ bytes.old.items
+        → OnOk result (bytes.new.items ≡ (after_call s call.now).bytes) }
 {
     match &call.request {
         AppendRequest::Append { bytes: more } if call.done => {
@@ -292,7 +306,8 @@ fn push_cut(
     len: u64,
 ) -> Result<(), AllocError>
     ensures { OnOk result (map (λ image. image.items) images.new.items
-        ≡ (map (λ image. image.items) images.old.items ++ three_of (loose (take len bytes.now) [])) ++ three_of (loose bytes.now [])) }
+        ≡ (map (λ image. image.items) images.old.items ++ three_of (loose (take len bytes.now) []))
+        ++ three_of (loose bytes.now [])) }
 {
     let mut front = Vec::from_slice(alloc, bytes)?;
     front.truncate(len as usize);
@@ -317,10 +332,12 @@ fn has_room(bytes: &[u8], more: &[u8]) -> bool
     len <= MAX_FILE && more.len() as u64 <= MAX_FILE - len
 }
 
-// Takes the memory of bytes that are to be appended, and a copy of them for the log, unless they make the file too long.
+// Takes the memory of bytes that are to be appended, and a copy of them for the log, unless they
+// make the file too long.
 fn room_for(alloc: Global, bytes: &mut Vec<u8>, more: &[u8]) -> Option<FileBytes>
     ensures copy { IfSome result (λ kept. kept ≡ more.now) }
-    ensures room { IfSome result (λ _. (length bytes.new.items + length more.now ≤ MAX_FILE) × (vec_len bytes.new + length more.now ≤ vec_capacity bytes.new)) }
+    ensures room { IfSome result (λ _. (length bytes.new.items + length more.now ≤ MAX_FILE)
+        × (vec_len bytes.new + length more.now ≤ vec_capacity bytes.new)) }
     ensures unchanged { bytes.new.items ≡ bytes.old.items }
 {
     if !has_room(bytes, more) || bytes.reserve(more.len()).is_err() {

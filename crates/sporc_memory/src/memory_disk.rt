@@ -1,10 +1,13 @@
 //! Disks in memory.
 
-ghost use Rattle.std.specs.Prelude.{◌≡◌, ℕ, List, take, drop, ◌+◌, ◌≤◌, [], Some, length, IfOk, OnOk, IsTrue, ◌↔◌, ◌<◌};
+ghost use Rattle.std.specs.Prelude.{◌≡◌, ℕ, List, take, drop, ◌+◌, ◌≤◌, [], Some, length, IfOk};
+ghost use Rattle.std.specs.Prelude.{OnOk, IsTrue, ◌↔◌, ◌<◌};
 ghost use Rattle.sporc_memory.specs.CallsModel.{CountsCall};
-ghost use Rattle.sporc_outside.specs.LeafDisk.{overwrite, IsSame, IsSameOutside, KeepsOutside, CrashStep};
+ghost use Rattle.sporc_outside.specs.LeafDisk.{overwrite, IsSame, IsSameOutside, KeepsOutside};
+ghost use Rattle.sporc_outside.specs.LeafDisk.{CrashStep};
 ghost use Rattle.sporc_outside.specs.Counts.{CountsFaults};
-ghost use Rattle.sporc_memory.specs.MemoryDisk.{DiskState, IsSpoilt, IsUnsynced, LogsCall, after_call, state_after};
+ghost use Rattle.sporc_memory.specs.MemoryDisk.{DiskState, IsSpoilt, IsUnsynced, LogsCall};
+ghost use Rattle.sporc_memory.specs.MemoryDisk.{after_call, state_after};
 
 use crate::calls::Calls;
 use crate::disk_call::{DiskCall, DiskRequest};
@@ -36,7 +39,8 @@ impl Model for MemoryDisk {
 
 impl MemoryDisk {
     ghost use Rattle.std.specs.Prelude.{map};
-    ghost use Rattle.sporc_memory.specs.MemoryDisk.{bytes_of, images_of, state_after, AreListed, IsSpoilt, IsWrite};
+    ghost use Rattle.sporc_memory.specs.MemoryDisk.{bytes_of, images_of, state_after, AreListed};
+    ghost use Rattle.sporc_memory.specs.MemoryDisk.{IsSpoilt, IsWrite};
 
     /// Holds these bytes, all of them synced. The listed calls fail.
     pub fn new(alloc: Global, bytes: Vec<u8>, calls: Calls) -> Result<MemoryDisk, AllocError>
@@ -74,11 +78,12 @@ impl MemoryDisk {
         self.log.as_slice()
     }
 
-    /// Four of what a crash may leave now: what a read gives, and that with all bytes that were written since the last sync
-    /// that succeeded as 0, as 1, and as 255. A write that failed is one, too.
+    /// Four of what a crash may leave now: what a read gives, and that with all bytes that were
+    /// written since the last sync that succeeded as 0, as 1, and as 255. A write that failed is
+    /// one, too.
     pub fn images(&self) -> Result<Vec<Vec<u8>>, AllocError>
-        ensures ok { IfOk result (λ images.
-            AreListed (state_after self.now.first self.now.log) (map (λ image. image.items) images.items)) }
+        ensures ok { IfOk result (λ images. AreListed (state_after self.now.first self.now.log)
+            (map (λ image. image.items) images.items)) }
     {
         let mut images = Vec::new(self.alloc);
         images.push(Vec::from_slice(self.alloc, &self.bytes)?)?;
@@ -88,9 +93,11 @@ impl MemoryDisk {
         Ok(images)
     }
 
-    // What a read gives, with this byte in place of each that was written since the last sync that succeeded.
+    // What a read gives, with this byte in place of each that was written since the last sync that
+    // succeeded.
     fn spoilt(&self, byte: u8) -> Result<Vec<u8>, AllocError>
-        ensures { IfOk result (λ image. IsSpoilt (state_after self.now.first self.now.log) byte image.items) }
+        ensures { IfOk result
+            (λ image. IsSpoilt (state_after self.now.first self.now.log) byte image.items) }
     {
         let mut image = Vec::from_slice(self.alloc, &self.bytes)?;
         spoil(&mut image, &self.log, byte);
@@ -102,8 +109,8 @@ impl MemoryDisk {
         requires { IsWrite request → ⊥ }
         ensures logged { LogsCall self.old.log self.new.log request result }
         ensures bytes { bytes_of self.new ≡ bytes_of self.old }
-        ensures images { CrashStep (length self.old.log) (length self.new.log) (images_of self.old) (images_of self.new)
-            IsSame }
+        ensures images { CrashStep (length self.old.log) (length self.new.log) (images_of self.old)
+            (images_of self.new) IsSame }
         ensures time { OnOk result (length self.old.log < length self.new.log) }
         ensures call { CountsCall self.old.calls self.new.calls result }
         ensures count { CountsFaults self.old.calls.faults self.new.calls.faults result }
@@ -122,7 +129,8 @@ impl Counted for MemoryDisk {
 
 impl LeafDisk for MemoryDisk {
     ghost use Rattle.std.specs.Prelude.{Some, length, refl};
-    ghost use Rattle.sporc_memory.specs.MemoryDisk.{bytes_of, images_of, bytes_are_image, disk_told};
+    ghost use Rattle.sporc_memory.specs.MemoryDisk.{bytes_of, images_of, bytes_are_image};
+    ghost use Rattle.sporc_memory.specs.MemoryDisk.{disk_told};
 
     ghost told = { disk_told };
 
@@ -135,8 +143,8 @@ impl LeafDisk for MemoryDisk {
     fn len(&mut self) -> Result<u64, Failed>
         ensures length { IfOk result (λ n. n ≡ length (bytes_of self.old)) }
         ensures stored { Some (bytes_of self.new) ≡ Some (bytes_of self.old) }
-        ensures images { CrashStep (length self.old.log) (length self.new.log) (images_of self.old) (images_of self.new)
-            IsSame }
+        ensures images { CrashStep (length self.old.log) (length self.new.log) (images_of self.old)
+            (images_of self.new) IsSame }
         ensures logged { LogsCall self.old.log self.new.log DiskRequest.Len result }
         ensures time { OnOk result (length self.old.log < length self.new.log) }
         ensures call { CountsCall self.old.calls self.new.calls result }
@@ -148,11 +156,13 @@ impl LeafDisk for MemoryDisk {
 
     fn read(&mut self, at: u64, buf: &mut [u8]) -> Result<(), Failed>
         requires { at + length buf.old ≤ length (bytes_of self.old) }
-        ensures bytes { OnOk result (buf.new ≡ take (length buf.old) (drop at (bytes_of self.old))) }
+        ensures bytes { OnOk result
+            (buf.new ≡ take (length buf.old) (drop at (bytes_of self.old))) }
         ensures stored { Some (bytes_of self.new) ≡ Some (bytes_of self.old) }
-        ensures images { CrashStep (length self.old.log) (length self.new.log) (images_of self.old) (images_of self.new)
-            IsSame }
-        ensures logged { LogsCall self.old.log self.new.log (DiskRequest.Read at (length buf.old)) result }
+        ensures images { CrashStep (length self.old.log) (length self.new.log) (images_of self.old)
+            (images_of self.new) IsSame }
+        ensures logged { LogsCall self.old.log self.new.log
+            (DiskRequest.Read at (length buf.old)) result }
         ensures time { OnOk result (length self.old.log < length self.new.log) }
         ensures call { CountsCall self.old.calls self.new.calls result }
         ensures count { CountsFaults self.old.calls.faults self.new.calls.faults result }
@@ -166,11 +176,14 @@ impl LeafDisk for MemoryDisk {
 
     fn write_at(&mut self, at: u64, bytes: &[u8]) -> Result<(), Failed>
         requires { at + length bytes.now ≤ length (bytes_of self.old) }
-        ensures written { OnOk result (Some (bytes_of self.new) ≡ Some (overwrite (bytes_of self.old) at bytes.now)) }
-        ensures others { KeepsOutside at (length bytes.now) (Some (bytes_of self.old)) (Some (bytes_of self.new)) }
-        ensures images { CrashStep (length self.old.log) (length self.new.log) (images_of self.old) (images_of self.new)
-            (IsSameOutside at (length bytes.now)) }
-        ensures logged { LogsCall self.old.log self.new.log (DiskRequest.Write at bytes.now) result }
+        ensures written { OnOk result
+            (Some (bytes_of self.new) ≡ Some (overwrite (bytes_of self.old) at bytes.now)) }
+        ensures others { KeepsOutside at (length bytes.now) (Some (bytes_of self.old))
+            (Some (bytes_of self.new)) }
+        ensures images { CrashStep (length self.old.log) (length self.new.log) (images_of self.old)
+            (images_of self.new) (IsSameOutside at (length bytes.now)) }
+        ensures logged { LogsCall self.old.log self.new.log
+            (DiskRequest.Write at bytes.now) result }
         ensures time { OnOk result (length self.old.log < length self.new.log) }
         ensures call { CountsCall self.old.calls self.new.calls result }
         ensures count { CountsFaults self.old.calls.faults self.new.calls.faults result }
@@ -189,10 +202,11 @@ impl LeafDisk for MemoryDisk {
 
     fn sync(&mut self) -> Result<(), Failed>
         ensures durable { OnOk result
-            ((image : List ℕ) → images_of self.new (length self.new.log) image → Some (bytes_of self.new) ≡ Some image) }
+            ((image : List ℕ) → images_of self.new (length self.new.log) image
+            → Some (bytes_of self.new) ≡ Some image) }
         ensures stored { Some (bytes_of self.new) ≡ Some (bytes_of self.old) }
-        ensures images { CrashStep (length self.old.log) (length self.new.log) (images_of self.old) (images_of self.new)
-            IsSame }
+        ensures images { CrashStep (length self.old.log) (length self.new.log) (images_of self.old)
+            (images_of self.new) IsSame }
         ensures logged { LogsCall self.old.log self.new.log DiskRequest.Sync result }
         ensures time { OnOk result (length self.old.log < length self.new.log) }
         ensures call { CountsCall self.old.calls self.new.calls result }
@@ -204,7 +218,9 @@ impl LeafDisk for MemoryDisk {
 
 // Puts this byte in place of each that one of the calls wrote and none synced.
 fn spoil(image: &mut [u8], log: &[DiskCall], byte: u8)
-    ensures { (first : List ℕ) → IsSpoilt (record { bytes = image.old; unsynced = (state_after first log.now).unsynced }) byte image.new }
+    ensures { (first : List ℕ)
+        → IsSpoilt (record { bytes = image.old; unsynced = (state_after first log.now).unsynced })
+        byte image.new }
 {
     for at in 0..image.len() {
         if is_unsynced(log, at) {
@@ -215,7 +231,8 @@ fn spoil(image: &mut [u8], log: &[DiskCall], byte: u8)
 
 // Whether one of the calls wrote the byte at a place, and none synced it.
 fn is_unsynced(log: &[DiskCall], at: usize) -> bool
-    ensures { (first : List ℕ) → IsTrue result ↔ IsUnsynced (state_after first log.now).unsynced at }
+    ensures { (first : List ℕ)
+        → IsTrue result ↔ IsUnsynced (state_after first log.now).unsynced at }
 {
     let mut is_unsynced = false;
     for call in log {

@@ -1,11 +1,15 @@
 //! Folders in memory.
 
-ghost use Rattle.std.specs.Prelude.{◌≡◌, ◌≢◌, ◌≤◌, ◌⊎◌, ◌++◌, ◌∷◌, [], false, length, Some, None, IsSome, IfOk, IfErr, IfSome, IfNone, OnOk, OnErr};
+ghost use Rattle.std.specs.Prelude.{◌≡◌, ◌≢◌, ◌≤◌, ◌⊎◌, ◌++◌, ◌∷◌, [], false, length, Some, None};
+ghost use Rattle.std.specs.Prelude.{IsSome, IfOk, IfErr, IfSome, IfNone, OnOk, OnErr};
 ghost use Rattle.std.specs.List.{All};
 ghost use Rattle.std.specs.Str.{bytes_eq};
 ghost use Rattle.sporc_memory.specs.CallsModel.{CountsCall};
 ghost use Rattle.sporc_outside.specs.Counts.{CountsFaults, Rose, count_of_both};
-ghost use Rattle.sporc_outside.specs.Files.{file_in, made_in, with_bytes, with_file, without_file, ChangesFile, HasNoFile, IsAppendFault, IsAppendedTo, IsDiskFault, IsDiskOf, IsNewFault, IsReadFault, RemovesFile, TakesFile};
+ghost use Rattle.sporc_outside.specs.Files.{file_in, made_in, with_bytes, with_file, without_file};
+ghost use Rattle.sporc_outside.specs.Files.{ChangesFile, HasNoFile, IsAppendFault, IsAppendedTo};
+ghost use Rattle.sporc_outside.specs.Files.{IsDiskFault, IsDiskOf, IsNewFault, IsReadFault};
+ghost use Rattle.sporc_outside.specs.Files.{RemovesFile, TakesFile};
 ghost use Rattle.sporc_memory.specs.MemoryFolderModel.{IsAbsence, IsPlaceOf};
 ghost use Rattle.sporc_memory.specs.MemoryAppendFile.{bytes_of as bytes_in};
 ghost use Rattle.sporc_outside.specs.Told.{AppendsItem, MayAppend};
@@ -20,7 +24,8 @@ use sporc_outside::{Counted, Failed, FileBytes, FileFault, Folder, MAX_FILE, Nam
 use std::alloc::{AllocError, Global};
 use std::marker::Model;
 
-/// A folder that keeps its files and tells them. A call that finds no memory fails, and so do the listed calls.
+/// A folder that keeps its files and tells them. A call that finds no memory fails, and so do the
+/// listed calls.
 #[derive(Drop)]
 pub struct MemoryFolder {
     alloc: Global,
@@ -38,7 +43,14 @@ impl Model for MemoryFolder {
 
     ghost Value = { MemoryFolderModel };
 
-    ghost view = { λ f. record { files = f.files.items; asked = f.asked.items; lent = reverse f.lent.items; calls = f.calls; disk_calls = f.disk_calls.items; append_calls = f.append_calls.items } };
+    ghost view = { λ f. record {
+      files = f.files.items;
+      asked = f.asked.items;
+      lent = reverse f.lent.items;
+      calls = f.calls;
+      disk_calls = f.disk_calls.items;
+      append_calls = f.append_calls.items;
+    } };
 
     ghost invariant = { λ f. HasEach f.files.items f.lent.items };
 }
@@ -46,7 +58,14 @@ impl Model for MemoryFolder {
 impl MemoryFolder {
     /// Holds these files. The listed calls fail.
     pub fn new(alloc: Global, files: Vec<NamedFile>, calls: Calls) -> MemoryFolder
-        ensures value { result ≡ record { files = files.items; asked = []; lent = []; calls = calls; disk_calls = []; append_calls = [] } }
+        ensures value { result ≡ record {
+          files = files.items;
+          asked = [];
+          lent = [];
+          calls = calls;
+          disk_calls = [];
+          append_calls = [];
+        } }
     {
         MemoryFolder {
             alloc,
@@ -112,7 +131,8 @@ impl Folder for MemoryFolder {
     fn read_file(&mut self, alloc: Global, name: &str) -> Result<Vec<u8>, FileFault>
         ensures ok { IfOk result (λ bytes. file_in self.old.files name.now ≡ Some bytes.items) }
         ensures within { IfOk result (λ bytes. length bytes.items ≤ MAX_FILE) }
-        ensures err { IfErr result (IsReadFault (Some self.old.files) name.now self.old.calls.faults self.new.calls.faults) }
+        ensures err { IfErr result (IsReadFault
+            (Some self.old.files) name.now self.old.calls.faults self.new.calls.faults) }
         ensures files { Some self.new.files ≡ Some self.old.files }
         ensures lent { Some self.new.lent ≡ Some self.old.lent }
         ensures asked { OnOk result (self.new.asked ≡ self.old.asked ++ name.now ∷ []) }
@@ -133,8 +153,10 @@ impl Folder for MemoryFolder {
     }
 
     fn write_file(&mut self, name: &str, bytes: &[u8]) -> Result<(), Failed>
-        ensures ok { OnOk result (Some self.new.files ≡ Some (with_file self.old.files name.now bytes.now)) }
-        ensures err { OnErr result (ChangesFile (Some self.old.files) (Some self.new.files) name.now) }
+        ensures ok { OnOk result
+            (Some self.new.files ≡ Some (with_file self.old.files name.now bytes.now)) }
+        ensures err { OnErr result
+            (ChangesFile (Some self.old.files) (Some self.new.files) name.now) }
         ensures lent { Some self.new.lent ≡ Some self.old.lent }
         ensures asked { OnOk result (self.new.asked ≡ self.old.asked ++ name.now ∷ []) }
         ensures may_ask { MayAppend (Some self.old.asked) (Some self.new.asked) name.now }
@@ -150,9 +172,12 @@ impl Folder for MemoryFolder {
 
     fn write_new(&mut self, name: &str, bytes: &[u8]) -> Result<(), FileFault>
         ensures was_new { OnOk result (HasNoFile (Some self.old.files) name.now) }
-        ensures ok { OnOk result (Some self.new.files ≡ Some (with_file self.old.files name.now bytes.now)) }
-        ensures err { IfErr result (IsNewFault (Some self.old.files) name.now self.old.calls.faults self.new.calls.faults) }
-        ensures changes { OnErr result (ChangesFile (Some self.old.files) (Some self.new.files) name.now) }
+        ensures ok { OnOk result
+            (Some self.new.files ≡ Some (with_file self.old.files name.now bytes.now)) }
+        ensures err { IfErr result (IsNewFault
+            (Some self.old.files) name.now self.old.calls.faults self.new.calls.faults) }
+        ensures changes { OnErr result
+            (ChangesFile (Some self.old.files) (Some self.new.files) name.now) }
         ensures exists { result ≡ Err faults.Exists → Some self.new.files ≡ Some self.old.files }
         ensures lent { Some self.new.lent ≡ Some self.old.lent }
         ensures asked { OnOk result (self.new.asked ≡ self.old.asked ++ name.now ∷ []) }
@@ -173,13 +198,16 @@ impl Folder for MemoryFolder {
     }
 
     fn leaf_disk(&mut self, name: &str) -> Result<MemoryDisk, FileFault>
-        ensures ok { IfOk result (λ disk. IsDiskOf (Some self.old.files) name.now (Some (bytes_of disk))) }
+        ensures ok { IfOk result
+            (λ disk. IsDiskOf (Some self.old.files) name.now (Some (bytes_of disk))) }
         ensures fresh { IfOk result (λ disk. disk.calls.faults ≡ 0) }
-        ensures err { IfErr result (IsDiskFault (Some self.old.files) name.now self.old.calls.faults self.new.calls.faults) }
+        ensures err { IfErr result (IsDiskFault
+            (Some self.old.files) name.now self.old.calls.faults self.new.calls.faults) }
         ensures files { Some self.new.files ≡ Some self.old.files }
         ensures lent { OnOk result (Some self.new.lent ≡ Some (name.now ∷ self.old.lent)) }
         ensures lent_unchanged { OnErr result (Some self.new.lent ≡ Some self.old.lent) }
-        ensures asked { OnOk result (AppendsItem (Some self.old.asked) (Some self.new.asked) name.now) }
+        ensures asked { OnOk result
+            (AppendsItem (Some self.old.asked) (Some self.new.asked) name.now) }
         ensures may_ask { MayAppend (Some self.old.asked) (Some self.new.asked) name.now }
         ensures answered { IfErr result (λ fault. fault ≢ faults.Failed
             → self.new.asked ≡ self.old.asked ++ name.now ∷ []) }
@@ -214,14 +242,18 @@ impl Folder for MemoryFolder {
     }
 
     fn append_to(&mut self, name: &str) -> Result<MemoryAppendFile, FileFault>
-        ensures ok { IfOk result (λ file. IsAppendedTo (Some self.old.files) name.now (Some (bytes_in file))) }
+        ensures ok { IfOk result
+            (λ file. IsAppendedTo (Some self.old.files) name.now (Some (bytes_in file))) }
         ensures made { OnOk result (Some self.new.files ≡ Some (made_in self.old.files name.now)) }
         ensures name { IfOk result (λ file. file.name ≡ name.now) }
         ensures fresh { IfOk result (λ file. file.calls.faults ≡ 0) }
-        ensures err { IfErr result (IsAppendFault (Some self.old.files) name.now self.old.calls.faults self.new.calls.faults) }
-        ensures changes { OnErr result (ChangesFile (Some self.old.files) (Some self.new.files) name.now) }
+        ensures err { IfErr result (IsAppendFault
+            (Some self.old.files) name.now self.old.calls.faults self.new.calls.faults) }
+        ensures changes { OnErr result
+            (ChangesFile (Some self.old.files) (Some self.new.files) name.now) }
         ensures lent { Some self.new.lent ≡ Some self.old.lent }
-        ensures asked { OnOk result (AppendsItem (Some self.old.asked) (Some self.new.asked) name.now) }
+        ensures asked { OnOk result
+            (AppendsItem (Some self.old.asked) (Some self.new.asked) name.now) }
         ensures answered { IfErr result (λ fault. fault ≢ faults.Failed
             → self.new.asked ≡ self.old.asked ++ name.now ∷ []) }
         ensures may_ask { MayAppend (Some self.old.asked) (Some self.new.asked) name.now }
@@ -242,10 +274,12 @@ impl Folder for MemoryFolder {
     }
 
     fn take_file(&mut self, name: &str, file: MemoryAppendFile)
-        ensures back { TakesFile name.now (Some (bytes_in file)) (Some self.old.files) (Some self.new.files) }
+        ensures back { TakesFile name.now (Some (bytes_in file)) (Some self.old.files)
+            (Some self.new.files) }
         ensures lent { Some self.new.lent ≡ Some self.old.lent }
         ensures asked { Some self.new.asked ≡ Some self.old.asked }
-        ensures kept { count_of_both self.old.calls.faults file.calls.faults ≤ self.new.calls.faults }
+        ensures kept { count_of_both self.old.calls.faults file.calls.faults
+            ≤ self.new.calls.faults }
     {
         self.calls.add_faults(file.faults());
         let (_, bytes) = file.into_parts();
@@ -253,12 +287,15 @@ impl Folder for MemoryFolder {
     }
 
     fn remove(&mut self, name: &str, file: MemoryAppendFile) -> Result<(), Failed>
-        ensures gone { OnOk result (RemovesFile name.now (Some self.old.files) (Some self.new.files)) }
-        ensures err { OnErr result (RemovesFile name.now (Some self.old.files) (Some self.new.files)
-            ⊎ TakesFile name.now (Some (bytes_in file)) (Some self.old.files) (Some self.new.files)) }
+        ensures gone { OnOk result
+            (RemovesFile name.now (Some self.old.files) (Some self.new.files)) }
+        ensures err { OnErr result
+            (RemovesFile name.now (Some self.old.files) (Some self.new.files) ⊎ TakesFile name.now
+            (Some (bytes_in file)) (Some self.old.files) (Some self.new.files)) }
         ensures lent { Some self.new.lent ≡ Some self.old.lent }
         ensures asked { Some self.new.asked ≡ Some self.old.asked }
-        ensures count { CountsFaults (count_of_both self.old.calls.faults file.calls.faults) self.new.calls.faults result }
+        ensures count { CountsFaults
+            (count_of_both self.old.calls.faults file.calls.faults) self.new.calls.faults result }
         ensures call { CountsCall self.old.calls self.new.calls result }
     {
         self.calls.add_faults(file.faults());
@@ -309,7 +346,8 @@ fn look_up<'a>(
     name: &str,
 ) -> Result<&'a [u8], FileFault>
     ensures ok { IfOk result (λ bytes. IsDiskOf (Some files.now) name.now (Some bytes.now)) }
-    ensures err { IfErr result (IsDiskFault (Some files.now) name.now calls.old.faults calls.new.faults) }
+    ensures err { IfErr result
+        (IsDiskFault (Some files.now) name.now calls.old.faults calls.new.faults) }
     ensures asked { OnOk result (asked.new.items ≡ asked.old.items ++ name.now ∷ []) }
     ensures answered { IfErr result (λ fault. fault ≢ faults.Failed
         → asked.new.items ≡ asked.old.items ++ name.now ∷ []) }
@@ -370,7 +408,8 @@ fn write(
     Ok(())
 }
 
-// A disk over a copy of these bytes, with the name kept for its return. It fails where there is no memory.
+// A disk over a copy of these bytes, with the name kept for its return. It fails where there is no
+// memory.
 fn lend(
     alloc: Global,
     calls: &mut Calls,
@@ -379,10 +418,15 @@ fn lend(
     bytes: &[u8],
     failing: Vec<u64>,
 ) -> Result<MemoryDisk, FileFault>
-    ensures ok { IfOk result (λ disk. disk ≡ record { first = bytes.now; log = []; calls = record { failing = failing.items; made = 0; faults = 0 } }) }
+    ensures ok { IfOk result (λ disk. disk ≡ record {
+      first = bytes.now;
+      log = [];
+      calls = record { failing = failing.items; made = 0; faults = 0 };
+    }) }
     ensures lent { OnOk result (lent.new.items ≡ lent.old.items ++ name.now ∷ []) }
     ensures err { OnErr result (lent.new.items ≡ lent.old.items) }
-    ensures failed { IfErr result (λ fault. (fault ≡ faults.Failed) × Rose calls.old.faults calls.new.faults) }
+    ensures failed { IfErr result
+        (λ fault. (fault ≡ faults.Failed) × Rose calls.old.faults calls.new.faults) }
     ensures calls { calls.new ≡ record calls.old { faults = calls.new.faults } }
     ensures kept { calls.old.faults ≤ calls.new.faults }
 {
@@ -399,7 +443,11 @@ fn open(
     bytes: &[u8],
     failing: Vec<u64>,
 ) -> Result<MemoryDisk, AllocError>
-    ensures ok { IfOk result (λ disk. disk ≡ record { first = bytes.now; log = []; calls = record { failing = failing.items; made = 0; faults = 0 } }) }
+    ensures ok { IfOk result (λ disk. disk ≡ record {
+      first = bytes.now;
+      log = [];
+      calls = record { failing = failing.items; made = 0; faults = 0 };
+    }) }
     ensures lent { OnOk result (lent.new.items ≡ lent.old.items ++ name.now ∷ []) }
     ensures err { OnErr result (lent.new.items ≡ lent.old.items) }
 {
@@ -418,10 +466,17 @@ fn appended(
     name: &[u8],
     failing: Vec<u64>,
 ) -> Result<MemoryAppendFile, FileFault>
-    ensures ok { IfOk result (λ file. IsAppendedTo (Some files.old.items) name.now (Some (bytes_in file))) }
+    ensures ok { IfOk result
+        (λ file. IsAppendedTo (Some files.old.items) name.now (Some (bytes_in file))) }
     ensures made { OnOk result (files.new.items ≡ made_in files.old.items name.now) }
-    ensures file { IfOk result (λ file. file ≡ record { name = name.now; first = bytes_in file; log = []; calls = record { failing = failing.items; made = 0; faults = 0 } }) }
-    ensures err { IfErr result (IsAppendFault (Some files.old.items) name.now calls.old.faults calls.new.faults) }
+    ensures file { IfOk result (λ file. file ≡ record {
+      name = name.now;
+      first = bytes_in file;
+      log = [];
+      calls = record { failing = failing.items; made = 0; faults = 0 };
+    }) }
+    ensures err { IfErr result
+        (IsAppendFault (Some files.old.items) name.now calls.old.faults calls.new.faults) }
     ensures unchanged { OnErr result (files.new.items ≡ files.old.items) }
     ensures calls { calls.new ≡ record calls.old { faults = calls.new.faults } }
     ensures kept { calls.old.faults ≤ calls.new.faults }
@@ -451,7 +506,12 @@ fn open_appended(
     bytes: &[u8],
     failing: Vec<u64>,
 ) -> Result<MemoryAppendFile, AllocError>
-    ensures { IfOk result (λ file. file ≡ record { name = name.now; first = bytes.now; log = []; calls = record { failing = failing.items; made = 0; faults = 0 } }) }
+    ensures { IfOk result (λ file. file ≡ record {
+      name = name.now;
+      first = bytes.now;
+      log = [];
+      calls = record { failing = failing.items; made = 0; faults = 0 };
+    }) }
 {
     let name = FileBytes::new(Vec::from_slice(alloc, name)?);
     let bytes = Vec::from_slice(alloc, bytes)?;
@@ -460,7 +520,8 @@ fn open_appended(
 
 // Puts these bytes in the file with this name, if there is one.
 fn put_if_there(files: &mut Vec<NamedFile>, name: &[u8], bytes: Vec<u8>)
-    ensures { files.new.items ≡ with_bytes (file_in files.old.items name.now) files.old.items name.now bytes.items }
+    ensures { files.new.items
+        ≡ with_bytes (file_in files.old.items name.now) files.old.items name.now bytes.items }
 {
     if place_of(files, name).is_some() {
         put(files, name, bytes);
@@ -476,8 +537,8 @@ fn remove_named(
     bytes: Vec<u8>,
 ) -> Result<(), Failed>
     ensures gone { OnOk result (files.new.items ≡ without_file files.old.items name.now) }
-    ensures back { OnErr result
-        (files.new.items ≡ with_bytes (file_in files.old.items name.now) files.old.items name.now bytes.items) }
+    ensures back { OnErr result (files.new.items
+        ≡ with_bytes (file_in files.old.items name.now) files.old.items name.now bytes.items) }
     ensures free { OnOk result (All (λ other. bytes_eq other name.now ≡ false) lent.now) }
     ensures count { CountsFaults calls.old.faults calls.new.faults result }
     ensures call { CountsCall calls.old calls.new result }

@@ -1,6 +1,7 @@
 //! Links over listed bytes.
 
-ghost use Rattle.std.specs.Prelude.{◌≡◌, ◌<◌, ◌≤◌, ◌↔◌, [], length, min, IsErr, IfOk, Contains, refl, false};
+ghost use Rattle.std.specs.Prelude.{◌≡◌, ◌<◌, ◌≤◌, ◌↔◌, [], length, min, IsErr, IfOk, Contains};
+ghost use Rattle.std.specs.Prelude.{refl, false};
 ghost use Rattle.sporc_memory.specs.CallsModel.{CountsCall};
 ghost use Rattle.sporc_outside.specs.Counts.{next_count};
 ghost use Rattle.sporc_memory.specs.MemoryStreams.{link_told};
@@ -12,8 +13,8 @@ use sporc_outside::{Counted, Failed, Link, Sink, Source, Stream};
 use std::alloc::Global;
 use std::marker::Model;
 
-/// A link whose other end sends listed bytes. It keeps the bytes that are written, and tells both. A write that finds no
-/// memory fails, and so do the listed calls.
+/// A link whose other end sends listed bytes. It keeps the bytes that are written, and tells both.
+/// A write that finds no memory fails, and so do the listed calls.
 #[derive(Drop)]
 pub struct MemoryLink {
     bytes: Vec<u8>,
@@ -30,7 +31,13 @@ impl Model for MemoryLink {
 
     ghost Value = { MemoryLinkModel };
 
-    ghost view = { λ l. record { left = drop l.at l.bytes.items; written = l.written.items; piece = l.piece; calls = l.calls; is_shut = l.is_shut } };
+    ghost view = { λ l. record {
+      left = drop l.at l.bytes.items;
+      written = l.written.items;
+      piece = l.piece;
+      calls = l.calls;
+      is_shut = l.is_shut;
+    } };
 
     ghost invariant = { λ l. (l.at ≤ vec_len l.bytes) × (0 < l.piece) };
 }
@@ -39,7 +46,13 @@ impl MemoryLink {
     /// Gives these bytes, and moves at most `piece` bytes a call. The listed calls fail.
     pub fn new(alloc: Global, bytes: Vec<u8>, piece: usize, calls: Calls) -> MemoryLink
         requires { 0 < piece }
-        ensures value { result ≡ record { left = bytes.items; written = []; piece = piece; calls = calls; is_shut = false } }
+        ensures value { result ≡ record {
+          left = bytes.items;
+          written = [];
+          piece = piece;
+          calls = calls;
+          is_shut = false;
+        } }
     {
         MemoryLink {
             bytes,
@@ -84,7 +97,8 @@ impl Source for MemoryLink {
     fn read(&mut self, buf: &mut [u8]) -> Result<usize, Failed>
         ensures within { IfOk result (λ n. n ≤ length buf.new) }
         ensures did { Reads (use_of link_told self.old self.new) result buf.new }
-        ensures listed { IsErr result ↔ Contains self.old.calls.failing (next_count self.old.calls.made) }
+        ensures listed { IsErr result
+            ↔ Contains self.old.calls.failing (next_count self.old.calls.made) }
         ensures call { CountsCall self.old.calls self.new.calls result }
     {
         self.calls.begin()?;

@@ -1,6 +1,7 @@
 //! Nets over listed links.
 
-ghost use Rattle.std.specs.Prelude.{◌≡◌, ◌≤◌, ◌+◌, ◌∷◌, ◌++◌, [], reverse, IfOk, OnOk, OnErr, Some, false};
+ghost use Rattle.std.specs.Prelude.{◌≡◌, ◌≤◌, ◌+◌, ◌∷◌, ◌++◌, [], reverse, IfOk, OnOk, OnErr, Some};
+ghost use Rattle.std.specs.Prelude.{false};
 ghost use Rattle.sporc_memory.specs.CallsModel.{CountsCall};
 ghost use Rattle.sporc_outside.specs.Counts.{CountsFaults};
 ghost use Rattle.sporc_memory.specs.MemoryNetModel.{AreFresh, IsFresh};
@@ -14,8 +15,9 @@ use std::alloc::Global;
 use std::marker::Model;
 use std::sync::Wait;
 
-/// A net that hands out listed links, the last of the list first, and keeps those that are taken back. A call fails
-/// where no link is left, or no memory for its address or for a link's return, and so do the listed calls.
+/// A net that hands out listed links, the last of the list first, and keeps those that are taken
+/// back. A call fails where no link is left, or no memory for its address or for a link's return,
+/// and so do the listed calls.
 #[derive(Drop)]
 pub struct MemoryNet {
     alloc: Global,
@@ -33,16 +35,31 @@ impl Model for MemoryNet {
 
     ghost Value = { MemoryNetModel };
 
-    ghost view = { λ n. record { asked = n.asked.items; coming = reverse n.coming.items; returned = n.returned.items; out = n.out; calls = n.calls; link_faults = n.link_faults } };
+    ghost view = { λ n. record {
+      asked = n.asked.items;
+      coming = reverse n.coming.items;
+      returned = n.returned.items;
+      out = n.out;
+      calls = n.calls;
+      link_faults = n.link_faults;
+    } };
 
-    ghost invariant = { λ n. (vec_len n.returned + n.out ≤ vec_capacity n.returned) × AreFresh n.coming.items };
+    ghost invariant = { λ n. (vec_len n.returned + n.out ≤ vec_capacity n.returned)
+        × AreFresh n.coming.items };
 }
 
 impl MemoryNet {
     /// Hands out these links, the last one first. The listed calls fail.
     pub fn new(alloc: Global, links: Vec<MemoryLink>, calls: Calls) -> MemoryNet
         requires { AreFresh links.items }
-        ensures value { result ≡ record { asked = []; coming = reverse links.items; returned = []; out = 0; calls = calls; link_faults = 0 } }
+        ensures value { result ≡ record {
+          asked = [];
+          coming = reverse links.items;
+          returned = [];
+          out = 0;
+          calls = calls;
+          link_faults = 0;
+        } }
     {
         MemoryNet {
             alloc,
@@ -69,7 +86,8 @@ impl MemoryNet {
         self.returned.as_slice()
     }
 
-    // The next link, with room for its return. It counts no call, but a fault of the one that is under way.
+    // The next link, with room for its return. It counts no call, but a fault of the one that is
+    // under way.
     fn hand_out(&mut self) -> Result<MemoryLink, Failed>
         ensures ok { IfOk result (λ link. self.old.coming ≡ link ∷ self.new.coming) }
         ensures fresh { IfOk result IsFresh }

@@ -26,7 +26,8 @@ impl Model for MemorySource {
 
     ghost Value = { MemoryBytesModel };
 
-    ghost view = { λ s. record { bytes = drop s.at s.bytes.items; piece = s.piece; calls = s.calls } };
+    ghost view = { λ s.
+        record { bytes = drop s.at s.bytes.items; piece = s.piece; calls = s.calls } };
 
     ghost invariant = { λ s. (s.at ≤ vec_len s.bytes) × (0 < s.piece) };
 }
@@ -66,9 +67,11 @@ impl Source for MemorySource {
     fn read(&mut self, buf: &mut [u8]) -> Result<usize, Failed>
         ensures within { IfOk result (λ n. n ≤ length buf.new) }
         ensures did { Reads (use_of source_told self.old self.new) result buf.new }
-        ensures listed { IsErr result ↔ Contains self.old.calls.failing (next_count self.old.calls.made) }
+        ensures listed { IsErr result
+            ↔ Contains self.old.calls.failing (next_count self.old.calls.made) }
         ensures call { CountsCall self.old.calls self.new.calls result }
-        ensures piece { IfOk result (λ n. n ≡ min (min (length buf.old) self.old.piece) (length self.old.bytes)) }
+        ensures piece { IfOk result
+            (λ n. n ≡ min (min (length buf.old) self.old.piece) (length self.old.bytes)) }
     {
         self.calls.begin()?;
         let left = &self.bytes[self.at..];

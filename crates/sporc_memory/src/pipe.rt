@@ -56,7 +56,8 @@ impl Pipe {
         }
     }
 
-    // Waits until there are bytes or the flow is shut, and moves them into the first places of the buffer.
+    // Waits until there are bytes or the flow is shut, and moves them into the first places of the
+    // buffer.
     pub(crate) fn read<R: Wait>(&self, rt: &R, buf: &mut [u8]) -> usize
         ensures { result ≤ length buf.new }
     {

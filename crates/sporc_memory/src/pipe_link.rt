@@ -6,8 +6,8 @@ use crate::pipe::Pipe;
 use sporc_outside::{Counted, Failed, Link, Sink, Source, Stream};
 use std::sync::{Arc, Wait};
 
-/// An end of a connection between threads. A read waits until bytes have come or either end was shut. A write fails only
-/// where there is no memory. It tells no content.
+/// An end of a connection between threads. A read waits until bytes have come or either end was
+/// shut. A write fails only where there is no memory. It tells no content.
 #[derive(Drop)]
 pub struct PipeLink<R: Wait + Copy + Drop> {
     rt: R,

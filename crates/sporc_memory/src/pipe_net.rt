@@ -21,8 +21,8 @@ struct Hall {
     came: Condvar,
 }
 
-/// One of the handles of a net between threads, whatever the address. A connection is made at once, and accepted later; a
-/// call fails only where there is no memory. It tells no content.
+/// One of the handles of a net between threads, whatever the address. A connection is made at once,
+/// and accepted later; a call fails only where there is no memory. It tells no content.
 #[derive(Drop)]
 pub struct PipeNet<R: Wait + Copy + Drop> {
     rt: R,

@@ -7,7 +7,8 @@ use Rattle.sporc_order.specs.declared.tail.Untaken.TheVariants.{Refused, Unkept}
 use Rattle.sporc_order.specs.declared.tail.Unanswered.{Unanswered}
 use Rattle.sporc_order.specs.declared.tail.Unanswered.TheVariants as unanswered
 
--- an entry that fails this first check, or none, is answered by it, unless memory ran out; one that fails none may not be kept
+-- an entry that fails this first check, or none, is answered by it, unless memory ran out; one that
+-- fails none may not be kept
 abbrev pub TakesUnless : {X : Type 0} → Type 0 → Result X Untaken → Option Refusal → Type 0
 TakesUnless may_fail (Ok x) fault = fault ≡ None
 TakesUnless may_fail (Err (Refused refusal)) fault = refusal ≢ Memory → fault ≡ Some refusal

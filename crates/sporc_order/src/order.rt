@@ -1,6 +1,7 @@
 //! An order of entries.
 
-ghost use Rattle.std.specs.Prelude.{◌≡◌, ◌+◌, ◌∷◌, ◌++◌, [], ◌≤◌, ◌<◌, ◌↔◌, length, take, map, None, nat_lt, nat_le, ◌&&◌, IfOk, IfSome, OnOk, OnErr, IsTrue};
+ghost use Rattle.std.specs.Prelude.{◌≡◌, ◌+◌, ◌∷◌, ◌++◌, [], ◌≤◌, ◌<◌, ◌↔◌, length, take, map};
+ghost use Rattle.std.specs.Prelude.{None, nat_lt, nat_le, ◌&&◌, IfOk, IfSome, OnOk, OnErr, IsTrue};
 ghost use Rattle.sporc_base.specs.FirstFault.{AnswersUnless};
 ghost use Rattle.sporc_entry.specs.Genesis.{IsGenesis};
 ghost use Rattle.sporc_head.specs.declared.limits.TheConstants.{MAX_ENTRIES};
@@ -20,8 +21,8 @@ use sporc_wire::{MAX_BODY, MAX_PULLED};
 use std::alloc::Global;
 use std::marker::Model;
 
-/// How many bytes the entries of one answer have at most, each with the four of its length: what a frame's body leaves
-/// them beside the six of its head.
+/// How many bytes the entries of one answer have at most, each with the four of its length: what a
+/// frame's body leaves them beside the six of its head.
 pub const MAX_PULLED_BYTES: usize = MAX_BODY as usize - 6;
 
 /// The order of a document's entries.
@@ -89,11 +90,13 @@ impl Order {
         self.heads.entries()
     }
 
-    /// Appends an entry where no check fails that needs no key, and answers its position; else the first check that
-    /// fails.
+    /// Appends an entry where no check fails that needs no key, and answers its position; else the
+    /// first check that fails.
     pub fn submit(&mut self, bytes: &[u8]) -> Result<u32, Refusal>
         ensures genesis { self.new.genesis ≡ self.old.genesis }
-        ensures fault { AnswersUnless Refusal.Memory result (head_fault self.old.genesis None self.old.entries (length self.old.entries + 1) bytes.now) }
+        ensures fault { AnswersUnless Refusal.Memory result
+            (head_fault self.old.genesis None self.old.entries
+            (length self.old.entries + 1) bytes.now) }
         ensures position { IfOk result (λ position. position ≡ length self.old.entries + 1) }
         ensures ok { OnOk result (self.new.entries ≡ self.old.entries ++ bytes.now ∷ []) }
         ensures unchanged { OnErr result (self.new.entries ≡ self.old.entries) }
@@ -101,10 +104,13 @@ impl Order {
         self.submit_known(bytes, None)
     }
 
-    /// Appends an entry whose signature was examined. It is verified anew if the key isn't that of its author's device here.
+    /// Appends an entry whose signature was examined. It is verified anew if the key isn't that of
+    /// its author's device here.
     pub fn submit_examined(&mut self, examined: &Examined) -> Result<u32, Refusal>
         ensures genesis { self.new.genesis ≡ self.old.genesis }
-        ensures fault { AnswersUnless Refusal.Memory result (head_fault self.old.genesis None self.old.entries (length self.old.entries + 1) examined.now.entry) }
+        ensures fault { AnswersUnless Refusal.Memory result
+            (head_fault self.old.genesis None self.old.entries
+            (length self.old.entries + 1) examined.now.entry) }
         ensures position { IfOk result (λ position. position ≡ length self.old.entries + 1) }
         ensures ok { OnOk result (self.new.entries ≡ self.old.entries ++ examined.now.entry ∷ []) }
         ensures unchanged { OnErr result (self.new.entries ≡ self.old.entries) }
@@ -116,7 +122,9 @@ impl Order {
     pub fn submit_known(&mut self, entry: &[u8], known: Option<&Verdict>) -> Result<u32, Refusal>
         requires exact { IfSome known (λ v. IsExact v.now entry.now) }
         ensures genesis { self.new.genesis ≡ self.old.genesis }
-        ensures fault { AnswersUnless Refusal.Memory result (head_fault self.old.genesis None self.old.entries (length self.old.entries + 1) entry.now) }
+        ensures fault { AnswersUnless Refusal.Memory result
+            (head_fault self.old.genesis None self.old.entries
+            (length self.old.entries + 1) entry.now) }
         ensures position { IfOk result (λ position. position ≡ length self.old.entries + 1) }
         ensures ok { OnOk result (self.new.entries ≡ self.old.entries ++ entry.now ∷ []) }
         ensures unchanged { OnErr result (self.new.entries ≡ self.old.entries) }
@@ -137,7 +145,9 @@ impl Order {
     ) -> Result<u32, Untaken>
         requires exact { IfSome known (λ v. IsExact v.now entry.now) }
         ensures genesis { self.new.genesis ≡ self.old.genesis }
-        ensures fault { TakesUnless T.may_fail result (head_fault self.old.genesis None self.old.entries (length self.old.entries + 1) entry.now) }
+        ensures fault { TakesUnless T.may_fail result
+            (head_fault self.old.genesis None self.old.entries
+            (length self.old.entries + 1) entry.now) }
         ensures position { IfOk result (λ position. position ≡ length self.old.entries + 1) }
         ensures ok { OnOk result (self.new.entries ≡ self.old.entries ++ entry.now ∷ []) }
         ensures unchanged { OnErr result (self.new.entries ≡ self.old.entries) }
@@ -160,8 +170,9 @@ impl Order {
         }
     }
 
-    /// The key under which the check of an entry's signature verifies it here: that of its author's device. None exactly if the
-    /// bytes are no entry, or its author has no such live device. It takes no memory.
+    /// The key under which the check of an entry's signature verifies it here: that of its author's
+    /// device. None exactly if the bytes are no entry, or its author has no such live device. It
+    /// takes no memory.
     pub fn key_for(&self, entry: &[u8]) -> Option<[u8; 56]>
         ensures value { result ≡ key_for (roster_of self.now.genesis self.now.entries) entry.now }
     {
@@ -185,7 +196,8 @@ impl Order {
 // How many of the first entries one answer holds.
 fn batch_len(entries: &[Vec<u8>]) -> usize
     ensures within { result ≤ length entries.now }
-    ensures value { take result (map (λ v. v.items) entries.now) ≡ longest_batch MAX_PULLED MAX_PULLED_BYTES (map (λ v. v.items) entries.now) }
+    ensures value { take result (map (λ v. v.items) entries.now)
+        ≡ longest_batch MAX_PULLED MAX_PULLED_BYTES (map (λ v. v.items) entries.now) }
 {
     let mut room = MAX_PULLED_BYTES;
     for (i, entry) in entries.iter().enumerate() {

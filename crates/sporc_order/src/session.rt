@@ -1,11 +1,13 @@
 //! Sessions of one client with an order.
 
-ghost use Rattle.std.specs.Prelude.{◌≡◌, ◌+◌, true, false, length, None, Ok, Err, IfOk, IfErr, IfSome, IsErr, OnOk, OnErr};
+ghost use Rattle.std.specs.Prelude.{◌≡◌, ◌+◌, true, false, length, None, Ok, Err, IfOk, IfErr};
+ghost use Rattle.std.specs.Prelude.{IfSome, IsErr, OnOk, OnErr};
 ghost use Rattle.std.specs.Option.{option_copied};
 ghost use Rattle.sporc_wire.specs.declared.to_client.ToClient.{ToClient};
 ghost use Rattle.sporc_order.specs.Batches.{batch_after};
 ghost use Rattle.sporc_order.specs.Replies.{Says};
-ghost use Rattle.sporc_order.specs.Sessions.{step_of, greeted, submitted, entries_after, entry_in, IsExactFor};
+ghost use Rattle.sporc_order.specs.Sessions.{step_of, greeted, submitted, entries_after, entry_in};
+ghost use Rattle.sporc_order.specs.Sessions.{IsExactFor};
 ghost use Rattle.sporc_order.specs.Tails.{IsUnanswered};
 ghost use Rattle.sporc_head.specs.Examined.{IsExact};
 ghost use Rattle.sporc_head.specs.HeadChecks.{head_fault};
@@ -54,8 +56,9 @@ impl Session {
         Session { is_greeted: false }
     }
 
-    /// Answers a message: Close exactly if the first message isn't Hello with the order's document, or a later one is
-    /// Hello. Silent for the first Hello. Each entry that is sent is copied once, into the frame.
+    /// Answers a message: Close exactly if the first message isn't Hello with the order's document,
+    /// or a later one is Hello. Silent for the first Hello. Each entry that is sent is copied once,
+    /// into the frame.
     pub fn reply(
         &mut self,
         alloc: Global,
@@ -64,7 +67,8 @@ impl Session {
     ) -> Result<Reply, Memory>
         ensures reply { IfOk result (Says (step_of order.old self.old message.now).answer) }
         ensures order { OnOk result (order.new ≡ (step_of order.old self.old message.now).order) }
-        ensures greeted { OnOk result (self.new ≡ (step_of order.old self.old message.now).is_greeted) }
+        ensures greeted { OnOk result
+            (self.new ≡ (step_of order.old self.old message.now).is_greeted) }
         ensures memory { OnErr result (order.new ≡ order.old) }
         ensures unchanged { OnErr result (self.new ≡ self.old) }
     {
@@ -82,14 +86,16 @@ impl Session {
         requires exact { IfSome known (λ v. IsExactFor v.now message.now) }
         ensures reply { IfOk result (Says (step_of order.old self.old message.now).answer) }
         ensures order { OnOk result (order.new ≡ (step_of order.old self.old message.now).order) }
-        ensures greeted { OnOk result (self.new ≡ (step_of order.old self.old message.now).is_greeted) }
+        ensures greeted { OnOk result
+            (self.new ≡ (step_of order.old self.old message.now).is_greeted) }
         ensures memory { OnErr result (order.new ≡ order.old) }
         ensures unchanged { OnErr result (self.new ≡ self.old) }
     {
         answered(self.reply_kept(alloc, order, message, known, &mut NoTail))
     }
 
-    /// Answers a message as [`Session::reply_known`] does, where a tail keeps its entry before the order takes it.
+    /// Answers a message as [`Session::reply_known`] does, where a tail keeps its entry before the
+    /// order takes it.
     pub fn reply_kept<T: Tail>(
         &mut self,
         alloc: Global,
@@ -101,7 +107,8 @@ impl Session {
         requires exact { IfSome known (λ v. IsExactFor v.now message.now) }
         ensures reply { IfOk result (Says (step_of order.old self.old message.now).answer) }
         ensures order { OnOk result (order.new ≡ (step_of order.old self.old message.now).order) }
-        ensures greeted { OnOk result (self.new ≡ (step_of order.old self.old message.now).is_greeted) }
+        ensures greeted { OnOk result
+            (self.new ≡ (step_of order.old self.old message.now).is_greeted) }
         ensures unanswered { IfErr result (IsUnanswered T.may_fail) }
         ensures err { OnErr result (order.new ≡ order.old) }
         ensures unchanged { OnErr result (self.new ≡ self.old) }
@@ -137,7 +144,8 @@ impl Session {
     // Answers a Hello.
     fn greet(&mut self, order: &Order, document: &[u8; 16]) -> Answer
         ensures first { self.old ≡ false → result ≡ (greeted order.now document.now).answer }
-        ensures greeted { self.old ≡ false → self.new ≡ (greeted order.now document.now).is_greeted }
+        ensures greeted { self.old ≡ false
+            → self.new ≡ (greeted order.now document.now).is_greeted }
         ensures later { self.old ≡ true → result ≡ Answer.Close }
         ensures unchanged { self.old ≡ true → self.new ≡ true }
     {
@@ -170,10 +178,11 @@ fn submit<T: Tail>(
     tail: &mut T,
 ) -> Result<Answer, Unanswered>
     requires exact { IfSome known (λ v. IsExact v.now entry.now) }
-    ensures answer { IfOk result (λ answer. answer ≡ (submitted order.old entry.now
-        (head_fault order.old.genesis None order.old.entries (length order.old.entries + 1) entry.now)).answer) }
-    ensures order { OnOk result (order.new ≡ (submitted order.old entry.now
-        (head_fault order.old.genesis None order.old.entries (length order.old.entries + 1) entry.now)).order) }
+    ensures answer { IfOk result
+        (λ answer. answer ≡ (submitted order.old entry.now (head_fault order.old.genesis None
+        order.old.entries (length order.old.entries + 1) entry.now)).answer) }
+    ensures order { OnOk result (order.new ≡ (submitted order.old entry.now (head_fault
+        order.old.genesis None order.old.entries (length order.old.entries + 1) entry.now)).order) }
     ensures unanswered { IfErr result (IsUnanswered T.may_fail) }
     ensures err { OnErr result (order.new ≡ order.old) }
     ensures tail { T.keeps tail.old order.old.entries → T.keeps tail.new order.new.entries }
@@ -188,7 +197,8 @@ fn submit<T: Tail>(
 
 // Answers a Pull, with the frame of the entries.
 fn pull(alloc: Global, order: &Order, from: u32) -> Result<Reply, Memory>
-    ensures reply { IfOk result (Says (Answer.Send (entries_after from (batch_after order.now.entries from)))) }
+    ensures reply { IfOk result
+        (Says (Answer.Send (entries_after from (batch_after order.now.entries from)))) }
 {
     if from >= order.len() {
         return Ok(Reply::Message(ToClient::Empty));

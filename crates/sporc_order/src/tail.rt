@@ -45,18 +45,20 @@ impl From<AllocError> for Unanswered {
 
 /// What keeps each entry before an order takes it, as a file does.
 pub trait Tail {
-    // It keeps the entries of this order: whatever comes, an order that begins with them is found again.
+    // It keeps the entries of this order: whatever comes, an order that begins with them is found
+    // again.
     ghost keeps: { Self → List (List ℕ) → Type 0 };
 
     // An entry may not be kept.
     ghost may_fail: { Type 0 };
 
-    /// Keeps an entry at its position, behind those that it keeps. If that fails, it keeps what it kept.
+    /// Keeps an entry at its position, behind those that it keeps. If that fails, it keeps what it
+    /// kept.
     fn put(&mut self, position: u32, entry: &[u8]) -> Result<(), Unkept>
-        ensures ok { OnOk result ((entries : List (List ℕ)) → keeps self.old entries → position ≡ length entries + 1
-            → keeps self.new (entries ++ entry.now ∷ [])) }
-        ensures err { OnErr result ((entries : List (List ℕ)) → keeps self.old entries → position ≡ length entries + 1
-            → keeps self.new entries) }
+        ensures ok { OnOk result ((entries : List (List ℕ)) → keeps self.old entries
+            → position ≡ length entries + 1 → keeps self.new (entries ++ entry.now ∷ [])) }
+        ensures err { OnErr result ((entries : List (List ℕ)) → keeps self.old entries
+            → position ≡ length entries + 1 → keeps self.new entries) }
         ensures failed { OnErr result may_fail };
 }
 

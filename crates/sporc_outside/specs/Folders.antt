@@ -2,8 +2,8 @@
 use Rattle.std.specs.Prelude.{ℕ, List, Option, None}
 use Rattle.sporc_outside.specs.declared.named_file.NamedFile.{NamedFile}
 
--- the files, the names asked for so far, and the names of the files whose disks are out, the last one first, each where it
--- tells them, and its count of faults
+-- the files, the names asked for so far, and the names of the files whose disks are out, the last
+-- one first, each where it tells them, and its count of faults
 pub record FolderTold : Type 0 where
   pub files : Option (List NamedFile)
   pub asked : Option (List (List ℕ))

@@ -1,10 +1,11 @@
 -- What a disk tells, what a crash may leave of its bytes, and what its calls do to them.
-use Rattle.std.specs.Prelude.{◌≡◌, ◌≢◌, ◌⊎◌, ◌↔◌, ℕ, ◌+◌, ◌<◌, ◌≤◌, List, ◌++◌, length, take, drop, slice_index, Option, Some, None}
+use Rattle.std.specs.Prelude.{◌≡◌, ◌≢◌, ◌⊎◌, ◌↔◌, ℕ, ◌+◌, ◌<◌, ◌≤◌, List, ◌++◌, length, take, drop}
+use Rattle.std.specs.Prelude.{slice_index, Option, Some, None}
 use Rattle.sporc_outside.specs.Uses.{Use}
 use Rattle.sporc_outside.specs.Told.{GoesTold, IfTold}
 
--- the bytes that a read gives, where it tells them; the moment, a number that does not fall; what a crash at a moment, up to
--- this one, may leave; and its count of faults
+-- the bytes that a read gives, where it tells them; the moment, a number that does not fall; what a
+-- crash at a moment, up to this one, may leave; and its count of faults
 pub record DiskTold : Type 1 where
   pub stored : Option (List ℕ)
   pub moment : ℕ
@@ -40,10 +41,11 @@ pub record IsSameOutside (at n : ℕ) (old new : List ℕ) : Type 0 where
 abbrev pub KeepsOutside : ℕ → ℕ → Option (List ℕ) → Option (List ℕ) → Type 0
 KeepsOutside at n = GoesTold (IsSameOutside at n)
 
--- One call, which began at the moment `before` and ended at `after`: at each moment of it a crash leaves what
--- it could have left as the call began, but for a step. What it left at earlier moments stays as it was.
-pub record CrashStep (before after : ℕ) (past images : ℕ → List ℕ → Type 0) (step : List ℕ → List ℕ → Type 0)
-    : Type 0 where
+-- One call, which began at the moment `before` and ended at `after`: at each moment of it a crash
+-- leaves what it could have left as the call began, but for a step. What it left at earlier moments
+-- stays as it was.
+pub record CrashStep (before after : ℕ) (past images : ℕ → List ℕ → Type 0)
+    (step : List ℕ → List ℕ → Type 0) : Type 0 where
   pub later : before ≤ after
   pub earlier : (m : ℕ) (image : List ℕ) → m ≤ before → images m image ↔ past m image
   pub during : (m : ℕ) (image : List ℕ) → before ≤ m → m ≤ after → images m image
@@ -51,17 +53,20 @@ pub record CrashStep (before after : ℕ) (past images : ℕ → List ℕ → Ty
 
 -- one call of a disk, so
 abbrev pub DiskSteps : Use DiskTold → (List ℕ → List ℕ → Type 0) → Type 0
-DiskSteps did step = CrashStep did.before.moment did.after.moment did.before.images did.after.images step
+DiskSteps did step =
+    CrashStep did.before.moment did.after.moment did.before.images did.after.images step
 
 -- of a disk that tells its bytes: a call ended later than it began
 abbrev pub TakesTime : Option (List ℕ) → ℕ → ℕ → Type 0
 TakesTime stored before after = IfTold stored (λ bytes. before < after)
 
--- what is found after a crash of that disk at that moment reads as one of the images, and its images are among them
-pub record IsFound {D : Type 0} (stored : D → Option (List ℕ)) (moment : D → ℕ) (images : D → ℕ → List ℕ → Type 0)
-    (disk : D) (at : ℕ) (found : D) : Type 0 where
+-- what is found after a crash of that disk at that moment reads as one of the images, and its
+-- images are among them
+pub record IsFound {D : Type 0} (stored : D → Option (List ℕ)) (moment : D → ℕ)
+    (images : D → ℕ → List ℕ → Type 0) (disk : D) (at : ℕ) (found : D) : Type 0 where
   pub reads : (image : List ℕ) × images disk at image × (stored found ≡ Some image)
   pub among : (image : List ℕ) → images found (moment found) image → images disk at image
 
 abbrev pub IsDiskFound : {D : Type 0} → (D → DiskTold) → D → ℕ → D → Type 0
-IsDiskFound disk_told = IsFound (λ d. (disk_told d).stored) (λ d. (disk_told d).moment) (λ d. (disk_told d).images)
+IsDiskFound disk_told =
+    IsFound (λ d. (disk_told d).stored) (λ d. (disk_told d).moment) (λ d. (disk_told d).images)

@@ -5,8 +5,8 @@ use Rattle.sporc_outside.specs.Counts.{CountsFaults}
 use Rattle.sporc_outside.specs.Told.{IsTrueIfTold}
 use Rattle.sporc_outside.specs.Uses.{Use}
 
--- what a stream of bytes tells: the bytes left to be read, those written so far, whether it was shut, each where it tells
--- that, and its count of faults
+-- what a stream of bytes tells: the bytes left to be read, those written so far, whether it was
+-- shut, each where it tells that, and its count of faults
 pub record StreamTold : Type 0 where
   pub left : Option (List ℕ)
   pub written : Option (List ℕ)
@@ -18,14 +18,16 @@ abbrev pub silent_stream : ℕ → StreamTold
 silent_stream faults = record { left = None; written = None; is_shut = None; faults = faults }
 
 -- a read that gave this, with the buffer after it: nothing was written, and it was not shut
-pub record Reads {E : Type 0} (did : Use StreamTold) (result : Result ℕ E) (buf : List ℕ) : Type 0 where
+pub record Reads {E : Type 0} (did : Use StreamTold) (result : Result ℕ E)
+    (buf : List ℕ) : Type 0 where
   pub bytes : ReadConsumes did.before.left did.after.left result buf
   pub written : did.after.written ≡ did.before.written
   pub is_shut : did.after.is_shut ≡ did.before.is_shut
   pub count : CountsFaults did.before.faults did.after.faults result
 
 -- a write that gave this: nothing was read, and it was not shut
-pub record Writes {E : Type 0} (did : Use StreamTold) (result : Result ℕ E) (bytes : List ℕ) : Type 0 where
+pub record Writes {E : Type 0} (did : Use StreamTold) (result : Result ℕ E)
+    (bytes : List ℕ) : Type 0 where
   pub written : WriteAppends did.before.written did.after.written result bytes
   pub left : did.after.left ≡ did.before.left
   pub is_shut : did.after.is_shut ≡ did.before.is_shut

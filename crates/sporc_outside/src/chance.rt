@@ -14,7 +14,8 @@ pub trait Chance: Counted {
 
     /// A random word.
     fn fill32(&mut self) -> Result<[u8; 32], Failed>
-        ensures ok { IfOk result (λ word. AppendsItem (told self.old).given (told self.new).given word) }
+        ensures ok { IfOk result
+            (λ word. AppendsItem (told self.old).given (told self.new).given word) }
         ensures err { OnErr result ((told self.new).given ≡ (told self.old).given) }
         ensures count { CountsFaults (told self.old).faults (told self.new).faults result };
 

@@ -1,19 +1,22 @@
 //! The outside world as traits: where bytes come from and go to, and how its faults are counted.
 //!
-//! - [`Source`] and [`Sink`] give and take bytes, and a [`Link`] does both for one connection; [`write_all`] goes to the
-//!   end. [`Dial`] and [`Listen`] make links.
-//! - [`Chance`] gives random words, a [`Folder`] keeps files, a [`LeafDisk`] keeps a key's state, an [`AppendFile`] is
-//!   appended to, and a [`Gate`] is called between the steps of threads.
-//! - [`Counted`]: each object counts its faults, and a call answers [`Failed`] only where that count rose.
+//! - [`Source`] and [`Sink`] give and take bytes, and a [`Link`] does both for one connection;
+//!   [`write_all`] goes to the end. [`Dial`] and [`Listen`] make links.
+//! - [`Chance`] gives random words, a [`Folder`] keeps files, a [`LeafDisk`] keeps a key's state,
+//!   an [`AppendFile`] is appended to, and a [`Gate`] is called between the steps of threads.
+//! - [`Counted`]: each object counts its faults, and a call answers [`Failed`] only where that
+//!   count rose.
 //!
-//! An object may tell its content to contracts, as those of `sporc_memory` do, or not tell it, as a real file or terminal does.
+//! An object may tell its content to contracts, as those of `sporc_memory` do, or not tell it, as a
+//! real file or terminal does.
 //!
 //! ```text
 //! write_all(&mut sink, b"hello")?;                    // in pieces of the sink's choice
 //! ```
 //!
-//! Proved: what writing to the end does to what a sink tells and to its count. What the calls of traits promise is kept by each
-//! object that has them. Only tested: nothing. Neither: nothing else is claimed.
+//! Proved: what writing to the end does to what a sink tells and to its count. What the calls of
+//! traits promise is kept by each object that has them. Only tested: nothing. Neither: nothing else
+//! is claimed.
 #![tactic(auto)]
 
 mod append_file;

@@ -6,7 +6,8 @@ ghost use Rattle.sporc_outside.specs.Uses.{use_of};
 use crate::sink::Sink;
 use crate::source::Source;
 
-/// Both directions of one connection, with one count of faults for both. After [`Link::shut`] it is only handed back.
+/// Both directions of one connection, with one count of faults for both. After [`Link::shut`] it is
+/// only handed back.
 pub trait Link: Source + Sink {
     /// Shuts both directions.
     fn shut(&mut self)

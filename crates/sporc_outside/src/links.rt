@@ -3,13 +3,15 @@
 ghost use Rattle.std.specs.Prelude.{◌≡◌, ◌≤◌, ◌+◌, option_map, IfOk, OnOk, OnErr};
 ghost use Rattle.sporc_outside.specs.Counts.{CountsFaults, count_of_both};
 ghost use Rattle.sporc_outside.specs.Nets.{NetTold};
-ghost use Rattle.sporc_outside.specs.Told.{AppendsItem, MayAppend, TakesItem, IsPositive, IsFalseIfTold};
+ghost use Rattle.sporc_outside.specs.Told.{AppendsItem, MayAppend, TakesItem, IsPositive};
+ghost use Rattle.sporc_outside.specs.Told.{IsFalseIfTold};
 
 use crate::counted::{Counted, Failed};
 use crate::link::Link;
 use std::sync::Wait;
 
-/// What makes links takes each of them back. It has a second count, of the faults of those that were taken back.
+/// What makes links takes each of them back. It has a second count, of the faults of those that
+/// were taken back.
 pub trait Links: Counted {
     type Link: Link;
 
@@ -24,11 +26,13 @@ pub trait Links: Counted {
     fn take_back(&mut self, link: Self::Link)
         requires { IsPositive (told self.old).out }
         ensures out { (told self.old).out ≡ option_map (λ n. n + 1) (told self.new).out }
-        ensures returned { AppendsItem (told self.old).returned (told self.new).returned (Self.Link.told link) }
+        ensures returned { AppendsItem (told self.old).returned (told self.new).returned
+            (Self.Link.told link) }
         ensures asked { (told self.new).asked ≡ (told self.old).asked }
         ensures coming { (told self.new).coming ≡ (told self.old).coming }
         ensures kept { (told self.new).faults ≡ (told self.old).faults }
-        ensures links_kept { count_of_both (told self.old).link_faults (Self.Link.told link).faults ≤ (told self.new).link_faults };
+        ensures links_kept { count_of_both (told self.old).link_faults (Self.Link.told link).faults
+            ≤ (told self.new).link_faults };
 
     // The faults that it tells are those that it counts.
     ghost faults_are_told: { (net : Self) → (told net).faults ≡ Self.faults net };
@@ -40,39 +44,52 @@ pub trait Dial: Links {
     fn connect<R: Wait>(&mut self, rt: &R, address: &str) -> Result<Self::Link, Failed>
         ensures fresh { IfOk result (λ link. (Self.Link.told link).faults ≡ 0) }
         ensures open { IfOk result (λ link. IsFalseIfTold (Self.Link.told link).is_shut) }
-        ensures next { IfOk result (λ link. TakesItem (Self.told self.old).coming (Self.told self.new).coming (Self.Link.told link)) }
-        ensures coming_unchanged { OnErr result ((Self.told self.new).coming ≡ (Self.told self.old).coming) }
-        ensures out { OnOk result ((Self.told self.new).out ≡ option_map (λ n. n + 1) (Self.told self.old).out) }
+        ensures next { IfOk result (λ link. TakesItem (Self.told self.old).coming
+            (Self.told self.new).coming (Self.Link.told link)) }
+        ensures coming_unchanged { OnErr result
+            ((Self.told self.new).coming ≡ (Self.told self.old).coming) }
+        ensures out { OnOk result
+            ((Self.told self.new).out ≡ option_map (λ n. n + 1) (Self.told self.old).out) }
         ensures out_unchanged { OnErr result ((Self.told self.new).out ≡ (Self.told self.old).out) }
-        ensures asked { OnOk result (AppendsItem (Self.told self.old).asked (Self.told self.new).asked address.now) }
-        ensures may_ask { MayAppend (Self.told self.old).asked (Self.told self.new).asked address.now }
+        ensures asked { OnOk result
+            (AppendsItem (Self.told self.old).asked (Self.told self.new).asked address.now) }
+        ensures may_ask { MayAppend (Self.told self.old).asked
+            (Self.told self.new).asked address.now }
         ensures returned { (Self.told self.new).returned ≡ (Self.told self.old).returned }
         ensures links { (Self.told self.new).link_faults ≡ (Self.told self.old).link_faults }
-        ensures count { CountsFaults (Self.told self.old).faults (Self.told self.new).faults result };
+        ensures count { CountsFaults (Self.told self.old).faults
+            (Self.told self.new).faults result };
 }
 
 /// Is called by the other end.
 pub trait Listen: Links {
     /// Begins to listen at the address.
     fn listen(&mut self, address: &str) -> Result<(), Failed>
-        ensures asked { OnOk result (AppendsItem (Self.told self.old).asked (Self.told self.new).asked address.now) }
-        ensures may_ask { MayAppend (Self.told self.old).asked (Self.told self.new).asked address.now }
+        ensures asked { OnOk result
+            (AppendsItem (Self.told self.old).asked (Self.told self.new).asked address.now) }
+        ensures may_ask { MayAppend (Self.told self.old).asked
+            (Self.told self.new).asked address.now }
         ensures coming { (Self.told self.new).coming ≡ (Self.told self.old).coming }
         ensures out { (Self.told self.new).out ≡ (Self.told self.old).out }
         ensures returned { (Self.told self.new).returned ≡ (Self.told self.old).returned }
         ensures links { (Self.told self.new).link_faults ≡ (Self.told self.old).link_faults }
-        ensures count { CountsFaults (Self.told self.old).faults (Self.told self.new).faults result };
+        ensures count { CountsFaults (Self.told self.old).faults
+            (Self.told self.new).faults result };
 
     /// Waits for the next link.
     fn accept<R: Wait>(&mut self, rt: &R) -> Result<Self::Link, Failed>
         ensures fresh { IfOk result (λ link. (Self.Link.told link).faults ≡ 0) }
         ensures open { IfOk result (λ link. IsFalseIfTold (Self.Link.told link).is_shut) }
-        ensures next { IfOk result (λ link. TakesItem (Self.told self.old).coming (Self.told self.new).coming (Self.Link.told link)) }
-        ensures coming_unchanged { OnErr result ((Self.told self.new).coming ≡ (Self.told self.old).coming) }
-        ensures out { OnOk result ((Self.told self.new).out ≡ option_map (λ n. n + 1) (Self.told self.old).out) }
+        ensures next { IfOk result (λ link. TakesItem (Self.told self.old).coming
+            (Self.told self.new).coming (Self.Link.told link)) }
+        ensures coming_unchanged { OnErr result
+            ((Self.told self.new).coming ≡ (Self.told self.old).coming) }
+        ensures out { OnOk result
+            ((Self.told self.new).out ≡ option_map (λ n. n + 1) (Self.told self.old).out) }
         ensures out_unchanged { OnErr result ((Self.told self.new).out ≡ (Self.told self.old).out) }
         ensures asked { (Self.told self.new).asked ≡ (Self.told self.old).asked }
         ensures returned { (Self.told self.new).returned ≡ (Self.told self.old).returned }
         ensures links { (Self.told self.new).link_faults ≡ (Self.told self.old).link_faults }
-        ensures count { CountsFaults (Self.told self.old).faults (Self.told self.new).faults result };
+        ensures count { CountsFaults (Self.told self.old).faults
+            (Self.told self.new).faults result };
 }

@@ -22,8 +22,10 @@ pub trait Sink: Stream {
 /// Writes all the bytes. If the sink fails, a prefix of them was written, and not all.
 pub fn write_all<O: Sink>(out: &mut O, bytes: &[u8]) -> Result<(), Failed>
     ensures ok { OnOk result (Appends (O.told out.old).written (O.told out.new).written bytes.now) }
-    ensures err { OnErr result (AppendsPrefix (O.told out.old).written (O.told out.new).written bytes.now) }
-    ensures less { OnErr result (AppendsLess (O.told out.old).written (O.told out.new).written bytes.now) }
+    ensures err { OnErr result
+        (AppendsPrefix (O.told out.old).written (O.told out.new).written bytes.now) }
+    ensures less { OnErr result
+        (AppendsLess (O.told out.old).written (O.told out.new).written bytes.now) }
     ensures left { (O.told out.new).left ≡ (O.told out.old).left }
     ensures shut { (O.told out.new).is_shut ≡ (O.told out.old).is_shut }
     ensures count { CountsFaults (O.told out.old).faults (O.told out.new).faults result }

@@ -27,4 +27,5 @@ pub record AreOpen (state : PlayState) : Type 0 where
 
 -- whatever scene a state stands for, the other stands for the scene after these commands
 abbrev pub Performs : PlayState → List (Scene → Command) → PlayState → Type 0
-Performs old commands new = (scene : Scene) → StandsFor generated_cast scene old → StandsFor generated_cast (after_each (setup_of generated_cast) scene commands) new
+Performs old commands new = (scene : Scene) → StandsFor generated_cast scene old
+    → StandsFor generated_cast (after_each (setup_of generated_cast) scene commands) new

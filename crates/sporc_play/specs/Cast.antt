@@ -1,5 +1,6 @@
 -- What the declarations of a script say: who takes part, and what each was given.
-use Rattle.std.specs.Prelude.{ℕ, ◌==◌, Bool, ◌&&◌, ◌||◌, List, [], ◌∷◌, fold, filter_map, Option, None, Some, if◌then◌else◌}
+use Rattle.std.specs.Prelude.{ℕ, ◌==◌, Bool, ◌&&◌, ◌||◌, List, [], ◌∷◌, fold, filter_map, Option}
+use Rattle.std.specs.Prelude.{None, Some, if◌then◌else◌}
 use Rattle.std.specs.FinMap.{empty, insert}
 use Rattle.std.specs.List.{list_any}
 use Rattle.lms_ots.specs.declared.ots_type.OtsType.{OtsType}
@@ -84,7 +85,12 @@ tree_of [] = record { height = Five; width = Four }
 tree_of (line ∷ lines) = tree_by line.command
 
 abbrev pub private_of : Tree → Device → LmsPrivate
-private_of tree device = record { lms = lms_type_of tree.height; ots = ots_type_of tree.width; id = identifier_of device; seed = seed_of device }
+private_of tree device = record {
+  lms = lms_type_of tree.height;
+  ots = ots_type_of tree.width;
+  id = identifier_of device;
+  seed = seed_of device;
+}
 
 abbrev pub public_of : Tree → Device → List ℕ
 public_of tree device = public_key_bytes (lms_public_of (private_of tree device))
@@ -92,11 +98,14 @@ public_of tree device = public_key_bytes (lms_public_of (private_of tree device)
 -- ---- the members
 
 abbrev pub founder_of : Tree → MemberRole → Founder
-founder_of tree m = record { member = m.member; role = m.role; key = public_of tree (first_device m.member) }
+founder_of tree m =
+    record { member = m.member; role = m.role; key = public_of tree (first_device m.member) }
 
 -- in ascending order of their numbers
 abbrev pub founders_of : List PlayLine → List Founder
-founders_of script = fold (λ founders m. insert_by (λ f. f.member) (founder_of (tree_of script) m) founders) [] (filter_map (λ l. founder_by l.command) script)
+founders_of script =
+    fold (λ founders m. insert_by (λ f. f.member) (founder_of (tree_of script) m) founders) []
+    (filter_map (λ l. founder_by l.command) script)
 
 -- without an admin there is no document, and no command may follow
 abbrev pub has_admin : List PlayLine → Bool
@@ -108,7 +117,8 @@ is_founder founders member = list_any (λ f. f.member == member) founders
 -- the devices that have a client from the beginning, if a founder is an admin: those of founders
 abbrev pub opener_by : List Founder → Command → Option Device
 opener_by founders (commands.Member m) = Some (first_device m.member)
-opener_by founders (commands.Device device) = if is_founder founders device.member then Some device else None
+opener_by founders (commands.Device device) =
+    if is_founder founders device.member then Some device else None
 opener_by founders command = None
 
 abbrev pub openers_by : List Founder → List PlayLine → List Device
@@ -124,14 +134,17 @@ abbrev pub is_pair : ℕ → ℕ → Pair → Bool
 is_pair one other p = (p.first == one && p.second == other) || (p.first == other && p.second == one)
 
 abbrev pub are_unpaired : List PlayLine → ℕ → ℕ → Bool
-are_unpaired script one other = list_any (is_pair one other) (filter_map (λ l. unpaired_by l.command) script)
+are_unpaired script one other =
+    list_any (is_pair one other) (filter_map (λ l. unpaired_by l.command) script)
 
 abbrev pub with_pair : List PlayLine → ℕ → Keys → ℕ → Keys
-with_pair script one keys other = if are_unpaired script one other then keys else insert keys other (pair_key one other)
+with_pair script one keys other =
+    if are_unpaired script one other then keys else insert keys other (pair_key one other)
 
 -- with everyone who is declared, unless a line takes the key away
 abbrev pub pairs_of : List PlayLine → ℕ → Keys
-pairs_of script member = fold (with_pair script member) empty (filter_map (λ l. declared_member l.command) script)
+pairs_of script member =
+    fold (with_pair script member) empty (filter_map (λ l. declared_member l.command) script)
 
 -- ---- the document
 
@@ -159,9 +172,11 @@ setup_of script = record {
 
 -- a change of the members; the key of a new one, and of a further device, is its own
 abbrev pub member_change : Setup → RosterChange → MemberChange
-member_change s (changes.Add m) = member_changes.Add m.member m.role (key_of_device s (first_device m.member))
+member_change s (changes.Add m) =
+    member_changes.Add m.member m.role (key_of_device s (first_device m.member))
 member_change s (changes.Remove member) = member_changes.Remove member
 member_change s (changes.SetRole m) = member_changes.SetRole m.member m.role
-member_change s (changes.AddDevice device) = member_changes.AddDevice device.member device.number (key_of_device s device)
+member_change s (changes.AddDevice device) =
+    member_changes.AddDevice device.member device.number (key_of_device s device)
 member_change s (changes.DropDevice device) = member_changes.DropDevice device.member device.number
 member_change s changes.Upgrade = member_changes.Upgrade

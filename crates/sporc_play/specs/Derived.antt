@@ -1,4 +1,5 @@
--- The values that a play derives for the members of its script and their devices, all of them by SHA-256.
+-- The values that a play derives for the members of its script and their devices, all of them by
+-- SHA-256.
 use Rattle.std.specs.Prelude.{ℕ, ◌+◌, ◌*◌, ◌^◌, nat_le, List, ◌∷◌, ◌++◌, take, if◌then◌else◌}
 use Rattle.std.specs.Int.{w16, w32, to_be_bytes}
 use Rattle.sha2.specs.Sha256.{sha256}
@@ -26,7 +27,9 @@ first_key = derived 4 0 0
 abbrev pub document_number : List ℕ
 document_number = take 16 (derived 5 0 0)
 
--- the random bytes of what a device signs or submits for the t-th time, from 1: 32 for the signature, and 32 for a new key
+-- the random bytes of what a device signs or submits for the t-th time, from 1: 32 for the
+-- signature, and 32 for a new key
 abbrev pub random_of : Device → ℕ → List ℕ
 random_of device t =
-    let number = device.number * 2 ^ 24 + t in derived 6 device.member number ++ derived 7 device.member number
+    let number = device.number * 2 ^ 24 + t in
+    derived 6 device.member number ++ derived 7 device.member number

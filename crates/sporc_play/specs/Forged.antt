@@ -1,5 +1,8 @@
--- The entries that a script signs for rogues: as a client's history says, but for what the script says otherwise.
-use Rattle.std.specs.Prelude.{◌≡◌, ℕ, ◌≤◌, ⊤, ◌+◌, ◌==◌, nat_le, not, Bool, List, [], ◌∷◌, length, take, drop, filter, fold, map, min, bit_xor, replicate, unwrap_or, Option, None, Some, Result, Ok, Err, if◌then◌else◌}
+-- The entries that a script signs for rogues: as a client's history says, but for what the script
+-- says otherwise.
+use Rattle.std.specs.Prelude.{◌≡◌, ℕ, ◌≤◌, ⊤, ◌+◌, ◌==◌, nat_le, not, Bool, List, [], ◌∷◌, length}
+use Rattle.std.specs.Prelude.{take, drop, filter, fold, map, min, bit_xor, replicate, unwrap_or}
+use Rattle.std.specs.Prelude.{Option, None, Some, Result, Ok, Err, if◌then◌else◌}
 use Rattle.std.specs.FinMap.{empty, insert}
 use Rattle.std.specs.List.{AllByRecursion}
 use Rattle.lms_leaf.specs.declared.faults.LeafFault.{LeafFault}
@@ -70,7 +73,9 @@ kind_of what = 1
 
 -- the chain's value after so many entries, or zeros where there are not so many
 abbrev pub value_at : PlainClient → ℕ → List ℕ
-value_at c base = if nat_le base (length c.entries) then hash_of c.opening.genesis (take base c.entries) else replicate 32 0
+value_at c base =
+    if nat_le base (length c.entries) then hash_of c.opening.genesis (take base c.entries)
+    else replicate 32 0
 
 abbrev pub forged_header : PlainClient → Forgery → ℕ → Header
 forged_header c f leaf =
@@ -94,7 +99,8 @@ forged_header c f leaf =
 
 -- the key of the history's epoch, or zeros if it removes the client's member
 abbrev pub key_there : PlainClient → List ℕ
-key_there c = unwrap_or (epoch_key c.opening.genesis c.opening.kit c.entries (epoch_of c.entries)) (replicate 32 0)
+key_there c = unwrap_or (epoch_key c.opening.genesis c.opening.kit c.entries (epoch_of c.entries))
+    (replicate 32 0)
 
 -- the members after a change, or those before it if they refuse it
 abbrev pub unless_refused : Option ChangeFault → Roster → Roster → Roster
@@ -102,7 +108,8 @@ unless_refused None before after = after
 unless_refused (Some fault) before after = before
 
 abbrev pub sealed_for : Roster → MemberChange → List ℕ
-sealed_for roster change = numbers_of (unless_refused (change_fault_of roster change) roster (after_change roster change)).members
+sealed_for roster change = numbers_of
+    (unless_refused (change_fault_of roster change) roster (after_change roster change)).members
 
 -- the derived keys that a rogue shares with members, also if a line took one away
 abbrev pub with_derived : ℕ → Keys → ℕ → Keys
@@ -124,8 +131,8 @@ forged_sealing c h change new = record {
 }
 
 abbrev pub forged_change : PlainClient → Header → MemberChange → List ℕ → ChangeBody
-forged_change c h change new =
-    body_sealed (forged_sealing c h change new) (derived_pairs h.author (sealed_for (roster_of c.opening.genesis c.entries) change))
+forged_change c h change new = body_sealed (forged_sealing c h change new)
+    (derived_pairs h.author (sealed_for (roster_of c.opening.genesis c.entries) change))
 
 -- a key that it adds has 56 bytes
 abbrev pub IsSmallChange : MemberChange → Type 0
@@ -150,12 +157,15 @@ first_flipped [] = []
 first_flipped (b ∷ bytes) = bit_xor b 1 ∷ bytes
 
 abbrev pub wrap_flipped : ℕ → Wrap → Wrap
-wrap_flipped member w = if w.member == member then record { member = w.member; sealed = first_flipped w.sealed } else w
+wrap_flipped member w =
+    if w.member == member then record { member = w.member; sealed = first_flipped w.sealed } else w
 
 -- the body with what is wrong about it
 abbrev pub spoiled : Option Suffix → ChangeBody → ChangeBody
-spoiled (Some (suffixes.Wrap member)) body = record body { wraps = map (wrap_flipped member) body.wraps }
-spoiled (Some (suffixes.Drop member)) body = record body { wraps = filter (λ w. not (w.member == member)) body.wraps }
+spoiled (Some (suffixes.Wrap member)) body =
+    record body { wraps = map (wrap_flipped member) body.wraps }
+spoiled (Some (suffixes.Drop member)) body =
+    record body { wraps = filter (λ w. not (w.member == member)) body.wraps }
 spoiled (Some suffixes.Commit) body = record body { commitment = first_flipped body.commitment }
 spoiled (Some suffixes.Previous) body = record body { previous = first_flipped body.previous }
 spoiled suffix body = body
@@ -178,16 +188,23 @@ forged_body s c suffix h new (whats.Change change) =
 abbrev pub unsigned_by : Setup → PlainClient → Forgery → List ℕ → ℕ → Entry
 unsigned_by s c f random leaf =
     let h = forged_header c f leaf in
-    record { header = h; body = forged_body s c f.signed.suffix h (drop 32 random) f.signed.what; signature = [] }
+    record {
+      header = h;
+      body = forged_body s c f.signed.suffix h (drop 32 random) f.signed.what;
+      signature = [];
+    }
 
 abbrev pub signature_by : Setup → PlainClient → Forgery → List ℕ → ℕ → List ℕ
-signature_by s c f random leaf = lms_signature_of (s.private (first_device f.member)) leaf (take 32 random) (signed_string (unsigned_by s c f random leaf))
+signature_by s c f random leaf = lms_signature_of (s.private (first_device f.member)) leaf
+    (take 32 random) (signed_string (unsigned_by s c f random leaf))
 
 -- signed with the rogue's next leaf, whatever the header says
 unfoldable pub signed_by : Setup → PlainClient → Forgery → List ℕ → ℕ → List ℕ
-signed_by s c f random leaf = entry_bytes (record (unsigned_by s c f random leaf) { signature = signature_by s c f random leaf })
+signed_by s c f random leaf = entry_bytes
+    (record (unsigned_by s c f random leaf) { signature = signature_by s c f random leaf })
 
 -- the bytes of the entry that a rogue signs for the t-th time, unless its leaves are used up
-unfoldable pub forged_entry : Setup → PlainClient → Forgery → ℕ → Result ℕ LeafFault → Option (List ℕ)
+unfoldable pub forged_entry : Setup → PlainClient → Forgery → ℕ → Result ℕ LeafFault
+    → Option (List ℕ)
 forged_entry s c f t (Ok leaf) = Some (signed_by s c f (random_of (first_device f.member) t) leaf)
 forged_entry s c f t (Err fault) = None

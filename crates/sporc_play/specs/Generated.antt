@@ -1,5 +1,6 @@
 -- The generated run: a play of three members, whose edits are computed from what they see.
-use Rattle.std.specs.Prelude.{◌≡◌, ◌⊎◌, ℕ, zero, suc, ◌+◌, ◌-◌, ◌*◌, ◌/◌, ◌%◌, ◌==◌, List, [], ◌∷◌, ◌++◌, length, codes, flat_map, map, Option, None, Some, if◌then◌else◌}
+use Rattle.std.specs.Prelude.{◌≡◌, ◌⊎◌, ℕ, zero, suc, ◌+◌, ◌-◌, ◌*◌, ◌/◌, ◌%◌, ◌==◌, List, [], ◌∷◌}
+use Rattle.std.specs.Prelude.{◌++◌, length, codes, flat_map, map, Option, None, Some, if◌then◌else◌}
 use Rattle.std.specs.Fmt.{decimal}
 use Rattle.sporc_base.specs.Numbers.{up_to}
 use Rattle.hex.specs.Hex.{encode_lower}
@@ -25,12 +26,13 @@ abbrev declares : ℕ → Command → PlayLine
 declares number command = record { number = number; command = command }
 
 abbrev pub founds : ℕ → Role → PlayLine
-founds member role = declares (member + 1) (commands.Member (record { member = member; role = role }))
+founds member role =
+    declares (member + 1) (commands.Member (record { member = member; role = role }))
 
 -- member 1 an admin, 2 and 3 editors, all with trees of height 10
 abbrev pub generated_cast : List PlayLine
-generated_cast =
-    declares 1 (commands.Tree (record { height = Ten; width = Four })) ∷ founds 1 Admin ∷ founds 2 Editor ∷ founds 3 Editor ∷ []
+generated_cast = declares 1 (commands.Tree (record { height = Ten; width = Four })) ∷ founds 1 Admin
+    ∷ founds 2 Editor ∷ founds 3 Editor ∷ []
 
 -- ---- its commands
 
@@ -43,22 +45,28 @@ abbrev pub removes : ℕ → TextEdit
 removes author = Remove (record { at = author - 1; count = 1 })
 
 abbrev pub inserts : ℕ → ℕ → ℕ → TextEdit
-inserts j author len = Insert (record { at = (j * author) % (len + 1); text = (97 + (3 * j + author) % 26) ∷ [] })
+inserts j author len =
+    Insert (record { at = (j * author) % (len + 1); text = (97 + (3 * j + author) % 26) ∷ [] })
 
 -- the edit of an author in batch j: each fifth removes a character, the others insert a letter
 abbrev pub generated_edit : ℕ → ℕ → Scene → TextEdit
-generated_edit j author scene = if j % 5 == 0 then removes author else inserts j author (seen_len (scene.world.clients (first_device author)))
+generated_edit j author scene =
+    if j % 5 == 0 then removes author
+    else inserts j author (seen_len (scene.world.clients (first_device author)))
 
 abbrev pub edits : ℕ → ℕ → Scene → Command
-edits j author scene = commands.Edit (record { device = first_device author; seen = None; change = generated_edit j author scene })
+edits j author scene = commands.Edit
+    (record { device = first_device author; seen = None; change = generated_edit j author scene })
 
 abbrev pub submits : ℕ → Scene → Command
 submits author scene = commands.Submit (first_device author)
 
 abbrev pub gives : ℕ → ℕ → Scene → Command
-gives number member scene = commands.Give (record { device = first_device member; position = number; entry = number })
+gives number member scene =
+    commands.Give (record { device = first_device member; position = number; entry = number })
 
--- a batch behind so many edits: all its authors edit, then all submit, and then the entries are given to all members
+-- a batch behind so many edits: all its authors edit, then all submit, and then the entries are
+-- given to all members
 abbrev pub batch : ℕ → ℕ → List (Scene → Command)
 batch done authors =
     map (edits (done / 3 + 1)) (up_to authors)
@@ -75,7 +83,8 @@ abbrev pub generated_commands : ℕ → List (Scene → Command)
 generated_commands n = batches (n / 3) ++ batch (3 * (n / 3)) (n % 3)
 
 abbrev pub generated_scene : ℕ → Scene
-generated_scene n = after_each (setup_of generated_cast) (opening generated_cast) (generated_commands n)
+generated_scene n =
+    after_each (setup_of generated_cast) (opening generated_cast) (generated_commands n)
 
 -- ---- its summary
 
@@ -88,16 +97,18 @@ AllAgree a b c = AreSame a b × AreSame a c
 
 -- how the clients of the three members stand to each other, in a word
 abbrev pub IsVerdict : PlainClient → PlainClient → PlainClient → List ℕ → Type 0
-IsVerdict a b c word = (AllAgree a b c × (word ≡ codes "same")) ⊎ ((¬ (AllAgree a b c)) × (word ≡ codes "differ"))
+IsVerdict a b c word =
+    (AllAgree a b c × (word ≡ codes "same")) ⊎ ((¬ (AllAgree a b c)) × (word ≡ codes "differ"))
 
 abbrev pub summary_line : PlainClient → List ℕ → List ℕ
-summary_line c word =
-    codes "clients 3 entries " ++ (decimal (length c.entries) ++ (codes " characters " ++ (decimal (length (committed_of c)) ++ (codes " "
-    ++ (word ++ (codes " " ++ (encode_lower (hash_of c.opening.genesis c.entries) ++ codes "\n")))))))
+summary_line c word = codes "clients 3 entries " ++ (decimal (length c.entries)
+    ++ (codes " characters " ++ (decimal (length (committed_of c)) ++ (codes " " ++ (word
+    ++ (codes " " ++ (encode_lower (hash_of c.opening.genesis c.entries) ++ codes "\n")))))))
 
 -- the line is the summary of a scene
 abbrev pub Summarizes : Scene → List ℕ → Type 0
-Summarizes scene line =
-    (a : PlainClient) × (b : PlainClient) × (c : PlainClient) × (word : List ℕ)
-    × (scene.world.clients (first_device 1) ≡ Some a) × (scene.world.clients (first_device 2) ≡ Some b) × (scene.world.clients (first_device 3) ≡ Some c)
+Summarizes scene line = (a : PlainClient) × (b : PlainClient) × (c : PlainClient) × (word : List ℕ)
+    × (scene.world.clients (first_device 1) ≡ Some a)
+    × (scene.world.clients (first_device 2) ≡ Some b)
+    × (scene.world.clients (first_device 3) ≡ Some c)
     × IsVerdict a b c word × (line ≡ summary_line a word)

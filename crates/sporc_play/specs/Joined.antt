@@ -34,7 +34,8 @@ client_with s who ring signer = record {
 -- a seat whose client opens with this ring
 abbrev pub seat_open : Setup → Keys → Seat → Option (SignerModel MemoryDiskModel) → Seat
 seat_open s ring seat None = seat
-seat_open s ring seat (Some signer) = record seat { signer = None; client = Some (client_with s seat.device ring signer) }
+seat_open s ring seat (Some signer) =
+    record seat { signer = None; client = Some (client_with s seat.device ring signer) }
 
 abbrev pub seat_unless : Setup → Keys → Seat → Option LineOpenFault → Seat
 seat_unless s ring seat None = seat_open s ring seat seat.signer
@@ -44,12 +45,15 @@ abbrev pub seat_by : Setup → Seat → Result Keys HintFault → Seat
 seat_by s seat (Ok ring) = seat_unless s ring seat (first_of (open_checks s.genesis (get ring 0)))
 seat_by s seat (Err fault) = seat
 
--- a seat whose client opens by these entries, unless there are none or they give no ring that opens it
+-- a seat whose client opens by these entries, unless there are none or they give no ring that opens
+-- it
 abbrev pub seat_with : Setup → Seat → Result (List (List ℕ)) ℕ → Seat
-seat_with s seat (Ok entries) = seat_by s seat (hints_of entries seat.device.member (s.pairs seat.device))
+seat_with s seat (Ok entries) =
+    seat_by s seat (hints_of entries seat.device.member (s.pairs seat.device))
 seat_with s seat (Err missing) = seat
 
 -- one whose client is open stays as it is
-abbrev pub seat_joined : Setup → Seat → Result (List (List ℕ)) ℕ → Option (ClientModel MemoryDiskModel) → Seat
+abbrev pub seat_joined : Setup → Seat → Result (List (List ℕ)) ℕ
+    → Option (ClientModel MemoryDiskModel) → Seat
 seat_joined s seat entries (Some c) = seat
 seat_joined s seat entries None = seat_with s seat entries

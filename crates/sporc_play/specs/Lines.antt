@@ -9,12 +9,15 @@ use Rattle.sporc_play.specs.Scene.{Scene}
 
 -- the line that the command writes follows the bytes
 abbrev pub AppendsLine : Setup → Scene → Command → List ℕ → List ℕ → Type 0
-AppendsLine s scene command old new = (line : List ℕ) × Writes s scene command line × (new ≡ old ++ line)
+AppendsLine s scene command old new =
+    (line : List ℕ) × Writes s scene command line × (new ≡ old ++ line)
 
 -- that line was written, nothing else
 abbrev pub WritesLine : Setup → Scene → Command → Option (List ℕ) → Option (List ℕ) → Type 0
-WritesLine s scene command written written' = (line : List ℕ) × Writes s scene command line × Appends written written' line
+WritesLine s scene command written written' =
+    (line : List ℕ) × Writes s scene command line × Appends written written' line
 
 -- a prefix of that line was written, nothing else
 abbrev pub WritesPrefix : Setup → Scene → Command → Option (List ℕ) → Option (List ℕ) → Type 0
-WritesPrefix s scene command written written' = (line : List ℕ) × Writes s scene command line × AppendsPrefix written written' line
+WritesPrefix s scene command written written' =
+    (line : List ℕ) × Writes s scene command line × AppendsPrefix written written' line

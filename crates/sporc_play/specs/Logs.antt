@@ -1,11 +1,13 @@
 -- The logs of the clients of a play.
-use Rattle.std.specs.Prelude.{ℕ, nat_le, List, [], ◌∷◌, ◌++◌, length, take, Bool, true, Option, None, Some, if◌then◌else◌}
+use Rattle.std.specs.Prelude.{ℕ, nat_le, List, [], ◌∷◌, ◌++◌, length, take, Bool, true, Option}
+use Rattle.std.specs.Prelude.{None, Some, if◌then◌else◌}
 use Rattle.sporc_member.specs.declared.change.Change.{Change as MemberChange}
 use Rattle.sporc_member.specs.declared.device.Device.{Device}
 use Rattle.sporc_member.specs.Device.{same_device}
 use Rattle.sporc_head.specs.declared.refusal.Refusal.{Refusal}
 use Rattle.sporc_delta.specs.Marks.{Mark}
-use Rattle.sporc_client.specs.Answers.{change_fault, discard_fault, edit_fault, journal_has_room, refusal_of}
+use Rattle.sporc_client.specs.Answers.{change_fault, discard_fault, edit_fault, journal_has_room}
+use Rattle.sporc_client.specs.Answers.{refusal_of}
 use Rattle.sporc_client.specs.Log.{Logged, Accept, Change, Discard, Edit}
 use Rattle.sporc_client.specs.PlainClient.{PlainClient}
 use Rattle.sporc_client.specs.Run.{Setup, World, Move, Open, Happen, Give, Restart, after}
@@ -34,7 +36,8 @@ accepted_event bytes true None = Accept 0 bytes ∷ []
 accepted_event bytes room refusal = []
 
 abbrev pub given_events : PlainClient → ℕ → List ℕ → List Logged
-given_events c position bytes = accepted_event bytes (journal_has_room c) (refusal_of c position bytes)
+given_events c position bytes =
+    accepted_event bytes (journal_has_room c) (refusal_of c position bytes)
 
 -- what an entry that is handed to a client adds to its log, if there is one
 abbrev pub given_by : ℕ → Option (List ℕ) → PlainClient → List Logged
@@ -59,17 +62,19 @@ first_accepts (Some c) k = log_of_entries (take k c.entries)
 
 -- the log of a client that is to go back to its first k entries, if it has so many
 abbrev pub restarted_log : List Logged → ℕ → PlainClient → List Logged
-restarted_log log k c = if nat_le k (length c.entries) then log_of_entries (take k c.entries) else log
+restarted_log log k c =
+    if nat_le k (length c.entries) then log_of_entries (take k c.entries) else log
 
 -- the log of a move's client after it
 abbrev pub log_after : World → List Logged → Move → List Logged
 log_after w log (Open who ring) = []
 log_after w log (Happen who event) = log ++ event ∷ []
-log_after w log (Give who position bytes) = log ++ events_by (λ c. given_events c position bytes) (w.clients who)
+log_after w log (Give who position bytes) =
+    log ++ events_by (λ c. given_events c position bytes) (w.clients who)
 log_after w log (Restart who k) = first_accepts (w.clients who) k
 
 -- all logs after moves
 abbrev pub logs_after : Setup → World → (Device → List Logged) → List Move → Device → List Logged
 logs_after s w logs [] = logs
-logs_after s w logs (move ∷ moves) =
-    logs_after s (after s w move) (λ who. if same_device who (mover_of move) then log_after w (logs who) move else logs who) moves
+logs_after s w logs (move ∷ moves) = logs_after s (after s w move)
+    (λ who. if same_device who (mover_of move) then log_after w (logs who) move else logs who) moves

@@ -1,5 +1,6 @@
 -- What the declarations of a script make, line by line: who takes part, and the founders' clients.
-use Rattle.std.specs.Prelude.{◌≡◌, ℕ, List, [], ◌∷◌, ◌++◌, filter_map, fold, map, Option, None, Some}
+use Rattle.std.specs.Prelude.{◌≡◌, ℕ, List, [], ◌∷◌, ◌++◌, filter_map, fold, map, Option, None}
+use Rattle.std.specs.Prelude.{Some}
 use Rattle.std.specs.List.{AllByRecursion}
 use Rattle.lms_sign.specs.Signer.{SignerModel}
 use Rattle.sporc_member.specs.declared.device.Device.{Device}
@@ -11,7 +12,8 @@ use Rattle.sporc_script.specs.declared.play_line.PlayLine.{PlayLine}
 use Rattle.sporc_play.specs.declared.cast.Cast.{Cast}
 use Rattle.sporc_play.specs.declared.seat.Rogue.{Rogue}
 use Rattle.sporc_play.specs.declared.seat.Seat.{Seat}
-use Rattle.sporc_play.specs.Cast.{declared_member, device_by, founder_by, founder_of, private_of, public_of, rogue_by, unpaired_by}
+use Rattle.sporc_play.specs.Cast.{declared_member, device_by, founder_by, founder_of, private_of}
+use Rattle.sporc_play.specs.Cast.{public_of, rogue_by, unpaired_by}
 use Rattle.sporc_play.specs.Seats.{AreDrawn, rogue_devices, seated}
 
 -- a signer of a device with a blank leaf file
@@ -36,13 +38,17 @@ pub record IsFreshRogue (tree : Tree) (rogue : Rogue) : Type 0 where
 
 -- the founders of these lines, in ascending order of their numbers
 abbrev pub founders_by : Tree → List PlayLine → List Founder
-founders_by tree lines = fold (λ founders m. insert_by (λ f. f.member) (founder_of tree m) founders) [] (filter_map (λ l. founder_by l.command) lines)
+founders_by tree lines = fold (λ founders m. insert_by (λ f. f.member) (founder_of tree m) founders)
+    [] (filter_map (λ l. founder_by l.command) lines)
 
 -- what these lines have declared is there
-pub record HaveDeclared (tree : Tree) (lines : List PlayLine) (cast : Cast) (seats : List Seat) (rogues : List Rogue) : Type 0 where
+pub record HaveDeclared (tree : Tree) (lines : List PlayLine) (cast : Cast) (seats : List Seat)
+    (rogues : List Rogue) : Type 0 where
   pub tree_is : cast.tree ≡ tree
-  pub declared : map (λ d. d.member) cast.declared.items ≡ filter_map (λ l. declared_member l.command) lines
-  pub keys : AllByRecursion (λ d. d.key ≡ public_of tree (first_device d.member)) cast.declared.items
+  pub declared : map (λ d. d.member) cast.declared.items
+      ≡ filter_map (λ l. declared_member l.command) lines
+  pub keys : AllByRecursion
+      (λ d. d.key ≡ public_of tree (first_device d.member)) cast.declared.items
   pub unpaired : cast.unpaired.items ≡ filter_map (λ l. unpaired_by l.command) lines
   pub founders : cast.founders.items ≡ founders_by tree lines
   pub fresh : AllByRecursion (IsFresh tree) seats
@@ -66,6 +72,7 @@ pub record HasRogue (tree : Tree) (who : Device) (old new : List Rogue) : Type 0
 -- a member is declared with this key, and all else is as it was
 pub record IsNamed (member : ℕ) (key : List ℕ) (old new : Cast) : Type 0 where
   pub tree : new.tree ≡ old.tree
-  pub declared : new.declared.items ≡ old.declared.items ++ record { member = member; key = key } ∷ []
+  pub declared : new.declared.items
+      ≡ old.declared.items ++ record { member = member; key = key } ∷ []
   pub unpaired : new.unpaired.items ≡ old.unpaired.items
   pub founders : new.founders.items ≡ old.founders.items

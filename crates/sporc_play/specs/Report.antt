@@ -1,5 +1,6 @@
 -- The lines that the commands of a script write.
-use Rattle.std.specs.Prelude.{◌≡◌, ℕ, ◌+◌, nat_lt, Bool, true, false, List, [], ◌∷◌, ◌++◌, length, codes, slice_get, take, Option, Some, None, Result, Ok, Err}
+use Rattle.std.specs.Prelude.{◌≡◌, ℕ, ◌+◌, nat_lt, Bool, true, false, List, [], ◌∷◌, ◌++◌, length}
+use Rattle.std.specs.Prelude.{codes, slice_get, take, Option, Some, None, Result, Ok, Err}
 use Rattle.std.specs.FinMap.{get}
 use Rattle.std.specs.Fmt.{decimal}
 use Rattle.std.specs.Io.KnownBytes.{Appends}
@@ -35,9 +36,11 @@ use Rattle.sporc_script.specs.declared.play_line.PlayLine.{PlayLine}
 use Rattle.sporc_script.specs.Spelling.{device_text}
 use Rattle.sporc_report.specs.ClientLines.{Stands, compare_line, hash_line, members_line, show_line}
 use Rattle.sporc_report.specs.JournalLines.{journal_lines}
-use Rattle.sporc_report.specs.Names.{accept_fault_name, edit_fault_name, hint_fault_name, open_fault_name, submit_fault_name}
+use Rattle.sporc_report.specs.Names.{accept_fault_name, edit_fault_name, hint_fault_name}
+use Rattle.sporc_report.specs.Names.{open_fault_name, submit_fault_name}
 use Rattle.sporc_play.specs.Cast.{setup_of}
-use Rattle.sporc_play.specs.Scene.{Scene, after, delta_by, entries_at, entry_at, leaf_after, opening, seen_by, submission_in}
+use Rattle.sporc_play.specs.Scene.{Scene, after, delta_by, entries_at, entry_at, leaf_after}
+use Rattle.sporc_play.specs.Scene.{opening, seen_by, submission_in}
 
 -- ---- lines that several commands write
 
@@ -53,14 +56,18 @@ entry_line next = codes "entry " ++ (decimal next ++ codes "\n")
 
 -- a call that adds an event, unless it is refused; the journal has so many with it
 abbrev pub event_line : Device → List ℕ → ℕ → Option EditFault → List ℕ
-event_line who word events None = device_text who ++ (codes " " ++ (word ++ (codes " event " ++ (decimal events ++ codes "\n"))))
-event_line who word events (Some fault) = device_text who ++ (codes " " ++ (word ++ (codes " refused " ++ (edit_fault_name fault ++ codes "\n"))))
+event_line who word events None =
+    device_text who ++ (codes " " ++ (word ++ (codes " event " ++ (decimal events ++ codes "\n"))))
+event_line who word events (Some fault) = device_text who
+    ++ (codes " " ++ (word ++ (codes " refused " ++ (edit_fault_name fault ++ codes "\n"))))
 
 -- ---- edits, changes and discards
 
 abbrev pub edit_line : Device → PlainClient → ℕ → Option (List Mark) → List ℕ
-edit_line who c seen None = device_text who ++ (codes " edit outside " ++ (decimal (length (shown_after seen c)) ++ codes "\n"))
-edit_line who c seen (Some marks) = event_line who (codes "edit") (length c.shown + 1) (edit_fault c seen marks)
+edit_line who c seen None = device_text who
+    ++ (codes " edit outside " ++ (decimal (length (shown_after seen c)) ++ codes "\n"))
+edit_line who c seen (Some marks) =
+    event_line who (codes "edit") (length c.shown + 1) (edit_fault c seen marks)
 
 -- of what a member sees, or saw
 abbrev pub edited_line : Edit → PlainClient → List ℕ
@@ -75,25 +82,34 @@ discard_line who c = event_line who (codes "discard") (length c.shown + 1) (disc
 -- ---- submissions: the next entry that is made has this number, and the client's last one has that
 
 abbrev pub submit_line : Device → ℕ → ℕ → Result Submitted SubmitFault → List ℕ
-submit_line who next last (Ok (submitted.Entry entry)) = device_text who ++ (codes " submit entry " ++ (decimal next ++ codes "\n"))
+submit_line who next last (Ok (submitted.Entry entry)) =
+    device_text who ++ (codes " submit entry " ++ (decimal next ++ codes "\n"))
 submit_line who next last (Ok submitted.Nothing) = device_text who ++ codes " submit nothing\n"
-submit_line who next last (Ok submitted.Waiting) = device_text who ++ (codes " submit waiting " ++ (decimal last ++ codes "\n"))
-submit_line who next last (Ok (submitted.Dropped fault)) = device_text who ++ (codes " submit dropped " ++ (change_fault_name fault ++ codes "\n"))
-submit_line who next last (Err fault) = device_text who ++ (codes " submit refused " ++ (submit_fault_name fault ++ codes "\n"))
+submit_line who next last (Ok submitted.Waiting) =
+    device_text who ++ (codes " submit waiting " ++ (decimal last ++ codes "\n"))
+submit_line who next last (Ok (submitted.Dropped fault)) =
+    device_text who ++ (codes " submit dropped " ++ (change_fault_name fault ++ codes "\n"))
+submit_line who next last (Err fault) =
+    device_text who ++ (codes " submit refused " ++ (submit_fault_name fault ++ codes "\n"))
 
 -- ---- what is handed out, and going back
 
 abbrev pub accept_line : Device → ℕ → Option AcceptFault → List ℕ
-accept_line who position None = device_text who ++ (codes " accept " ++ (decimal position ++ codes " ok\n"))
-accept_line who position (Some fault) = device_text who ++ (codes " accept " ++ (decimal position ++ (codes " refused " ++ (accept_fault_name fault ++ codes "\n"))))
+accept_line who position None =
+    device_text who ++ (codes " accept " ++ (decimal position ++ codes " ok\n"))
+accept_line who position (Some fault) = device_text who ++ (codes " accept "
+    ++ (decimal position ++ (codes " refused " ++ (accept_fault_name fault ++ codes "\n"))))
 
 abbrev pub give_line : Device → ℕ → PlainClient → Option (List ℕ) → List ℕ
-give_line who position c None = device_text who ++ (codes " accept " ++ (decimal position ++ codes " no entry\n"))
+give_line who position c None =
+    device_text who ++ (codes " accept " ++ (decimal position ++ codes " no entry\n"))
 give_line who position c (Some bytes) = accept_line who position (accept_fault c position bytes)
 
 abbrev pub restart_answer : Bool → Device → ℕ → ℕ → List ℕ
-restart_answer true who k len = device_text who ++ (codes " restart " ++ (decimal k ++ (codes " ahead " ++ (decimal len ++ codes "\n"))))
-restart_answer false who k len = device_text who ++ (codes " restart " ++ (decimal k ++ codes " ok\n"))
+restart_answer true who k len = device_text who
+    ++ (codes " restart " ++ (decimal k ++ (codes " ahead " ++ (decimal len ++ codes "\n"))))
+restart_answer false who k len =
+    device_text who ++ (codes " restart " ++ (decimal k ++ codes " ok\n"))
 
 abbrev pub restart_line : Device → ℕ → PlainClient → List ℕ
 restart_line who k c = restart_answer (nat_lt (length c.entries) k) who k (length c.entries)
@@ -102,11 +118,13 @@ restart_line who k c = restart_answer (nat_lt (length c.entries) k) who k (lengt
 
 abbrev pub open_line : Device → Option LineOpenFault → List ℕ
 open_line who None = device_text who ++ codes " join ok\n"
-open_line who (Some fault) = device_text who ++ (codes " join refused " ++ (open_fault_name fault ++ codes "\n"))
+open_line who (Some fault) =
+    device_text who ++ (codes " join refused " ++ (open_fault_name fault ++ codes "\n"))
 
 abbrev pub hints_line : Setup → Device → Result Keys HintFault → List ℕ
 hints_line s who (Ok ring) = open_line who (first_of (open_checks s.genesis (get ring 0)))
-hints_line s who (Err fault) = device_text who ++ (codes " join refused " ++ (hint_fault_name fault ++ codes "\n"))
+hints_line s who (Err fault) =
+    device_text who ++ (codes " join refused " ++ (hint_fault_name fault ++ codes "\n"))
 
 abbrev pub joined_line : Setup → Device → Result (List (List ℕ)) ℕ → List ℕ
 joined_line s who (Ok entries) = hints_line s who (hints_of entries who.member (s.pairs who))
@@ -121,9 +139,11 @@ join_line s who entries None = joined_line s who entries
 abbrev pub hashes_of : PlainClient → List (List ℕ)
 hashes_of c = chain (genesis_bytes c.opening.genesis) c.entries
 
--- if values of both chains meet again after they parted, any place at which they part may stand in the line
+-- if values of both chains meet again after they parted, any place at which they part may stand in
+-- the line
 abbrev pub Compares : DevicePair → Option PlainClient → Option PlainClient → List ℕ → Type 0
-Compares p (Some a) (Some b) line = (v : Verdict) × Stands (hashes_of a) (hashes_of b) v × (line ≡ compare_line p v)
+Compares p (Some a) (Some b) line =
+    (v : Verdict) × Stands (hashes_of a) (hashes_of b) v × (line ≡ compare_line p v)
 Compares p None b line = line ≡ not_open_line p.first
 Compares p (Some a) None line = line ≡ not_open_line p.second
 
@@ -143,7 +163,8 @@ cut_line next number (Some bytes) = entry_line next
 
 -- by the leaf that the rogue draws
 abbrev pub sign_line : Device → ℕ → Result ℕ LeafFault → List ℕ
-sign_line who next (Ok leaf) = device_text who ++ (codes " sign entry " ++ (decimal next ++ codes "\n"))
+sign_line who next (Ok leaf) =
+    device_text who ++ (codes " sign entry " ++ (decimal next ++ codes "\n"))
 sign_line who next (Err fault) = device_text who ++ codes " sign exhausted\n"
 
 -- ---- commands
@@ -160,28 +181,36 @@ next_number scene = length scene.made + 1
 -- the line that a command writes in a scene, but for a comparison; a declaration writes none
 abbrev pub line_of : Setup → Scene → Command → List ℕ
 line_of s scene (commands.Edit e) = line_by e.device (scene.world.clients e.device) (edited_line e)
-line_of s scene (commands.Change e) = line_by e.device (scene.world.clients e.device) (change_line e.device)
+line_of s scene (commands.Change e) =
+    line_by e.device (scene.world.clients e.device) (change_line e.device)
 line_of s scene (commands.Discard who) = line_by who (scene.world.clients who) (discard_line who)
-line_of s scene (commands.Submit who) =
-    line_by who (scene.world.clients who) (λ c. submit_line who (next_number scene) (scene.last who) (submission_in s scene who c))
-line_of s scene (commands.Give g) =
-    line_by g.device (scene.world.clients g.device) (λ c. give_line g.device g.position c (entry_at scene.made g.entry))
-line_of s scene (commands.Restart r) = line_by r.device (scene.world.clients r.device) (restart_line r.device r.entries)
-line_of s scene (commands.Join j) = join_line s j.device (entries_at scene.made j.entries) (scene.world.clients j.device)
+line_of s scene (commands.Submit who) = line_by who (scene.world.clients who)
+    (λ c. submit_line who (next_number scene) (scene.last who) (submission_in s scene who c))
+line_of s scene (commands.Give g) = line_by g.device (scene.world.clients g.device)
+    (λ c. give_line g.device g.position c (entry_at scene.made g.entry))
+line_of s scene (commands.Restart r) =
+    line_by r.device (scene.world.clients r.device) (restart_line r.device r.entries)
+line_of s scene (commands.Join j) =
+    join_line s j.device (entries_at scene.made j.entries) (scene.world.clients j.device)
 line_of s scene (commands.Show who) = line_by who (scene.world.clients who) (show_line who)
 line_of s scene (commands.Members who) = line_by who (scene.world.clients who) (members_line who)
-line_of s scene (commands.Journal who) = line_by who (scene.world.clients who) (λ c. journal_lines (journal_of (scene.logs who)))
+line_of s scene (commands.Journal who) =
+    line_by who (scene.world.clients who) (λ c. journal_lines (journal_of (scene.logs who)))
 line_of s scene (commands.Hash who) = line_by who (scene.world.clients who) (hash_line who)
-line_of s scene (commands.Flip f) = flip_line (next_number scene) f.entry f.at (entry_at scene.made f.entry)
-line_of s scene (commands.Cut number) = cut_line (next_number scene) number (entry_at scene.made number)
+line_of s scene (commands.Flip f) =
+    flip_line (next_number scene) f.entry f.at (entry_at scene.made f.entry)
+line_of s scene (commands.Cut number) =
+    cut_line (next_number scene) number (entry_at scene.made number)
 line_of s scene (commands.Sign f) =
     let rogue = first_device f.member in
-    line_by f.from (scene.world.clients f.from) (λ c. sign_line rogue (next_number scene) (leaf_after (s.private rogue) (scene.leaves rogue)))
+    line_by f.from (scene.world.clients f.from)
+    (λ c. sign_line rogue (next_number scene) (leaf_after (s.private rogue) (scene.leaves rogue)))
 line_of s scene command = []
 
 -- a line that the command may write
 abbrev pub Writes : Setup → Scene → Command → List ℕ → Type 0
-Writes s scene (commands.Compare p) line = Compares p (scene.world.clients p.first) (scene.world.clients p.second) line
+Writes s scene (commands.Compare p) line =
+    Compares p (scene.world.clients p.first) (scene.world.clients p.second) line
 Writes s scene command line = line ≡ line_of s scene command
 
 -- ---- scripts
@@ -190,14 +219,16 @@ Writes s scene command line = line ≡ line_of s scene command
 abbrev pub ReportsFrom : Setup → Scene → List PlayLine → List ℕ → Type 0
 ReportsFrom s scene [] report = report ≡ []
 ReportsFrom s scene (l ∷ ls) report =
-    (line : List ℕ) × (rest : List ℕ) × Writes s scene l.command line × ReportsFrom s (after s scene l.command) ls rest × (report ≡ line ++ rest)
+    (line : List ℕ) × (rest : List ℕ) × Writes s scene l.command line
+    × ReportsFrom s (after s scene l.command) ls rest × (report ≡ line ++ rest)
 
 -- the report of a script was written, nothing else
 abbrev pub Reports : List PlayLine → Option (List ℕ) → Option (List ℕ) → Type 0
-Reports script written written' =
-    (report : List ℕ) × ReportsFrom (setup_of script) (opening script) script report × Appends written written' report
+Reports script written written' = (report : List ℕ)
+    × ReportsFrom (setup_of script) (opening script) script report × Appends written written' report
 
 -- a prefix of the report of its first n lines was written, nothing else
 abbrev pub ReportsPrefix : List PlayLine → Option (List ℕ) → Option (List ℕ) → Type 0
-ReportsPrefix script written written' =
-    (n : ℕ) × (report : List ℕ) × ReportsFrom (setup_of script) (opening script) (take n script) report × AppendsPrefix written written' report
+ReportsPrefix script written written' = (n : ℕ) × (report : List ℕ)
+    × ReportsFrom (setup_of script) (opening script) (take n script) report
+    × AppendsPrefix written written' report

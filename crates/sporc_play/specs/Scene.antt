@@ -1,5 +1,7 @@
 -- What the commands of a script do: each acts on the clients by its moves.
-use Rattle.std.specs.Prelude.{ℕ, zero, suc, ◌+◌, ◌-◌, ◌^◌, nat_le, nat_lt, List, [], ◌∷◌, ◌++◌, length, map, take, fold, set, slice_get, bit_xor, Option, None, Some, Result, Ok, Err, if◌then◌else◌}
+use Rattle.std.specs.Prelude.{ℕ, zero, suc, ◌+◌, ◌-◌, ◌^◌, nat_le, nat_lt, List, [], ◌∷◌, ◌++◌}
+use Rattle.std.specs.Prelude.{length, map, take, fold, set, slice_get, bit_xor, Option, None, Some}
+use Rattle.std.specs.Prelude.{Result, Ok, Err, if◌then◌else◌}
 use Rattle.std.specs.FinMap.{get}
 use Rattle.std.specs.Str.{encode_utf8_all}
 use Rattle.lms_leaf.specs.declared.faults.LeafFault.{LeafFault}
@@ -22,7 +24,8 @@ use Rattle.sporc_client.specs.declared.submitted.Submitted.TheVariants as submit
 use Rattle.sporc_client.specs.ClientModel.{ClientModel}
 use Rattle.sporc_client.specs.Log.{Logged}
 use Rattle.sporc_client.specs.PlainClient.{PlainClient, shown_after}
-use Rattle.sporc_client.specs.Run.{Setup, World, Move, Open, Happen, Give, Restart, after_all, start}
+use Rattle.sporc_client.specs.Run.{Setup, World, Move, Open, Happen, Give, Restart, after_all}
+use Rattle.sporc_client.specs.Run.{start}
 use Rattle.sporc_client.specs.Submissions.{submission, submission_added}
 use Rattle.sporc_script.specs.declared.command.Command.{Command}
 use Rattle.sporc_script.specs.declared.command.Command.TheVariants as commands
@@ -32,7 +35,8 @@ use Rattle.sporc_script.specs.declared.text_edit.TextEdit.{TextEdit}
 use Rattle.sporc_script.specs.declared.text_edit.TextEdit.TheVariants.{Insert, Remove}
 use Rattle.sporc_script.specs.declared.sign.What.{What}
 use Rattle.sporc_script.specs.declared.sign.What.TheVariants as whats
-use Rattle.sporc_play.specs.Cast.{first_ring, founders_of, has_admin, member_change, openers_by, setup_of}
+use Rattle.sporc_play.specs.Cast.{first_ring, founders_of, has_admin, member_change, openers_by}
+use Rattle.sporc_play.specs.Cast.{setup_of}
 use Rattle.sporc_play.specs.Derived.{random_of}
 use Rattle.sporc_play.specs.Forged.{forged_entry}
 use Rattle.sporc_play.specs.Logs.{change_events, discard_events, edit_logged, logs_after}
@@ -78,7 +82,8 @@ entry_at made (suc n) = slice_get made n
 -- the delta of an edit of a text of this length, unless the edit lies outside it
 abbrev pub marks_of : TextEdit → ℕ → Option (List Mark)
 marks_of (Insert e) len = if nat_le e.at len then Some (insertion len e.at e.text) else None
-marks_of (Remove e) len = if nat_le (e.at + e.count) len then Some (removal len e.at e.count) else None
+marks_of (Remove e) len =
+    if nat_le (e.at + e.count) len then Some (removal len e.at e.count) else None
 
 -- how many bytes the text of an edit has
 abbrev pub edit_size : TextEdit → ℕ
@@ -90,9 +95,11 @@ abbrev pub seen_by : PlainClient → Option ℕ → ℕ
 seen_by c None = length c.shown
 seen_by c (Some seen) = seen
 
--- the delta that a client is called with. One who has seen more events than there are asks for the empty delta
+-- the delta that a client is called with. One who has seen more events than there are asks for the
+-- empty delta
 abbrev pub delta_by : PlainClient → ℕ → TextEdit → Option (List Mark)
-delta_by c seen edit = if nat_lt (length c.shown) seen then Some [] else marks_of edit (length (shown_after seen c))
+delta_by c seen edit =
+    if nat_lt (length c.shown) seen then Some [] else marks_of edit (length (shown_after seen c))
 
 -- what an edit adds to the log of its client
 abbrev pub edit_events : Edit → PlainClient → List Logged
@@ -110,7 +117,8 @@ leaf_next c = leaf_after c.opening.key c.leaves.next
 
 -- the answer to a submission in a scene
 abbrev pub submission_in : Setup → Scene → Device → PlainClient → Result Submitted SubmitFault
-submission_in s scene who c = submission c (random_of who (scene.asked who + 1)) (leaf_after (s.private who) (scene.leaves who))
+submission_in s scene who c = submission c (random_of who (scene.asked who + 1))
+    (leaf_after (s.private who) (scene.leaves who))
 
 -- the entry that an answer hands out
 abbrev pub entries_in : Result Submitted SubmitFault → List (List ℕ)
@@ -121,7 +129,8 @@ entries_in (Ok (submitted.Dropped fault)) = []
 entries_in (Err fault) = []
 
 abbrev pub submits : Device → Result Submitted SubmitFault → Effect
-submits who answer = record { moves = map (Happen who) (submission_added 0 answer); entries = entries_in answer }
+submits who answer =
+    record { moves = map (Happen who) (submission_added 0 answer); entries = entries_in answer }
 
 -- ---- what is handed out
 
@@ -142,7 +151,8 @@ with_entry number (Some bytes) (Err missing) = Err missing
 
 abbrev pub entries_at : List (List ℕ) → List ℕ → Result (List (List ℕ)) ℕ
 entries_at made [] = Ok []
-entries_at made (number ∷ numbers) = with_entry number (entry_at made number) (entries_at made numbers)
+entries_at made (number ∷ numbers) =
+    with_entry number (entry_at made number) (entries_at made numbers)
 
 -- a client opens with the hints that entries give, if there are hints and its line opens
 abbrev pub opens_unless : Device → Keys → Option LineOpenFault → Effect
@@ -194,20 +204,26 @@ if_open None act = nothing
 if_open (Some c) act = act c
 
 abbrev pub effect_of : Setup → Scene → Command → Effect
-effect_of s scene (commands.Edit e) = if_open (scene.world.clients e.device) (λ c. adds e.device (edit_events e c))
-effect_of s scene (commands.Change e) =
-    if_open (scene.world.clients e.device) (λ c. adds e.device (change_events (member_change s e.change) c))
-effect_of s scene (commands.Discard who) = if_open (scene.world.clients who) (λ c. adds who (discard_events c))
-effect_of s scene (commands.Submit who) = if_open (scene.world.clients who) (λ c. submits who (submission_in s scene who c))
-effect_of s scene (commands.Give g) =
-    if_open (scene.world.clients g.device) (λ c. gives g.device g.position (entry_at scene.made g.entry))
-effect_of s scene (commands.Restart r) = if_open (scene.world.clients r.device) (restarts r.device r.entries)
-effect_of s scene (commands.Join j) = joins s j.device (entries_at scene.made j.entries) (scene.world.clients j.device)
+effect_of s scene (commands.Edit e) =
+    if_open (scene.world.clients e.device) (λ c. adds e.device (edit_events e c))
+effect_of s scene (commands.Change e) = if_open (scene.world.clients e.device)
+    (λ c. adds e.device (change_events (member_change s e.change) c))
+effect_of s scene (commands.Discard who) =
+    if_open (scene.world.clients who) (λ c. adds who (discard_events c))
+effect_of s scene (commands.Submit who) =
+    if_open (scene.world.clients who) (λ c. submits who (submission_in s scene who c))
+effect_of s scene (commands.Give g) = if_open (scene.world.clients g.device)
+    (λ c. gives g.device g.position (entry_at scene.made g.entry))
+effect_of s scene (commands.Restart r) =
+    if_open (scene.world.clients r.device) (restarts r.device r.entries)
+effect_of s scene (commands.Join j) =
+    joins s j.device (entries_at scene.made j.entries) (scene.world.clients j.device)
 effect_of s scene (commands.Flip f) = flips f.at (entry_at scene.made f.entry)
 effect_of s scene (commands.Cut entry) = cuts (entry_at scene.made entry)
 effect_of s scene (commands.Sign f) =
     let rogue = first_device f.member in
-    if_open (scene.world.clients f.from) (λ c. signs_by (forged_entry s c f (scene.asked rogue + 1) (leaf_after (s.private rogue) (scene.leaves rogue))))
+    if_open (scene.world.clients f.from) (λ c. signs_by (forged_entry s c f (scene.asked rogue + 1)
+    (leaf_after (s.private rogue) (scene.leaves rogue))))
 effect_of s scene command = nothing
 
 -- how many bytes the text or the payload of a command has
@@ -230,7 +246,8 @@ signer_of command = None
 -- counts, with so many more of one device's
 abbrev pub with_more : (Device → ℕ) → Option Device → ℕ → Device → ℕ
 with_more counts None more other = counts other
-with_more counts (Some who) more other = if same_device other who then counts other + more else counts other
+with_more counts (Some who) more other =
+    if same_device other who then counts other + more else counts other
 
 -- the number of the entry that a device's client made last, if it has just made these
 abbrev pub last_made : (Device → ℕ) → Device → ℕ → List (List ℕ) → Device → ℕ

@@ -1,5 +1,6 @@
 -- Devices with their clients as the code keeps them, and what a call does to one.
-use Rattle.std.specs.Prelude.{◌≡◌, ℕ, ◌+◌, ◌≤◌, ◌^◌, false, List, ◌++◌, length, map, slice_get, Option, None, Some, option_map, Result}
+use Rattle.std.specs.Prelude.{◌≡◌, ℕ, ◌+◌, ◌≤◌, ◌^◌, false, List, ◌++◌, length, map, slice_get}
+use Rattle.std.specs.Prelude.{Option, None, Some, option_map, Result}
 use Rattle.std.specs.Option.{option_to_list}
 use Rattle.lms_leaf.specs.Leaves.{LeavesModel}
 use Rattle.lms_tree.specs.LmsPrivate.{LmsPrivate}
@@ -43,14 +44,16 @@ abbrev pub plain_in : Seat → Option PlainClient
 plain_in seat = option_map state_of seat.client
 
 -- leaf numbers in memory, for a tree of a key: so many are drawn, and no disk failed
-pub record AreDrawn {D : Type 0} (key : LmsPrivate) (drawn : ℕ) (leaves : LeavesModel D) : Type 0 where
+pub record AreDrawn {D : Type 0} (key : LmsPrivate) (drawn : ℕ)
+    (leaves : LeavesModel D) : Type 0 where
   pub next : leaves.next ≡ drawn
   pub within : drawn ≤ 2 ^ height_of key.lms
   pub count : leaves.leaf_count ≡ 2 ^ height_of key.lms
   pub works : leaves.faulty ≡ false
 
 -- a client can sign for its device, and keeps no ticket
-pub record IsReady {D : Type 0} (private : LmsPrivate) (drawn : ℕ) (c : ClientModel D) : Type 0 where
+pub record IsReady {D : Type 0} (private : LmsPrivate) (drawn : ℕ)
+    (c : ClientModel D) : Type 0 where
   pub key : c.opening.key ≡ private
   pub leaves : AreDrawn private drawn c.leaves
   pub no_ticket : c.ticket ≡ None
@@ -58,7 +61,8 @@ pub record IsReady {D : Type 0} (private : LmsPrivate) (drawn : ℕ) (c : Client
 -- ---- calls
 
 -- a client whose log has the events of a call behind it
-abbrev pub client_logged : {D : Type 0} → (PlainClient → List Logged) → ClientModel D → ClientModel D
+abbrev pub client_logged : {D : Type 0} → (PlainClient → List Logged) → ClientModel D
+    → ClientModel D
 client_logged events c = record c { log = c.log ++ events (state_of c) }
 
 abbrev pub seat_logged : (PlainClient → List Logged) → Seat → Seat
@@ -81,16 +85,18 @@ submission_line next seat None = not_open_line seat.device
 submission_line next seat (Some c) = submit_line seat.device next seat.last (answer_of seat c)
 
 -- a client after a submission with this answer
-pub record IsSubmitted {D : Type 0} (old : ClientModel D) (answer : Result Submitted SubmitFault) (new : ClientModel D) : Type 0 where
+pub record IsSubmitted {D : Type 0} (old : ClientModel D) (answer : Result Submitted SubmitFault)
+    (new : ClientModel D) : Type 0 where
   pub opening : new.opening ≡ old.opening
   pub log : new.log ≡ old.log ++ submission_added 0 answer
   pub ready : IsReady old.opening.key (old.leaves.next + length (entries_in answer)) new
 
 -- the client of a seat after a submission, if there is one: it made this entry, if it made any
-abbrev pub ClientSubmitted : {D : Type 0} → Seat → Option (ClientModel D) → Option (List ℕ) → Option (ClientModel D) → Type 0
+abbrev pub ClientSubmitted : {D : Type 0} → Seat → Option (ClientModel D) → Option (List ℕ)
+    → Option (ClientModel D) → Type 0
 ClientSubmitted seat None made new = (new ≡ None) × (made ≡ None)
-ClientSubmitted {D = D} seat (Some c) made new =
-    (c' : ClientModel D) × (new ≡ Some c') × IsSubmitted c (answer_of seat c) c' × (option_to_list made ≡ entries_in (answer_of seat c))
+ClientSubmitted {D = D} seat (Some c) made new = (c' : ClientModel D) × (new ≡ Some c')
+    × IsSubmitted c (answer_of seat c) c' × (option_to_list made ≡ entries_in (answer_of seat c))
 
 -- the number of the last entry, once this one is made, if it is
 abbrev pub last_with : ℕ → ℕ → Option (List ℕ) → ℕ

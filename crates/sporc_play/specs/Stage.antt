@@ -1,5 +1,6 @@
 -- How the state that the code keeps stands for a scene.
-use Rattle.std.specs.Prelude.{◌≡◌, ℕ, ◌+◌, ◌≤◌, ◌<◌, ◌^◌, true, List, ◌++◌, fold, map, Option, None, Some, Contains, IfSome, IsSome, ⊤, if◌then◌else◌}
+use Rattle.std.specs.Prelude.{◌≡◌, ℕ, ◌+◌, ◌≤◌, ◌<◌, ◌^◌, true, List, ◌++◌, fold, map, Option, None}
+use Rattle.std.specs.Prelude.{Some, Contains, IfSome, IsSome, ⊤, if◌then◌else◌}
 use Rattle.std.specs.FinMap.{empty, insert}
 use Rattle.std.specs.List.{All, AllByRecursion, IsDistinct, list_any}
 use Rattle.lms_sign.specs.Signer.{SignerModel}
@@ -28,19 +29,24 @@ use Rattle.sporc_play.specs.Seats.{IsReady, plain_in, rogue_devices, seated}
 
 -- the keys that a member shares with those who are declared, but for the pairs that have none
 abbrev pub pair_among : Cast → ℕ → Keys → ℕ → Keys
-pair_among cast member keys other = if list_any (is_pair member other) cast.unpaired.items then keys else insert keys other (pair_key member other)
+pair_among cast member keys other =
+    if list_any (is_pair member other) cast.unpaired.items then keys
+    else insert keys other (pair_key member other)
 
 abbrev pub pairs_among : Cast → ℕ → Keys
-pairs_among cast member = fold (pair_among cast member) empty (map (λ d. d.member) cast.declared.items)
+pairs_among cast member =
+    fold (pair_among cast member) empty (map (λ d. d.member) cast.declared.items)
 
--- who takes part, as the code keeps it: the keys of those who are declared, and what each shares with the others
+-- who takes part, as the code keeps it: the keys of those who are declared, and what each shares
+-- with the others
 pub record IsCastOf (s : Setup) (cast : Cast) : Type 0 where
   pub keys : All (λ d. d.key ≡ key_of_device s (first_device d.member)) cast.declared.items
   pub founders : cast.founders.items ≡ s.genesis.founders
   pub trees : (who : Device) → s.private who ≡ private_of cast.tree who
   pub pairs : (who : Device) → pairs_among cast who.member ≡ s.pairs who
 
--- what the grammar says of the declarations: no two devices are one, and the founders can begin a document if one is an admin
+-- what the grammar says of the declarations: no two devices are one, and the founders can begin a
+-- document if one is an admin
 pub record AreDeclared (script : List PlayLine) : Type 0 where
   pub distinct : IsDistinct same_device ((setup_of script).devices ++ rogues_of script)
   pub genesis : has_admin script ≡ true → IsGenesis (setup_of script).genesis
@@ -48,19 +54,22 @@ pub record AreDeclared (script : List PlayLine) : Type 0 where
 -- ---- seats
 
 -- a client is that of a device in a scene
-pub record IsClientOf {D : Type 0} (s : Setup) (scene : Scene) (who : Device) (c : ClientModel D) : Type 0 where
+pub record IsClientOf {D : Type 0} (s : Setup) (scene : Scene) (who : Device)
+    (c : ClientModel D) : Type 0 where
   pub ring : Keys
   pub opening : c.opening ≡ opening_of s who ring
   pub log : scene.logs who ≡ c.log
   pub ready : IsReady (s.private who) (scene.leaves who) c
 
 -- a signer is that of a device
-pub record IsSignerOf {D : Type 0} (s : Setup) (scene : Scene) (who : Device) (signer : SignerModel D) : Type 0 where
+pub record IsSignerOf {D : Type 0} (s : Setup) (scene : Scene) (who : Device)
+    (signer : SignerModel D) : Type 0 where
   pub key : signer.key ≡ s.private who
   pub leaves : AreDrawn (s.private who) (scene.leaves who) signer.leaves
 
 -- a signer until the client opens, and the client from then on
-abbrev pub Holds : {D : Type 0} → Setup → Scene → Device → Option (SignerModel D) → Option (ClientModel D) → Type 0
+abbrev pub Holds : {D : Type 0} → Setup → Scene → Device → Option (SignerModel D)
+    → Option (ClientModel D) → Type 0
 Holds s scene who signer (Some c) = IsClientOf s scene who c
 Holds s scene who (Some signer) None = IsSignerOf s scene who signer
 Holds s scene who None None = ⊥
@@ -105,16 +114,20 @@ IsCast state (commands.Discard who) = Contains (seated state.seats.items) who
 IsCast state (commands.Submit who) = Contains (seated state.seats.items) who
 IsCast state (commands.Give g) = Contains (seated state.seats.items) g.device
 IsCast state (commands.Restart r) = Contains (seated state.seats.items) r.device
-IsCast state (commands.Join j) = Contains (seated state.seats.items) j.device × IsGenesis state.genesis
+IsCast state (commands.Join j) =
+    Contains (seated state.seats.items) j.device × IsGenesis state.genesis
 IsCast state (commands.Show who) = Contains (seated state.seats.items) who
 IsCast state (commands.Members who) = Contains (seated state.seats.items) who
 IsCast state (commands.Hash who) = Contains (seated state.seats.items) who
 IsCast state (commands.Journal who) = Contains (seated state.seats.items) who
-IsCast state (commands.Compare p) = Contains (seated state.seats.items) p.first × Contains (seated state.seats.items) p.second
-IsCast state (commands.Sign f) = Contains (rogue_devices state.rogues.items) (first_device f.member) × Contains (seated state.seats.items) f.from
+IsCast state (commands.Compare p) =
+    Contains (seated state.seats.items) p.first × Contains (seated state.seats.items) p.second
+IsCast state (commands.Sign f) = Contains (rogue_devices state.rogues.items) (first_device f.member)
+    × Contains (seated state.seats.items) f.from
 IsCast state command = ⊤
 
--- a seat is ready for any call: its count has room, and its client can sign, or else its signer may open one
+-- a seat is ready for any call: its count has room, and its client can sign, or else its signer may
+-- open one
 pub record IsReadySeat (seat : Seat) : Type 0 where
   pub asked : seat.asked + 1 < 2 ^ 24
   pub signer : seat.client ≡ None → IsSome seat.signer
@@ -126,7 +139,8 @@ pub record IsReadyRogue (rogue : Rogue) : Type 0 where
 
 -- all clients are of the document that the state was begun with
 abbrev pub AreOfOneDocument : PlayState → Type 0
-AreOfOneDocument state = AllByRecursion (λ seat. IfSome seat.client (λ c. c.opening.genesis ≡ state.genesis)) state.seats.items
+AreOfOneDocument state = AllByRecursion
+    (λ seat. IfSome seat.client (λ c. c.opening.genesis ≡ state.genesis)) state.seats.items
 
 -- a state can perform a command
 pub record CanPerform (state : PlayState) (command : Command) : Type 0 where
@@ -138,8 +152,10 @@ pub record CanPerform (state : PlayState) (command : Command) : Type 0 where
 
 -- whatever scene a state stands for, this one stands for the scene after a command
 abbrev pub Becomes : PlayState → Command → PlayState → Type 0
-Becomes old command new = (script : List PlayLine) (scene : Scene) → StandsFor script scene old → StandsFor script (after (setup_of script) scene command) new
+Becomes old command new = (script : List PlayLine) (scene : Scene) → StandsFor script scene old
+    → StandsFor script (after (setup_of script) scene command) new
 
 -- whatever scene a state stands for, the line of a command in it follows the bytes
 abbrev pub AppendsLineOf : PlayState → Command → List ℕ → List ℕ → Type 0
-AppendsLineOf state command old new = (script : List PlayLine) (scene : Scene) → StandsFor script scene state → AppendsLine (setup_of script) scene command old new
+AppendsLineOf state command old new = (script : List PlayLine) (scene : Scene)
+    → StandsFor script scene state → AppendsLine (setup_of script) scene command old new

@@ -1,6 +1,8 @@
 //! Commands that act on the client of a device, and the lines that tell their answers.
 
-ghost use Rattle.std.specs.Prelude.{◌≡◌, ◌≢◌, ℕ, ◌+◌, ◌<◌, ◌≤◌, ◌^◌, ◌++◌, codes, length, take, Some, true, false, Ok, Err, Option, OnOk, OnErr, IfOk, IfErr, IfSome, option_map, string_bytes};
+ghost use Rattle.std.specs.Prelude.{◌≡◌, ◌≢◌, ℕ, ◌+◌, ◌<◌, ◌≤◌, ◌^◌, ◌++◌, codes, length, take};
+ghost use Rattle.std.specs.Prelude.{Some, true, false, Ok, Err, Option, OnOk, OnErr, IfOk, IfErr};
+ghost use Rattle.std.specs.Prelude.{IfSome, option_map, string_bytes};
 ghost use Rattle.std.specs.Option.{option_copied, option_to_list};
 ghost use Rattle.std.specs.Fmt.{decimal};
 ghost use Rattle.std.specs.Result.{result_ok};
@@ -12,10 +14,15 @@ ghost use Rattle.sporc_client.specs.PlainClient.{shown_after};
 ghost use Rattle.sporc_client.specs.Step.{log_of_entries};
 ghost use Rattle.sporc_client.specs.Submissions.{submission};
 ghost use Rattle.sporc_script.specs.Spelling.{device_text};
-ghost use Rattle.sporc_play.specs.Logs.{change_events, discard_events, edit_logged, given_by, given_events};
-ghost use Rattle.sporc_play.specs.Report.{change_line, discard_line, edit_line, edited_line, event_line, give_line, line_by, not_open_line, restart_answer, restart_line, submit_line};
-ghost use Rattle.sporc_play.specs.Seats.{HasSubmitted, IsReady, IsSubmitted, client_logged, plain_in, seat_logged, seat_restarted, submission_line};
-ghost use Rattle.sporc_play.specs.Scene.{delta_by, edit_events, edit_size, entries_in, leaf_next, marks_of, seen_by};
+ghost use Rattle.sporc_play.specs.Logs.{change_events, discard_events, edit_logged, given_by};
+ghost use Rattle.sporc_play.specs.Logs.{given_events};
+ghost use Rattle.sporc_play.specs.Report.{change_line, discard_line, edit_line, edited_line};
+ghost use Rattle.sporc_play.specs.Report.{event_line, give_line, line_by, not_open_line};
+ghost use Rattle.sporc_play.specs.Report.{restart_answer, restart_line, submit_line};
+ghost use Rattle.sporc_play.specs.Seats.{HasSubmitted, IsReady, IsSubmitted, client_logged};
+ghost use Rattle.sporc_play.specs.Seats.{plain_in, seat_logged, seat_restarted, submission_line};
+ghost use Rattle.sporc_play.specs.Scene.{delta_by, edit_events, edit_size, entries_in, leaf_next};
+ghost use Rattle.sporc_play.specs.Scene.{marks_of, seen_by};
 
 use crate::derived::random_of;
 use crate::seat::{PlayClient, Seat};
@@ -42,7 +49,8 @@ pub fn push_not_open(out: &mut String, device: Device) -> Result<(), Memory>
 /// Edits what a client shows, or showed after so many events.
 pub fn edit(alloc: Global, seat: &mut Seat, edit: &Edit, out: &mut String) -> Result<(), Memory>
     requires limit { edit_size edit.now.change ≤ MAX_COUNT }
-    ensures line { OnOk result (string_bytes out.new ≡ string_bytes out.old ++ line_by edit.now.device (plain_in seat.old) (edited_line edit.now)) }
+    ensures line { OnOk result (string_bytes out.new ≡ string_bytes out.old
+        ++ line_by edit.now.device (plain_in seat.old) (edited_line edit.now)) }
     ensures seat { OnOk result (seat.new ≡ seat_logged (edit_events edit.now) seat.old) }
 {
     match &mut seat.client {
@@ -58,7 +66,8 @@ fn edit_client(
     out: &mut String,
 ) -> Result<(), Memory>
     requires { edit_size edit.now.change ≤ MAX_COUNT }
-    ensures line { OnOk result (string_bytes out.new ≡ string_bytes out.old ++ edited_line edit.now (state_of client.old)) }
+    ensures line { OnOk result (string_bytes out.new
+        ≡ string_bytes out.old ++ edited_line edit.now (state_of client.old)) }
     ensures log { OnOk result (client.new ≡ client_logged (edit_events edit.now) client.old) }
 {
     let device = edit.device;
@@ -69,8 +78,8 @@ fn edit_client(
     }
 }
 
-// The delta that an edit stands for after so many events, or the length of the text shown then, if the edit lies outside it.
-// One who has seen more events than there are asks for the empty delta.
+// The delta that an edit stands for after so many events, or the length of the text shown then, if
+// the edit lies outside it. One who has seen more events than there are asks for the empty delta.
 fn delta_by(
     alloc: Global,
     client: &PlayClient,
@@ -78,8 +87,10 @@ fn delta_by(
     edit: &TextEdit,
 ) -> Result<Result<Delta, u64>, Memory>
     requires { edit_size edit.now ≤ MAX_COUNT }
-    ensures value { IfOk result (λ found. result_ok found ≡ delta_by (state_of client.now) seen edit.now) }
-    ensures outside { IfOk result (λ found. IfErr found (λ len. len ≡ length (shown_after seen (state_of client.now)))) }
+    ensures value { IfOk result
+        (λ found. result_ok found ≡ delta_by (state_of client.now) seen edit.now) }
+    ensures outside { IfOk result
+        (λ found. IfErr found (λ len. len ≡ length (shown_after seen (state_of client.now)))) }
 {
     let _journal = client.journal();
     let Some(len) = client.shown_len_at(seen) else {
@@ -109,8 +120,10 @@ fn edit_by(
     delta: &Delta,
     out: &mut String,
 ) -> Result<(), Memory>
-    ensures line { OnOk result (string_bytes out.new ≡ string_bytes out.old ++ edit_line device (state_of client.old) seen (Some delta.now)) }
-    ensures log { OnOk result (client.new ≡ client_logged (λ c. edit_logged c seen (Some delta.now)) client.old) }
+    ensures line { OnOk result (string_bytes out.new
+        ≡ string_bytes out.old ++ edit_line device (state_of client.old) seen (Some delta.now)) }
+    ensures log { OnOk result
+        (client.new ≡ client_logged (λ c. edit_logged c seen (Some delta.now)) client.old) }
 {
     let answer = client.edit(0, seen, delta);
     push_event(out, device, "edit", answer)
@@ -147,7 +160,8 @@ fn push_event(
     word: &str,
     answer: Result<u64, EditFault>,
 ) -> Result<(), Memory>
-    ensures line { OnOk result ((events : ℕ) (fault : Option EditFault) → AnswersUnless EditFault.Memory answer fault → IfOk answer (λ n. n ≡ events)
+    ensures line { OnOk result ((events : ℕ) (fault : Option EditFault)
+        → AnswersUnless EditFault.Memory answer fault → IfOk answer (λ n. n ≡ events)
         → string_bytes out.new ≡ string_bytes out.old ++ event_line device word.now events fault) }
     ensures named { OnOk result (answer ≢ Err EditFault.Memory) }
 {
@@ -171,7 +185,8 @@ pub fn change(
     change: Change,
     out: &mut String,
 ) -> Result<(), Memory>
-    ensures line { OnOk result (string_bytes out.new ≡ string_bytes out.old ++ line_by device (plain_in seat.old) (change_line device)) }
+    ensures line { OnOk result (string_bytes out.new
+        ≡ string_bytes out.old ++ line_by device (plain_in seat.old) (change_line device)) }
     ensures seat { OnOk result (seat.new ≡ seat_logged (change_events change) seat.old) }
 {
     match &mut seat.client {
@@ -185,7 +200,8 @@ pub fn change(
 
 /// Gives up what is pending.
 pub fn discard(seat: &mut Seat, device: Device, out: &mut String) -> Result<(), Memory>
-    ensures line { OnOk result (string_bytes out.new ≡ string_bytes out.old ++ line_by device (plain_in seat.old) (discard_line device)) }
+    ensures line { OnOk result (string_bytes out.new
+        ≡ string_bytes out.old ++ line_by device (plain_in seat.old) (discard_line device)) }
     ensures seat { OnOk result (seat.new ≡ seat_logged discard_events seat.old) }
 {
     match &mut seat.client {
@@ -203,8 +219,10 @@ pub fn discard(seat: &mut Seat, device: Device, out: &mut String) -> Result<(), 
 pub fn submit(seat: &mut Seat, next: u64, out: &mut String) -> Result<Option<Vec<u8>>, Memory>
     requires limit { seat.old.asked + 1 < 2 ^ 24 }
     requires client { IfSome seat.old.client (λ c. IsReady c.opening.key c.leaves.next c) }
-    ensures line { OnOk result (string_bytes out.new ≡ string_bytes out.old ++ submission_line next seat.old seat.old.client) }
-    ensures seat { IfOk result (λ made. HasSubmitted next seat.old (option_map (λ v. v.items) made) seat.new) }
+    ensures line { OnOk result (string_bytes out.new
+        ≡ string_bytes out.old ++ submission_line next seat.old seat.old.client) }
+    ensures seat { IfOk result
+        (λ made. HasSubmitted next seat.old (option_map (λ v. v.items) made) seat.new) }
 {
     seat.asked += 1;
     let device = seat.device;
@@ -233,9 +251,12 @@ fn submit_client(
     out: &mut String,
 ) -> Result<Option<Vec<u8>>, Memory>
     requires client { IsReady client.old.opening.key client.old.leaves.next client.old }
-    ensures line { OnOk result (string_bytes out.new ≡ string_bytes out.old ++ submit_line device next last (submission (state_of client.old) random.now (leaf_next client.old))) }
-    ensures made { IfOk result (λ made. option_to_list (option_map (λ v. v.items) made) ≡ entries_in (submission (state_of client.old) random.now (leaf_next client.old))) }
-    ensures client { OnOk result (IsSubmitted client.old (submission (state_of client.old) random.now (leaf_next client.old)) client.new) }
+    ensures line { OnOk result (string_bytes out.new ≡ string_bytes out.old ++ submit_line device
+        next last (submission (state_of client.old) random.now (leaf_next client.old))) }
+    ensures made { IfOk result (λ made. option_to_list (option_map (λ v. v.items) made)
+        ≡ entries_in (submission (state_of client.old) random.now (leaf_next client.old))) }
+    ensures client { OnOk result (IsSubmitted client.old
+        (submission (state_of client.old) random.now (leaf_next client.old)) client.new) }
 {
     let answer = client.submit(0, random);
     tell_submission(out, device, next, last, answer)
@@ -249,8 +270,10 @@ fn tell_submission(
     last: u64,
     answer: Result<Submitted, SubmitFault>,
 ) -> Result<Option<Vec<u8>>, Memory>
-    ensures line { OnOk result (string_bytes out.new ≡ string_bytes out.old ++ submit_line device next last answer) }
-    ensures made { IfOk result (λ made. option_to_list (option_map (λ v. v.items) made) ≡ entries_in answer) }
+    ensures line { OnOk result
+        (string_bytes out.new ≡ string_bytes out.old ++ submit_line device next last answer) }
+    ensures made { IfOk result
+        (λ made. option_to_list (option_map (λ v. v.items) made) ≡ entries_in answer) }
     ensures named { OnOk result (answer ≢ Err SubmitFault.Memory) }
     ensures no_disk { OnOk result (answer ≢ Err SubmitFault.LeafFault) }
 {
@@ -265,7 +288,8 @@ fn push_submission(
     last: u64,
     answer: &Result<Submitted, SubmitFault>,
 ) -> Result<(), Memory>
-    ensures line { OnOk result (string_bytes out.new ≡ string_bytes out.old ++ submit_line device next last answer.now) }
+    ensures line { OnOk result
+        (string_bytes out.new ≡ string_bytes out.old ++ submit_line device next last answer.now) }
     ensures named { OnOk result (answer.now ≢ Err SubmitFault.Memory) }
     ensures no_disk { OnOk result (answer.now ≢ Err SubmitFault.LeafFault) }
 {
@@ -290,16 +314,19 @@ fn entry_in(answer: Result<Submitted, SubmitFault>) -> Option<Vec<u8>>
 
 // The line of a submission that gives an item up.
 fn push_dropped(out: &mut String, device: Device, fault: ChangeFault) -> Result<(), Memory>
-    ensures { OnOk result (string_bytes out.new ≡ string_bytes out.old ++ submit_line device 0 0 (Ok (Submitted.Dropped fault))) }
+    ensures { OnOk result (string_bytes out.new
+        ≡ string_bytes out.old ++ submit_line device 0 0 (Ok (Submitted.Dropped fault))) }
 {
     push_start(out, device, " submit dropped ")?;
     out.push_str(fault.name())?;
     out.push_str("\n")
 }
 
-// The line of a submission that is refused. A disk in memory fails only if it finds no memory, which is then the answer.
+// The line of a submission that is refused. A disk in memory fails only if it finds no memory,
+// which is then the answer.
 fn push_unsubmitted(out: &mut String, device: Device, fault: SubmitFault) -> Result<(), Memory>
-    ensures line { OnOk result (string_bytes out.new ≡ string_bytes out.old ++ submit_line device 0 0 (Err fault)) }
+    ensures line { OnOk result
+        (string_bytes out.new ≡ string_bytes out.old ++ submit_line device 0 0 (Err fault)) }
     ensures named { OnOk result (fault ≢ SubmitFault.Memory) }
     ensures no_disk { OnOk result (fault ≢ SubmitFault.LeafFault) }
 {
@@ -310,7 +337,8 @@ fn push_unsubmitted(out: &mut String, device: Device, fault: SubmitFault) -> Res
 }
 
 fn push_refused(out: &mut String, device: Device, fault: SubmitFault) -> Result<(), Memory>
-    ensures line { OnOk result (string_bytes out.new ≡ string_bytes out.old ++ submit_line device 0 0 (Err fault)) }
+    ensures line { OnOk result
+        (string_bytes out.new ≡ string_bytes out.old ++ submit_line device 0 0 (Err fault)) }
     ensures named { OnOk result (fault ≢ SubmitFault.Memory) }
 {
     push_start(out, device, " submit refused ")?;
@@ -328,9 +356,11 @@ pub fn give(
     entry: Option<&[u8]>,
     out: &mut String,
 ) -> Result<(), Memory>
-    ensures line { OnOk result (string_bytes out.new ≡ string_bytes out.old ++ line_by give.now.device (plain_in seat.old) (λ c.
-        give_line give.now.device give.now.position c (option_copied entry.entry))) }
-    ensures seat { OnOk result (seat.new ≡ seat_logged (given_by give.now.position (option_copied entry.entry)) seat.old) }
+    ensures line { OnOk result
+        (string_bytes out.new ≡ string_bytes out.old ++ line_by give.now.device (plain_in seat.old)
+        (λ c. give_line give.now.device give.now.position c (option_copied entry.entry))) }
+    ensures seat { OnOk result
+        (seat.new ≡ seat_logged (given_by give.now.position (option_copied entry.entry)) seat.old) }
 {
     let Some(client) = &mut seat.client else {
         return push_not_open(out, give.device);
@@ -348,8 +378,10 @@ fn give_client(
     entry: &[u8],
     out: &mut String,
 ) -> Result<(), Memory>
-    ensures line { OnOk result (string_bytes out.new ≡ string_bytes out.old ++ give_line give.now.device give.now.position (state_of client.old) (Some entry.now)) }
-    ensures log { OnOk result (client.new ≡ client_logged (λ c. given_events c give.now.position entry.now) client.old) }
+    ensures line { OnOk result (string_bytes out.new ≡ string_bytes out.old
+        ++ give_line give.now.device give.now.position (state_of client.old) (Some entry.now)) }
+    ensures log { OnOk result
+        (client.new ≡ client_logged (λ c. given_events c give.now.position entry.now) client.old) }
 {
     match client.accept(0, give.position, entry) {
         Ok(_) => push_given(out, give, " ok\n"),
@@ -363,7 +395,9 @@ fn give_client(
 
 // Appends who is handed an entry at which position, and these words.
 fn push_given(out: &mut String, give: &Give, words: &str) -> Result<(), Memory>
-    ensures { OnOk result (string_bytes out.new ≡ string_bytes out.old ++ (device_text give.now.device ++ (codes " accept " ++ (decimal give.now.position ++ words.now)))) }
+    ensures { OnOk result
+        (string_bytes out.new ≡ string_bytes out.old ++ (device_text give.now.device
+        ++ (codes " accept " ++ (decimal give.now.position ++ words.now)))) }
 {
     let position = give.position;
     push_device(out, give.device)?;
@@ -372,7 +406,9 @@ fn push_given(out: &mut String, give: &Give, words: &str) -> Result<(), Memory>
 
 /// Goes back to the first entries.
 pub fn restart(seat: &mut Seat, restart: &Restart, out: &mut String) -> Result<(), Memory>
-    ensures line { OnOk result (string_bytes out.new ≡ string_bytes out.old ++ line_by restart.now.device (plain_in seat.old) (restart_line restart.now.device restart.now.entries)) }
+    ensures line { OnOk result
+        (string_bytes out.new ≡ string_bytes out.old ++ line_by restart.now.device
+        (plain_in seat.old) (restart_line restart.now.device restart.now.entries)) }
     ensures seat { OnOk result (seat.new ≡ seat_restarted restart.now.entries seat.old) }
 {
     let Some(client) = &mut seat.client else {
@@ -386,7 +422,8 @@ pub fn restart(seat: &mut Seat, restart: &Restart, out: &mut String) -> Result<(
 }
 
 fn push_restarted(out: &mut String, restart: &Restart) -> Result<(), Memory>
-    ensures { OnOk result (string_bytes out.new ≡ string_bytes out.old ++ restart_answer false restart.now.device restart.now.entries 0) }
+    ensures { OnOk result (string_bytes out.new
+        ≡ string_bytes out.old ++ restart_answer false restart.now.device restart.now.entries 0) }
 {
     let k = restart.entries;
     push_device(out, restart.device)?;
@@ -394,7 +431,8 @@ fn push_restarted(out: &mut String, restart: &Restart) -> Result<(), Memory>
 }
 
 fn push_ahead(out: &mut String, restart: &Restart, len: u32) -> Result<(), Memory>
-    ensures { OnOk result (string_bytes out.new ≡ string_bytes out.old ++ restart_answer true restart.now.device restart.now.entries len) }
+    ensures { OnOk result (string_bytes out.new
+        ≡ string_bytes out.old ++ restart_answer true restart.now.device restart.now.entries len) }
 {
     let k = restart.entries;
     push_device(out, restart.device)?;
@@ -403,8 +441,10 @@ fn push_ahead(out: &mut String, restart: &Restart, len: u32) -> Result<(), Memor
 
 // Goes back to the first entries, also by a number that no history reaches.
 fn restart_to(client: &mut PlayClient, k: u64) -> Result<(), RestartFault>
-    ensures fault { AnswersUnless RestartFault.Memory result (restart_fault (state_of client.old) k) }
-    ensures ok { OnOk result (client.new ≡ record client.old { log = log_of_entries (take k (state_of client.old).entries) }) }
+    ensures fault { AnswersUnless RestartFault.Memory result
+        (restart_fault (state_of client.old) k) }
+    ensures ok { OnOk result (client.new
+        ≡ record client.old { log = log_of_entries (take k (state_of client.old).entries) }) }
     ensures err { OnErr result (client.new ≡ client.old) }
 {
     match u32::try_from(k) {

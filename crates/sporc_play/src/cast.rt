@@ -8,7 +8,8 @@ ghost use Rattle.sporc_client.specs.Run.{Setup, key_of_device};
 ghost use Rattle.sporc_epoch.specs.Keys.{pairs_in};
 ghost use Rattle.sporc_member.specs.Lists.{insert_by, place_among};
 ghost use Rattle.sporc_member.specs.Roster.{founder_numbers};
-ghost use Rattle.sporc_play.specs.Cast.{first_ring, genesis_by, is_pair, lms_type_of, member_change, ots_type_of, private_of, tree_of};
+ghost use Rattle.sporc_play.specs.Cast.{first_ring, genesis_by, is_pair, lms_type_of};
+ghost use Rattle.sporc_play.specs.Cast.{member_change, ots_type_of, private_of, tree_of};
 ghost use Rattle.sporc_play.specs.Forged.{IsSmallChange};
 ghost use Rattle.sporc_play.specs.Seats.{AreDrawn};
 ghost use Rattle.sporc_play.specs.Stage.{IsCastOf, pair_among, pairs_among};
@@ -72,7 +73,8 @@ impl Cast {
         })
     }
 
-    /// The keys that a member shares with everyone who is declared, but for the pairs that have none.
+    /// The keys that a member shares with everyone who is declared, but for the pairs that have
+    /// none.
     pub fn pairs_of(&self, alloc: Global, member: u16) -> Result<Pairs, Memory>
         ensures value { IfOk result (λ pairs. pairs_in pairs ≡ pairs_among self.now member) }
     {
@@ -86,7 +88,8 @@ impl Cast {
     // Adds the key that two share, if they share one.
     #[tactic(auto, using(sporc_epoch::proofs::PairMaps::pairs_put))]
     fn put_pair(&self, pairs: &mut Pairs, member: u16, other: u16) -> Result<(), Memory>
-        ensures { OnOk result (pairs_in pairs.new ≡ pair_among self.now member (pairs_in pairs.old) other) }
+        ensures { OnOk result
+            (pairs_in pairs.new ≡ pair_among self.now member (pairs_in pairs.old) other) }
     {
         if self.are_unpaired(member, other) {
             return Ok(());
@@ -101,10 +104,12 @@ impl Cast {
         self.unpaired.iter().any(|p| is_pair(one, other, p))
     }
 
-    // A device's public key. None is kept but those of the first devices of all who are declared: it is made anew.
+    // A device's public key. None is kept but those of the first devices of all who are declared:
+    // it is made anew.
     #[tactic(auto, using(sporc_member::proofs::SameDevice::same_one))]
     fn key_of(&self, alloc: Global, device: Device) -> Result<[u8; 56], Memory>
-        ensures value { IfOk result (λ key. (s : Setup) → IsCastOf s self.now → key ≡ key_of_device s device) }
+        ensures value { IfOk result
+            (λ key. (s : Setup) → IsCastOf s self.now → key ≡ key_of_device s device) }
     {
         for one in &self.declared {
             if device.is(Device::first(one.member)) {
@@ -119,7 +124,8 @@ impl Cast {
 
     /// A change of the members. The key of a new one, and of a further device, is its own.
     pub fn member_change(&self, alloc: Global, change: &RosterChange) -> Result<Change, Memory>
-        ensures value { IfOk result (λ asked. (s : Setup) → IsCastOf s self.now → asked ≡ member_change s change.now) }
+        ensures value { IfOk result
+            (λ asked. (s : Setup) → IsCastOf s self.now → asked ≡ member_change s change.now) }
         ensures within { IfOk result IsSmallChange }
     {
         match change {
@@ -241,7 +247,8 @@ pub fn first_ring(alloc: Global) -> Result<Ring, Memory>
 /// Adds a founder before the first whose number is above its own.
 #[tactic(auto, using(crate::proofs::Rosters::put_in_place))]
 pub fn insert_founder(founders: &mut Vec<Founder>, founder: Founder) -> Result<(), Memory>
-    ensures ok { OnOk result (founders.new.items ≡ insert_by (λ f. f.member) founder founders.old.items) }
+    ensures ok { OnOk result
+        (founders.new.items ≡ insert_by (λ f. f.member) founder founders.old.items) }
 {
     let place = place_of(founders.as_slice(), &founder);
     founders.insert(place, founder)?;

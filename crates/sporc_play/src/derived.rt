@@ -1,7 +1,9 @@
-//! The values that a play derives for the members of its script and their devices, all of them by SHA-256.
+//! The values that a play derives for the members of its script and their devices, all of them by
+//! SHA-256.
 
 ghost use Rattle.std.specs.Prelude.{◌≡◌, ◌<◌, ◌^◌, take};
-ghost use Rattle.sporc_play.specs.Derived.{derived, document_number, first_key, identifier_of, pair_key, random_of, seed_of};
+ghost use Rattle.sporc_play.specs.Derived.{derived, document_number, first_key, identifier_of};
+ghost use Rattle.sporc_play.specs.Derived.{pair_key, random_of, seed_of};
 
 use sha2::{Digest, Sha256};
 use sporc_base::put_at;
@@ -66,8 +68,8 @@ pub fn document_number() -> [u8; 16]
     first_half(&derived(5, 0, 0))
 }
 
-/// The random bytes of what a device signs or submits for the t-th time, from 1: 32 for the signature, and 32 for a new
-/// key.
+/// The random bytes of what a device signs or submits for the t-th time, from 1: 32 for the
+/// signature, and 32 for a new key.
 pub fn random_of(device: Device, t: u32) -> [u8; 64]
     requires limit { t < 2 ^ 24 }
     ensures value { result ≡ random_of device t }

@@ -1,6 +1,8 @@
-//! The entries that a script signs for rogues: as a client's history says, but for what the script says otherwise.
+//! The entries that a script signs for rogues: as a client's history says, but for what the script
+//! says otherwise.
 
-ghost use Rattle.std.specs.Prelude.{◌≡◌, ℕ, ◌+◌, ◌<◌, ◌≤◌, ◌^◌, ◌==◌, true, not, List, filter, length, map, Option, IfOk, OnOk, option_map};
+ghost use Rattle.std.specs.Prelude.{◌≡◌, ℕ, ◌+◌, ◌<◌, ◌≤◌, ◌^◌, ◌==◌, true, not, List, filter};
+ghost use Rattle.std.specs.Prelude.{length, map, Option, IfOk, OnOk, option_map};
 ghost use Rattle.std.specs.Option.{option_to_list};
 ghost use Rattle.lms_tree.specs.LmsType.{height_of};
 ghost use Rattle.sporc_client.specs.ClientModel.{state_of};
@@ -15,7 +17,12 @@ ghost use Rattle.sporc_member.specs.declared.limits.TheConstants.{MAX_MEMBERS};
 ghost use Rattle.sporc_script.specs.declared.sign.Suffix.{Suffix};
 ghost use Rattle.sporc_script.specs.declared.sign.What.TheVariants as whats;
 ghost use Rattle.sporc_play.specs.declared.playing.TheConstants.{MAX_SCRIPT};
-ghost use Rattle.sporc_play.specs.Forged.{IsSmallBody, IsSmallChange, base_by, derived_pairs, epoch_by, device_in, first_flipped, forged_body, forged_change, forged_entry, forged_header, key_there, kind_of, leaf_by, masked, number_by, sealed_for, signed_by, spoiled, unsigned_by, value_at, version_by, with_derived, wrap_flipped};
+ghost use Rattle.sporc_play.specs.Forged.{IsSmallBody, IsSmallChange, base_by, derived_pairs};
+ghost use Rattle.sporc_play.specs.Forged.{epoch_by, device_in, first_flipped, forged_body};
+ghost use Rattle.sporc_play.specs.Forged.{forged_change, forged_entry, forged_header, key_there};
+ghost use Rattle.sporc_play.specs.Forged.{kind_of, leaf_by, masked, number_by, sealed_for};
+ghost use Rattle.sporc_play.specs.Forged.{signed_by, spoiled, unsigned_by, value_at, version_by};
+ghost use Rattle.sporc_play.specs.Forged.{with_derived, wrap_flipped};
 ghost use Rattle.sporc_play.specs.Scene.{leaf_after, what_size};
 ghost use Rattle.sporc_play.specs.Seats.{AreDrawn};
 ghost use Rattle.sporc_play.specs.Stage.{IsCastOf};
@@ -52,11 +59,13 @@ pub fn forge(
     requires limit { t < 2 ^ 24 }
     requires size_limit { what_size forgery.now.signed.what ≤ MAX_SCRIPT }
     requires leaves { AreDrawn signer.old.key signer.old.leaves.next signer.old.leaves }
-    ensures entry { IfOk result (λ made. (s : Setup) → signer.old.key ≡ s.private (first_device forgery.now.member) → IsCastOf s cast.now
-        → option_map (λ v. v.items) made
-        ≡ forged_entry s (state_of client.now) forgery.now t (leaf_after signer.old.key signer.old.leaves.next)) }
+    ensures entry { IfOk result
+        (λ made. (s : Setup) → signer.old.key ≡ s.private (first_device forgery.now.member)
+        → IsCastOf s cast.now → option_map (λ v. v.items) made ≡ forged_entry s
+        (state_of client.now) forgery.now t (leaf_after signer.old.key signer.old.leaves.next)) }
     ensures key { signer.new.key ≡ signer.old.key }
-    ensures drawn { IfOk result (λ made. AreDrawn signer.old.key (signer.old.leaves.next + length (option_to_list made)) signer.new.leaves) }
+    ensures drawn { IfOk result (λ made. AreDrawn signer.old.key
+        (signer.old.leaves.next + length (option_to_list made)) signer.new.leaves) }
 {
     match signer.draw() {
         Ok(ticket) => {
@@ -81,7 +90,8 @@ fn sign_with(
 ) -> Result<Vec<u8>, Memory>
     requires limit { what_size forgery.now.signed.what ≤ MAX_SCRIPT }
     requires ticket_limit { ticket < 2 ^ height_of signer.old.key.lms }
-    ensures entry { IfOk result (λ bytes. (s : Setup) → signer.old.key ≡ s.private (first_device forgery.now.member) → IsCastOf s cast.now
+    ensures entry { IfOk result (λ bytes. (s : Setup)
+        → signer.old.key ≡ s.private (first_device forgery.now.member) → IsCastOf s cast.now
         → bytes.items ≡ signed_by s (state_of client.now) forgery.now random.now ticket) }
     ensures unchanged { signer.new ≡ signer.old }
 {
@@ -104,7 +114,8 @@ fn sign_with(
     }
 }
 
-// An entry that is not signed yet, and what is signed. Its header names this leaf, if the script names no other.
+// An entry that is not signed yet, and what is signed. Its header names this leaf, if the script
+// names no other.
 fn unsigned_by(
     alloc: Global,
     cast: &Cast,
@@ -114,9 +125,11 @@ fn unsigned_by(
     random: &[u8; 64],
 ) -> Result<(Entry, Vec<u8>), Memory>
     requires { what_size forgery.now.signed.what ≤ MAX_SCRIPT }
-    ensures entry { IfOk result (λ draft. (s : Setup) → IsCastOf s cast.now → draft.0 ≡ unsigned_by s (state_of client.now) forgery.now random.now leaf) }
+    ensures entry { IfOk result (λ draft. (s : Setup) → IsCastOf s cast.now
+        → draft.0 ≡ unsigned_by s (state_of client.now) forgery.now random.now leaf) }
     ensures message { IfOk result (λ draft. draft.1.items ≡ signed_string draft.0) }
-    ensures version { IfOk result (λ draft. fits_version draft.0.header.version draft.0.header.device ≡ true) }
+    ensures version { IfOk result
+        (λ draft. fits_version draft.0.header.version draft.0.header.device ≡ true) }
     ensures within { IfOk result (λ draft. length draft.0.body < 2 ^ 32) }
 {
     let header = forged_header(client, forgery, leaf);
@@ -136,7 +149,8 @@ fn with_signature(alloc: Global, mut entry: Entry, signature: Vec<u8>) -> Result
     requires version { fits_version entry.header.version entry.header.device ≡ true }
     requires body_limit { length entry.body < 2 ^ 32 }
     requires signature_limit { length signature.items < 2 ^ 32 }
-    ensures { IfOk result (λ bytes. bytes.items ≡ entry_bytes (record entry { signature = signature.items })) }
+    ensures { IfOk result
+        (λ bytes. bytes.items ≡ entry_bytes (record entry { signature = signature.items })) }
 {
     entry.signature = Bytes::new(signature);
     write_entry(alloc, &entry)
@@ -254,7 +268,8 @@ fn forged_body(
 ) -> Result<Vec<u8>, Memory>
     requires { what_size forgery.now.signed.what ≤ MAX_SCRIPT }
     ensures value { IfOk result (λ body. (s : Setup) → IsCastOf s cast.now
-        → body.items ≡ forged_body s (state_of client.now) forgery.now.signed.suffix header.now new_key.now forgery.now.signed.what) }
+        → body.items ≡ forged_body s (state_of client.now) forgery.now.signed.suffix header.now
+        new_key.now forgery.now.signed.what) }
     ensures within { IfOk result (λ body. length body.items < 2 ^ 32) }
 {
     match &forgery.signed.what {
@@ -305,8 +320,9 @@ fn insertion_body(
     insertion: &Insertion,
 ) -> Result<Vec<u8>, Memory>
     requires { what_size (whats.Insert insertion.now) ≤ MAX_SCRIPT }
-    ensures value { IfOk result (λ body. (s : Setup) (suffix : Option Suffix) (new : List ℕ)
-        → body.items ≡ forged_body s (state_of client.now) suffix header.now new (whats.Insert insertion.now)) }
+    ensures value { IfOk result
+        (λ body. (s : Setup) (suffix : Option Suffix) (new : List ℕ) → body.items
+        ≡ forged_body s (state_of client.now) suffix header.now new (whats.Insert insertion.now)) }
     ensures within { IfOk result (λ body. length body.items < 2 ^ 32) }
 {
     let len = client.committed_len();
@@ -326,7 +342,8 @@ fn change_body(
     new_key: &[u8; 32],
 ) -> Result<Vec<u8>, Memory>
     requires { IsSmallChange change.now }
-    ensures value { IfOk result (λ body. body.items ≡ change_body_bytes (spoiled suffix (forged_change (state_of client.now) header.now change.now new_key.now))) }
+    ensures value { IfOk result (λ body. body.items ≡ change_body_bytes
+        (spoiled suffix (forged_change (state_of client.now) header.now change.now new_key.now))) }
     ensures within { IfOk result (λ body. length body.items < 2 ^ 32) }
 {
     let body = sealed(alloc, client, header, change, &key_there(client), new_key)?;
@@ -345,7 +362,8 @@ fn sealed(
 ) -> Result<ChangeBody, Memory>
     requires small { IsSmallChange change.now }
     requires old { old_key.now ≡ key_there (state_of client.now) }
-    ensures value { IfOk result (λ body. body ≡ forged_change (state_of client.now) header.now change.now new_key.now) }
+    ensures value { IfOk result
+        (λ body. body ≡ forged_change (state_of client.now) header.now change.now new_key.now) }
     ensures small { IfOk result IsSmallBody }
 {
     let heads = client.heads();
@@ -372,7 +390,8 @@ fn sealed(
 
 // The members after a change, or those before it if they refuse it.
 fn sealed_for(alloc: Global, client: &PlayClient, change: &Change) -> Result<Vec<u16>, Memory>
-    ensures value { IfOk result (λ members. members.items ≡ sealed_for (roster_of client.now.opening.genesis (state_of client.now).entries) change.now) }
+    ensures value { IfOk result (λ members. members.items ≡ sealed_for
+        (roster_of client.now.opening.genesis (state_of client.now).entries) change.now) }
     ensures within { IfOk result (λ members. length members.items ≤ MAX_MEMBERS) }
 {
     let _events = client.journal();

@@ -1,6 +1,7 @@
 //! The generated run: a play of three members whose commands are computed from what they see.
 
-ghost use Rattle.std.specs.Prelude.{◌≡◌, ◌+◌, ◌^◌, ◌<◌, ◌≤◌, ◌↔◌, [], ◌∷◌, ◌++◌, IfErr, IfOk, IsTrue, OnOk, Some, codes, flat_map, length, map, string_bytes};
+ghost use Rattle.std.specs.Prelude.{◌≡◌, ◌+◌, ◌^◌, ◌<◌, ◌≤◌, ◌↔◌, [], ◌∷◌, ◌++◌, IfErr, IfOk};
+ghost use Rattle.std.specs.Prelude.{IsTrue, OnOk, Some, codes, flat_map, length, map, string_bytes};
 ghost use Rattle.std.specs.Fmt.{decimal};
 ghost use Rattle.sporc_outside.specs.Uses.{use_of};
 ghost use Rattle.sporc_client.specs.ClientModel.{state_of};
@@ -8,7 +9,9 @@ ghost use Rattle.sporc_client.specs.PlainClient.{shown_of};
 ghost use Rattle.sporc_member.specs.Device.{first_device};
 ghost use Rattle.sporc_play.specs.Batches.{AreOpen, HasRoom, IsAsked, Performs};
 ghost use Rattle.sporc_base.specs.Numbers.{up_to};
-ghost use Rattle.sporc_play.specs.Generated.{AreSame, IsVerdict, Summarizes, batch, edits, founds, generated_cast, generated_scene, gives, inserts, removes, seen_len, submits, summary_line};
+ghost use Rattle.sporc_play.specs.Generated.{AreSame, IsVerdict, Summarizes, batch, edits, founds};
+ghost use Rattle.sporc_play.specs.Generated.{generated_cast, generated_scene, gives, inserts};
+ghost use Rattle.sporc_play.specs.Generated.{removes, seen_len, submits, summary_line};
 ghost use Rattle.sporc_play.specs.Playing.{GeneratedFault, PlaysGenerated};
 ghost use Rattle.sporc_play.specs.Scene.{Scene};
 ghost use Rattle.sporc_play.specs.Stage.{Becomes, CanPerform, StandsFor};
@@ -100,7 +103,8 @@ fn founder(member: u16, role: Role) -> PlayLine
     }
 }
 
-// A batch behind so many edits: all its authors edit, then submit, and then all members accept its entries.
+// A batch behind so many edits: all its authors edit, then submit, and then all members accept its
+// entries.
 fn perform_batch(
     alloc: Global,
     state: &mut PlayState,
@@ -148,7 +152,8 @@ fn accept_all(alloc: Global, state: &mut PlayState, done: u32, authors: u32) -> 
     requires authors_limit { authors ≤ MEMBERS }
     requires done_limit { done ≤ MAX_GENERATED }
     requires room { HasRoom 13 state.old }
-    ensures { OnOk result (Performs state.old (flat_map (λ a. map (gives (done + a)) (up_to 3)) (up_to authors)) state.new) }
+    ensures { OnOk result (Performs state.old
+        (flat_map (λ a. map (gives (done + a)) (up_to 3)) (up_to authors)) state.new) }
 {
     for a in 0..authors {
         give_all(alloc, state, done + a + 1)?;
@@ -186,7 +191,8 @@ fn edit_of(alloc: Global, state: &PlayState, batch: u32, author: u16) -> Result<
     requires author { IsAsked author }
     requires limit { batch ≤ MAX_GENERATED }
     requires room { HasRoom 1 state.now }
-    ensures { IfOk result (λ command. (scene : Scene) → StandsFor generated_cast scene state.now → command ≡ edits batch author scene) }
+    ensures { IfOk result (λ command. (scene : Scene) → StandsFor generated_cast scene state.now
+        → command ≡ edits batch author scene) }
 {
     let change = if batch % 5 == 0 {
         removal(author)
@@ -234,7 +240,8 @@ fn insertion(alloc: Global, batch: u64, author: u64, len: u64) -> Result<TextEdi
 fn shown_len(state: &PlayState, member: u16) -> u64
     requires member { IsAsked member }
     requires room { HasRoom 1 state.now }
-    ensures value { (scene : Scene) → StandsFor generated_cast scene state.now → result ≡ seen_len (scene.world.clients (first_device member)) }
+    ensures value { (scene : Scene) → StandsFor generated_cast scene state.now
+        → result ≡ seen_len (scene.world.clients (first_device member)) }
     ensures within { result < 2 ^ 63 }
 {
     match state.client(Device::first(member)) {
@@ -267,7 +274,8 @@ fn letter(alloc: Global, place: u8) -> Result<Text, Memory>
 // The summary's line.
 fn summary(alloc: Global, state: &PlayState) -> Result<String, Memory>
     requires { AreOpen state.now }
-    ensures { IfOk result (λ line. (scene : Scene) → StandsFor generated_cast scene state.now → Summarizes scene (string_bytes line)) }
+    ensures { IfOk result (λ line. (scene : Scene) → StandsFor generated_cast scene state.now
+        → Summarizes scene (string_bytes line)) }
 {
     let first = open_client(state, 1);
     let second = open_client(state, 2);
@@ -282,7 +290,8 @@ fn summary(alloc: Global, state: &PlayState) -> Result<String, Memory>
 fn open_client(state: &PlayState, member: u16) -> &PlayClient
     requires member { IsAsked member }
     requires open { AreOpen state.now }
-    ensures { (scene : Scene) → StandsFor generated_cast scene state.now → scene.world.clients (first_device member) ≡ Some (state_of result.now) }
+    ensures { (scene : Scene) → StandsFor generated_cast scene state.now
+        → scene.world.clients (first_device member) ≡ Some (state_of result.now) }
 {
     match state.client(Device::first(member)) {
         Some(client) => client,
@@ -292,7 +301,8 @@ fn open_client(state: &PlayState, member: u16) -> &PlayClient
 
 // How three clients stand to each other, in a word.
 fn verdict(a: &PlayClient, b: &PlayClient, c: &PlayClient) -> Result<&'static str, Memory>
-    ensures { IfOk result (λ word. IsVerdict (state_of a.now) (state_of b.now) (state_of c.now) word.now) }
+    ensures { IfOk result
+        (λ word. IsVerdict (state_of a.now) (state_of b.now) (state_of c.now) word.now) }
 {
     let second = is_same(a, b)?;
     let third = is_same(a, c)?;
@@ -340,7 +350,8 @@ fn push_summary(
     client: &PlayClient,
     word: &str,
 ) -> Result<(), Memory>
-    ensures { OnOk result (string_bytes out.new ≡ string_bytes out.old ++ summary_line (state_of client.now) word.now) }
+    ensures { OnOk result (string_bytes out.new
+        ≡ string_bytes out.old ++ summary_line (state_of client.now) word.now) }
 {
     push_counts(out, client.heads().len(), client.committed_len(), word)?;
     push_digits(alloc, out, &last_hash(client))?;
@@ -349,7 +360,9 @@ fn push_summary(
 
 // Appends what stands before the hash.
 fn push_counts(out: &mut String, entries: u32, characters: u64, word: &str) -> Result<(), Memory>
-    ensures { OnOk result (string_bytes out.new ≡ string_bytes out.old ++ (codes "clients 3 entries " ++ (decimal entries ++ (codes " characters " ++ (decimal characters ++ (codes " " ++ (word.now ++ codes " "))))))) }
+    ensures { OnOk result (string_bytes out.new ≡ string_bytes out.old
+        ++ (codes "clients 3 entries " ++ (decimal entries ++ (codes " characters "
+        ++ (decimal characters ++ (codes " " ++ (word.now ++ codes " "))))))) }
 {
     write!(
         out,

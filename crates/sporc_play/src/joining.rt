@@ -1,6 +1,7 @@
 //! Clients that open by what others committed.
 
-ghost use Rattle.std.specs.Prelude.{◌≡◌, ◌≢◌, ◌++◌, map, None, Some, Ok, Err, OnOk, IsSome, option_map, string_bytes};
+ghost use Rattle.std.specs.Prelude.{◌≡◌, ◌≢◌, ◌++◌, map, None, Some, Ok, Err, OnOk, IsSome};
+ghost use Rattle.std.specs.Prelude.{option_map, string_bytes};
 ghost use Rattle.sporc_base.specs.Outcome.{GivesUnless};
 ghost use Rattle.sporc_client.specs.ClientModel.{state_of};
 ghost use Rattle.sporc_client.specs.Run.{Setup};
@@ -23,7 +24,8 @@ use sporc_report::{push_hint_fault, push_open_fault, push_start};
 use sporc_script::Join;
 use std::alloc::Global;
 
-/// Opens the client of a joiner by the hints that some entries give, and appends the line that tells the answer.
+/// Opens the client of a joiner by the hints that some entries give, and appends the line that
+/// tells the answer.
 pub fn join(
     alloc: Global,
     cast: &Cast,
@@ -35,10 +37,12 @@ pub fn join(
 ) -> Result<(), Memory>
     requires genesis { IsGenesis genesis.now }
     requires signer { seat.old.client ≡ None → IsSome seat.old.signer }
-    ensures line { OnOk result ((s : Setup) → IsCastOf s cast.now → genesis.now ≡ s.genesis → string_bytes out.new
-        ≡ string_bytes out.old ++ join_line s seat.old.device (entries_at (map (λ v. v.items) made.now) join.now.entries) (option_map state_of seat.old.client)) }
+    ensures line { OnOk result ((s : Setup) → IsCastOf s cast.now → genesis.now ≡ s.genesis
+        → string_bytes out.new ≡ string_bytes out.old ++ join_line s seat.old.device (entries_at
+        (map (λ v. v.items) made.now) join.now.entries) (option_map state_of seat.old.client)) }
     ensures seat { OnOk result ((s : Setup) → IsCastOf s cast.now → genesis.now ≡ s.genesis
-        → seat.new ≡ seat_joined s seat.old (entries_at (map (λ v. v.items) made.now) join.now.entries) seat.old.client) }
+        → seat.new ≡ seat_joined s seat.old
+        (entries_at (map (λ v. v.items) made.now) join.now.entries) seat.old.client) }
 {
     if seat.client.is_some() {
         return push_start(out, seat.device, " already open\n");
@@ -60,10 +64,12 @@ fn join_by(
 ) -> Result<(), Memory>
     requires genesis { IsGenesis genesis.now }
     requires signer { IsSome seat.old.signer }
-    ensures line { OnOk result ((s : Setup) → IsCastOf s cast.now → genesis.now ≡ s.genesis → string_bytes out.new
-        ≡ string_bytes out.old ++ hints_line s seat.old.device (hints_of (map (λ v. v.items) entries.now) seat.old.device.member (s.pairs seat.old.device))) }
+    ensures line { OnOk result ((s : Setup) → IsCastOf s cast.now → genesis.now ≡ s.genesis
+        → string_bytes out.new ≡ string_bytes out.old ++ hints_line s seat.old.device (hints_of
+        (map (λ v. v.items) entries.now) seat.old.device.member (s.pairs seat.old.device))) }
     ensures seat { OnOk result ((s : Setup) → IsCastOf s cast.now → genesis.now ≡ s.genesis
-        → seat.new ≡ seat_by s seat.old (hints_of (map (λ v. v.items) entries.now) seat.old.device.member (s.pairs seat.old.device))) }
+        → seat.new ≡ seat_by s seat.old (hints_of
+        (map (λ v. v.items) entries.now) seat.old.device.member (s.pairs seat.old.device))) }
 {
     match hints_for(alloc, cast, entries, seat.device) {
         Ok(ring) => open_with(alloc, cast, genesis, seat, ring, out),
@@ -79,7 +85,8 @@ fn hints_for(
     device: Device,
 ) -> Result<Ring, HintFault>
     ensures { (s : Setup) → IsCastOf s cast.now
-        → GivesUnless HintFault.Memory (λ ring. ring.keys) result (hints_of (map (λ v. v.items) entries.now) device.member (s.pairs device)) }
+        → GivesUnless HintFault.Memory (λ ring. ring.keys) result
+        (hints_of (map (λ v. v.items) entries.now) device.member (s.pairs device)) }
 {
     let pairs = cast.pairs_of(alloc, device.member)?;
     hints_from(alloc, entries, device.member, &pairs)
@@ -96,9 +103,11 @@ fn open_with(
 ) -> Result<(), Memory>
     requires genesis { IsGenesis genesis.now }
     requires signer { IsSome seat.old.signer }
-    ensures line { OnOk result ((s : Setup) → IsCastOf s cast.now → genesis.now ≡ s.genesis → string_bytes out.new
+    ensures line { OnOk result
+        ((s : Setup) → IsCastOf s cast.now → genesis.now ≡ s.genesis → string_bytes out.new
         ≡ string_bytes out.old ++ hints_line s seat.old.device (Ok ring.keys)) }
-    ensures seat { OnOk result ((s : Setup) → IsCastOf s cast.now → genesis.now ≡ s.genesis → seat.new ≡ seat_by s seat.old (Ok ring.keys)) }
+    ensures seat { OnOk result ((s : Setup) → IsCastOf s cast.now → genesis.now ≡ s.genesis
+        → seat.new ≡ seat_by s seat.old (Ok ring.keys)) }
 {
     let device = seat.device;
     match open_seat(alloc, cast, genesis, ring, seat) {
@@ -109,7 +118,8 @@ fn open_with(
 
 // The line of a joiner to whom entries give no hints.
 fn push_no_hints(out: &mut String, device: Device, fault: HintFault) -> Result<(), Memory>
-    ensures line { OnOk result ((s : Setup) → string_bytes out.new ≡ string_bytes out.old ++ hints_line s device (Err fault)) }
+    ensures line { OnOk result ((s : Setup)
+        → string_bytes out.new ≡ string_bytes out.old ++ hints_line s device (Err fault)) }
     ensures named { OnOk result (fault ≢ HintFault.Memory) }
 {
     push_start(out, device, " join refused ")?;
@@ -119,7 +129,8 @@ fn push_no_hints(out: &mut String, device: Device, fault: HintFault) -> Result<(
 
 // The line of a joiner whose client does not open.
 fn push_not_opened(out: &mut String, device: Device, fault: LineOpenFault) -> Result<(), Memory>
-    ensures line { OnOk result (string_bytes out.new ≡ string_bytes out.old ++ open_line device (Some fault)) }
+    ensures line { OnOk result
+        (string_bytes out.new ≡ string_bytes out.old ++ open_line device (Some fault)) }
     ensures named { OnOk result (fault ≢ LineOpenFault.Memory) }
 {
     push_start(out, device, " join refused ")?;

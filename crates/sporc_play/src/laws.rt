@@ -19,22 +19,29 @@ pub fn limits()
     ensures script { MAX_SCRIPT ≡ 16777216 }
 {}
 
-/// A script's play is a run of the clients, who agree at any two of its moments. The values of its moves have their types.
+/// A script's play is a run of the clients, who agree at any two of its moments. The values of its
+/// moves have their types.
 pub fn each_play_is_one_run()
-    ensures run { (text : List ℕ) (script : List PlayLine) → IsPlayScript text script → has_admin script ≡ true → IsOneRun script (commands_of script) }
-    ensures typed { (text : List ℕ) (script : List PlayLine) → IsPlayScript text script → has_admin script ≡ true
+    ensures run { (text : List ℕ) (script : List PlayLine) → IsPlayScript text script
+        → has_admin script ≡ true → IsOneRun script (commands_of script) }
+    ensures typed { (text : List ℕ) (script : List PlayLine) → IsPlayScript text script
+        → has_admin script ≡ true
         → IsTypedRun (setup_of script) (moves_of script (commands_of script)) }
 {}
 
-/// In the play of a script without `sign`, `flip` and `cut` each entry that is accepted was signed by its author's client.
+/// In the play of a script without `sign`, `flip` and `cut` each entry that is accepted was signed
+/// by its author's client.
 pub fn each_play_of_clients_is_genuine()
-    ensures genuine { (text : List ℕ) (script : List PlayLine) → IsPlayScript text script → has_admin script ≡ true → AreByClients script
+    ensures genuine { (text : List ℕ) (script : List PlayLine) → IsPlayScript text script
+        → has_admin script ≡ true → AreByClients script
         → Genuine (setup_of script) (moves_of script (commands_of script)) }
 {}
 
 /// The generated run is a run as well, and no one forges in it.
 pub fn the_generated_run_is_one()
     ensures run { (n : ℕ) → n ≤ MAX_GENERATED → IsOneRun generated_cast (generated_commands n) }
-    ensures typed { (n : ℕ) → n ≤ MAX_GENERATED → IsTypedRun (setup_of generated_cast) (moves_of generated_cast (generated_commands n)) }
-    ensures genuine { (n : ℕ) → n ≤ MAX_GENERATED → Genuine (setup_of generated_cast) (moves_of generated_cast (generated_commands n)) }
+    ensures typed { (n : ℕ) → n ≤ MAX_GENERATED
+        → IsTypedRun (setup_of generated_cast) (moves_of generated_cast (generated_commands n)) }
+    ensures genuine { (n : ℕ) → n ≤ MAX_GENERATED
+        → Genuine (setup_of generated_cast) (moves_of generated_cast (generated_commands n)) }
 {}

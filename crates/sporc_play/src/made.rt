@@ -31,7 +31,8 @@ pub fn entry_at(made: &[Vec<u8>], number: u64) -> Option<&[u8]>
 
 /// Copies of the entries with these numbers.
 pub fn entries_at(alloc: Global, made: &[Vec<u8>], numbers: &[u64]) -> Result<Found, Memory>
-    ensures value { IfOk result (λ found. entries_found found ≡ entries_at (map (λ v. v.items) made.now) numbers.now) }
+    ensures value { IfOk result
+        (λ found. entries_found found ≡ entries_at (map (λ v. v.items) made.now) numbers.now) }
 {
     let mut entries = Vec::new(alloc);
     for number in numbers {

@@ -27,7 +27,8 @@ pub fn declare(
     rogues: &mut Vec<Rogue>,
     line: &PlayLine,
 ) -> Result<(), Memory>
-    ensures ok { OnOk result ((tree : Tree) (lines : List PlayLine) → HaveDeclared tree lines cast.old seats.old.items rogues.old.items
+    ensures ok { OnOk result ((tree : Tree) (lines : List PlayLine)
+        → HaveDeclared tree lines cast.old seats.old.items rogues.old.items
         → HaveDeclared tree (lines ++ line.now ∷ []) cast.new seats.new.items rogues.new.items) }
 {
     match &line.command {
@@ -82,7 +83,8 @@ fn employ(
     member: u16,
 ) -> Result<[u8; 56], Memory>
     ensures key { IfOk result (λ key. key ≡ public_of tree (first_device member)) }
-    ensures rogues { OnOk result (HasRogue tree (first_device member) rogues.old.items rogues.new.items) }
+    ensures rogues { OnOk result
+        (HasRogue tree (first_device member) rogues.old.items rogues.new.items) }
 {
     let device = Device::first(member);
     let signer = signer_of(alloc, tree, device)?;
@@ -105,7 +107,9 @@ fn name(cast: &mut Cast, member: u16, key: [u8; 56]) -> Result<(), Memory>
 
 // A founder with this key, in the order of the numbers.
 fn found(cast: &mut Cast, founder: &MemberRole, key: [u8; 56]) -> Result<(), Memory>
-    ensures founders { OnOk result (cast.new.founders.items ≡ insert_by (λ f. f.member) (record { member = founder.now.member; role = founder.now.role; key = key }) cast.old.founders.items) }
+    ensures founders { OnOk result (cast.new.founders.items ≡ insert_by (λ f. f.member)
+        (record { member = founder.now.member; role = founder.now.role; key = key })
+        cast.old.founders.items) }
     ensures tree { cast.new.tree ≡ cast.old.tree }
     ensures declared { cast.new.declared.items ≡ cast.old.declared.items }
     ensures unpaired { cast.new.unpaired.items ≡ cast.old.unpaired.items }
@@ -128,7 +132,8 @@ pub fn open_founder(
     seat: &mut Seat,
 ) -> Result<(), Memory>
     requires genesis { IsGenesis genesis.now }
-    ensures ok { OnOk result ((s : Setup) → IsCastOf s cast.now → genesis.now ≡ s.genesis → seat.new ≡ seat_open s first_ring seat.old seat.old.signer) }
+    ensures ok { OnOk result ((s : Setup) → IsCastOf s cast.now → genesis.now ≡ s.genesis
+        → seat.new ≡ seat_open s first_ring seat.old seat.old.signer) }
 {
     if seat.signer.is_none() {
         return Ok(());

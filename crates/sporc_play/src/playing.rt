@@ -31,9 +31,12 @@ pub const MAX_SCRIPT: usize = 16_777_216;
 /// | `LineFault(k)` | was read to its end, and `k` is its first line outside the grammar | got nothing |
 /// | `TooLong` | gave more than [`MAX_SCRIPT`] bytes | got nothing |
 pub fn play<S: Source, O: Sink>(alloc: Global, source: &mut S, out: &mut O) -> Result<(), PlayFault>
-    ensures outcome { PlayOutcome (use_of S.told source.old source.new) (use_of O.told out.old out.new) result }
-    ensures taken { ConsumesAtMost (MAX_SCRIPT + 1) (S.told source.old).left (S.told source.new).left }
-    ensures unchanged { IfErr result (λ fault. fault ≢ PlayFault.WriteFault → fault ≢ PlayFault.Memory → out.new ≡ out.old) }
+    ensures outcome { PlayOutcome (use_of S.told source.old source.new)
+        (use_of O.told out.old out.new) result }
+    ensures taken { ConsumesAtMost (MAX_SCRIPT + 1) (S.told source.old).left
+        (S.told source.new).left }
+    ensures unchanged { IfErr result
+        (λ fault. fault ≢ PlayFault.WriteFault → fault ≢ PlayFault.Memory → out.new ≡ out.old) }
     ensures source_kept { (S.told source.old).faults ≤ (S.told source.new).faults }
     ensures out_kept { (O.told out.old).faults ≤ (O.told out.new).faults }
 {
@@ -46,7 +49,8 @@ pub fn play<S: Source, O: Sink>(alloc: Global, source: &mut S, out: &mut O) -> R
 fn write_report<O: Sink>(alloc: Global, lines: &[PlayLine], out: &mut O) -> Result<(), PlayFault>
     requires { IsShortScript lines.now }
     ensures ok { OnOk result (Reports lines.now (O.told out.old).written (O.told out.new).written) }
-    ensures err { OnErr result (ReportsPrefix lines.now (O.told out.old).written (O.told out.new).written) }
+    ensures err { OnErr result
+        (ReportsPrefix lines.now (O.told out.old).written (O.told out.new).written) }
     ensures causes { IfErr result (IsWriteCause (O.told out.old).faults (O.told out.new).faults) }
     ensures kept { (O.told out.old).faults ≤ (O.told out.new).faults }
 {
@@ -70,11 +74,13 @@ fn write_line<O: Sink>(
 ) -> Result<(), PlayFault>
     requires { CanPerform state.old command.now }
     ensures state { OnOk result (Becomes state.old command.now state.new) }
-    ensures ok { OnOk result ((script : List PlayLine) (scene : Scene) → StandsFor script scene state.old
-        → WritesLine (setup_of script) scene command.now (O.told out.old).written (O.told out.new).written) }
+    ensures ok { OnOk result
+        ((script : List PlayLine) (scene : Scene) → StandsFor script scene state.old → WritesLine
+        (setup_of script) scene command.now (O.told out.old).written (O.told out.new).written) }
     ensures memory { result ≡ Err PlayFault.Memory → out.new ≡ out.old }
-    ensures prefix { result ≡ Err PlayFault.WriteFault → (script : List PlayLine) (scene : Scene) → StandsFor script scene state.old
-        → WritesPrefix (setup_of script) scene command.now (O.told out.old).written (O.told out.new).written }
+    ensures prefix { result ≡ Err PlayFault.WriteFault → (script : List PlayLine) (scene : Scene)
+        → StandsFor script scene state.old → WritesPrefix (setup_of script) scene command.now
+        (O.told out.old).written (O.told out.new).written }
     ensures causes { IfErr result (IsWriteCause (O.told out.old).faults (O.told out.new).faults) }
     ensures kept { (O.told out.old).faults ≤ (O.told out.new).faults }
 {

@@ -24,7 +24,8 @@ use std::alloc::Global;
 /// The client of a device. Its leaf file is in memory.
 pub type PlayClient = Client<MemoryDisk>;
 
-/// A device of a member, or of one who may join. It has a signer until its client opens, and the client from then on.
+/// A device of a member, or of one who may join. It has a signer until its client opens, and the
+/// client from then on.
 #[derive(Drop)]
 pub struct Seat {
     pub device: Device,
@@ -74,7 +75,8 @@ pub fn rogue_at(rogues: &[Rogue], device: Device) -> usize
 /// The client of a device, if it is open.
 pub fn client_of(seats: &[Seat], device: Device) -> Option<&PlayClient>
     requires seated { Contains (seated seats.now) device }
-    ensures value { (i : ℕ) × (seat : Seat) × IsSeatAt seats.now i device seat × (option_copied result ≡ seat.client) }
+    ensures value { (i : ℕ) × (seat : Seat) × IsSeatAt seats.now i device seat
+        × (option_copied result ≡ seat.client) }
 {
     let i = seat_at(seats, device);
     seats[i].client.as_ref()
@@ -90,8 +92,10 @@ pub fn open_seat(
 ) -> Result<(), LineOpenFault>
     requires genesis { IsGenesis genesis.now }
     requires signer { IsSome seat.old.signer }
-    ensures fault { AnswersUnless LineOpenFault.Memory result (first_of (open_checks genesis.now (get ring.keys 0))) }
-    ensures ok { OnOk result ((s : Setup) → IsCastOf s cast.now → genesis.now ≡ s.genesis → seat.new ≡ seat_open s ring.keys seat.old seat.old.signer) }
+    ensures fault { AnswersUnless LineOpenFault.Memory result
+        (first_of (open_checks genesis.now (get ring.keys 0))) }
+    ensures ok { OnOk result ((s : Setup) → IsCastOf s cast.now → genesis.now ≡ s.genesis
+        → seat.new ≡ seat_open s ring.keys seat.old seat.old.signer) }
     ensures err { IfErr result (λ fault. fault ≢ LineOpenFault.Memory → seat.new ≡ seat.old) }
 {
     let device = seat.device;

@@ -1,6 +1,7 @@
 //! Entries that the script signs for rogues, and the lines that tell them.
 
-ghost use Rattle.std.specs.Prelude.{◌≡◌, ◌+◌, ◌<◌, ◌≤◌, ◌^◌, ◌++◌, IfOk, OnOk, option_map, string_bytes};
+ghost use Rattle.std.specs.Prelude.{◌≡◌, ◌+◌, ◌<◌, ◌≤◌, ◌^◌, ◌++◌, IfOk, OnOk, option_map};
+ghost use Rattle.std.specs.Prelude.{string_bytes};
 ghost use Rattle.std.specs.Option.{option_copied};
 ghost use Rattle.sporc_client.specs.Run.{Setup};
 ghost use Rattle.sporc_member.specs.Device.{first_device};
@@ -20,7 +21,8 @@ use sporc_report::{push_number, push_start};
 use sporc_script::Forgery;
 use std::alloc::Global;
 
-/// Signs for a rogue by the history of a client, if it is open. The entry that is made gets the number `next`.
+/// Signs for a rogue by the history of a client, if it is open. The entry that is made gets the
+/// number `next`.
 pub fn sign(
     alloc: Global,
     rogue: &mut Rogue,
@@ -31,13 +33,19 @@ pub fn sign(
     out: &mut String,
 ) -> Result<Option<Vec<u8>>, Memory>
     requires limit { rogue.old.asked + 1 < 2 ^ 24 }
-    requires leaves { AreDrawn rogue.old.signer.key rogue.old.signer.leaves.next rogue.old.signer.leaves }
+    requires leaves { AreDrawn rogue.old.signer.key rogue.old.signer.leaves.next
+        rogue.old.signer.leaves }
     requires size_limit { what_size forgery.now.signed.what ≤ MAX_SCRIPT }
-    ensures entry { IfOk result (λ made. (s : Setup) → rogue.old.signer.key ≡ s.private (first_device forgery.now.member) → IsCastOf s cast.now
-        → option_map (λ v. v.items) made ≡ forged_by s forgery.now rogue.old (option_copied client.entry)) }
-    ensures line { OnOk result ((s : Setup) → rogue.old.signer.key ≡ s.private (first_device forgery.now.member) → IsCastOf s cast.now
-        → string_bytes out.new ≡ string_bytes out.old ++ signing_line forgery.now next rogue.old (option_copied client.entry)) }
-    ensures rogue { IfOk result (λ made. HasSigned rogue.old (option_map (λ v. v.items) made) rogue.new) }
+    ensures entry { IfOk result
+        (λ made. (s : Setup) → rogue.old.signer.key ≡ s.private (first_device forgery.now.member)
+        → IsCastOf s cast.now → option_map (λ v. v.items) made
+        ≡ forged_by s forgery.now rogue.old (option_copied client.entry)) }
+    ensures line { OnOk result
+        ((s : Setup) → rogue.old.signer.key ≡ s.private (first_device forgery.now.member)
+        → IsCastOf s cast.now → string_bytes out.new ≡ string_bytes out.old
+        ++ signing_line forgery.now next rogue.old (option_copied client.entry)) }
+    ensures rogue { IfOk result
+        (λ made. HasSigned rogue.old (option_map (λ v. v.items) made) rogue.new) }
 {
     rogue.asked += 1;
     let Some(client) = client else {
@@ -51,7 +59,8 @@ pub fn sign(
 
 // The line that tells whether a rogue signed.
 fn push_signed(out: &mut String, device: Device, next: u64, signed: bool) -> Result<(), Memory>
-    ensures { OnOk result (string_bytes out.new ≡ string_bytes out.old ++ signed_line device next signed) }
+    ensures { OnOk result
+        (string_bytes out.new ≡ string_bytes out.old ++ signed_line device next signed) }
 {
     if signed {
         push_number(out, device, " sign entry ", next)

@@ -1,7 +1,9 @@
 //! The state of a play.
 
 ghost use Rattle.std.specs.Option.{option_copied, option_to_list};
-ghost use Rattle.std.specs.Prelude.{◌≡◌, ℕ, ◌+◌, ◌<◌, [], ◌∷◌, ◌++◌, length, Contains, IfOk, OnOk, List, get_or, map as map_, None, Some, option_map, set, slice_get, string_bytes};
+ghost use Rattle.std.specs.Prelude.{◌≡◌, ℕ, ◌+◌, ◌<◌, [], ◌∷◌, ◌++◌, length, Contains, IfOk, OnOk};
+ghost use Rattle.std.specs.Prelude.{List, get_or, map as map_, None, Some, option_map, set};
+ghost use Rattle.std.specs.Prelude.{slice_get, string_bytes};
 ghost use Rattle.std.specs.List.{list_any};
 ghost use Rattle.sporc_entry.specs.Genesis.{IsGenesis};
 ghost use Rattle.sporc_member.specs.declared.device.Device.{Device};
@@ -10,7 +12,8 @@ ghost use Rattle.sporc_play.specs.Cast.{device_by, is_founder, opener_by};
 ghost use Rattle.sporc_play.specs.Report.{entry_line, flipped_line};
 ghost use Rattle.sporc_play.specs.Scene.{flipped, opening, scene_opened};
 ghost use Rattle.sporc_play.specs.Seats.{IsSeatAt, seated};
-ghost use Rattle.sporc_play.specs.Stage.{AreDeclared, AreOfOneDocument, Becomes, CanPerform, HasSameMembers, StandsFor, AppendsLineOf};
+ghost use Rattle.sporc_play.specs.Stage.{AreDeclared, AreOfOneDocument, Becomes, CanPerform};
+ghost use Rattle.sporc_play.specs.Stage.{HasSameMembers, StandsFor, AppendsLineOf};
 
 use crate::cast::{Cast, tree_of};
 use crate::made::{entry_at, push_no_entry};
@@ -84,7 +87,8 @@ impl PlayState {
     fn open_founders(&mut self, alloc: Global, lines: &[PlayLine]) -> Result<(), Memory>
         requires genesis { IsGenesis self.old.genesis }
         requires stands { StandsFor lines.now (scene_opened lines.now 0) self.old }
-        ensures { OnOk result (StandsFor lines.now (scene_opened lines.now (length lines.now)) self.new) }
+        ensures { OnOk result
+            (StandsFor lines.now (scene_opened lines.now (length lines.now)) self.new) }
     {
         for line in lines {
             self.open_by(alloc, line)?;
@@ -95,9 +99,12 @@ impl PlayState {
     // Opens the client of a founder's device, if the line declares one.
     fn open_by(&mut self, alloc: Global, line: &PlayLine) -> Result<(), Memory>
         requires genesis { IsGenesis self.old.genesis }
-        requires seated { (who : Device) → device_by line.now.command ≡ Some who → Contains (seated self.old.seats.items) who }
-        ensures stands { OnOk result ((script : List PlayLine) (i : ℕ) → i < length script → line.now ≡ get_or script i line.now
-            → StandsFor script (scene_opened script i) self.old → StandsFor script (scene_opened script (i + 1)) self.new) }
+        requires seated { (who : Device) → device_by line.now.command ≡ Some who
+            → Contains (seated self.old.seats.items) who }
+        ensures stands { OnOk result ((script : List PlayLine) (i : ℕ) → i < length script
+            → line.now ≡ get_or script i line.now
+            → StandsFor script (scene_opened script i) self.old
+            → StandsFor script (scene_opened script (i + 1)) self.new) }
         ensures genesis { self.new.genesis ≡ self.old.genesis }
     {
         match self.opener(&line.command) {
@@ -135,7 +142,8 @@ impl PlayState {
     ) -> Result<(), Memory>
         requires can { CanPerform self.old command.now }
         ensures state { OnOk result (Becomes self.old command.now self.new) }
-        ensures line { OnOk result (AppendsLineOf self.old command.now (string_bytes out.old) (string_bytes out.new)) }
+        ensures line { OnOk result
+            (AppendsLineOf self.old command.now (string_bytes out.old) (string_bytes out.new)) }
     {
         match command {
             Command::Tree(_)
@@ -165,7 +173,8 @@ impl PlayState {
     /// The client of a device, if it is open.
     pub fn client(&self, device: Device) -> Option<&PlayClient>
         requires seated { Contains (seated self.now.seats.items) device }
-        ensures value { (i : ℕ) × (seat : Seat) × IsSeatAt self.now.seats.items i device seat × (option_copied result ≡ seat.client) }
+        ensures value { (i : ℕ) × (seat : Seat) × IsSeatAt self.now.seats.items i device seat
+            × (option_copied result ≡ seat.client) }
     {
         client_of(self.seats.as_slice(), device)
     }
@@ -175,7 +184,8 @@ impl PlayState {
     fn edit(&mut self, alloc: Global, edit: &Edit, out: &mut String) -> Result<(), Memory>
         requires can { CanPerform self.old (Command.Edit edit.now) }
         ensures state { OnOk result (Becomes self.old (Command.Edit edit.now) self.new) }
-        ensures line { OnOk result (AppendsLineOf self.old (Command.Edit edit.now) (string_bytes out.old) (string_bytes out.new)) }
+        ensures line { OnOk result (AppendsLineOf self.old (Command.Edit edit.now)
+            (string_bytes out.old) (string_bytes out.new)) }
     {
         let i = seat_at(self.seats.as_slice(), edit.device);
         acting::edit(alloc, &mut self.seats[i], edit, out)
@@ -184,7 +194,8 @@ impl PlayState {
     fn change(&mut self, alloc: Global, edit: &RosterEdit, out: &mut String) -> Result<(), Memory>
         requires can { CanPerform self.old (Command.Change edit.now) }
         ensures state { OnOk result (Becomes self.old (Command.Change edit.now) self.new) }
-        ensures line { OnOk result (AppendsLineOf self.old (Command.Change edit.now) (string_bytes out.old) (string_bytes out.new)) }
+        ensures line { OnOk result (AppendsLineOf self.old (Command.Change edit.now)
+            (string_bytes out.old) (string_bytes out.new)) }
     {
         let change = self.cast.member_change(alloc, &edit.change)?;
         let i = seat_at(self.seats.as_slice(), edit.device);
@@ -194,7 +205,8 @@ impl PlayState {
     fn discard(&mut self, device: Device, out: &mut String) -> Result<(), Memory>
         requires can { CanPerform self.old (Command.Discard device) }
         ensures state { OnOk result (Becomes self.old (Command.Discard device) self.new) }
-        ensures line { OnOk result (AppendsLineOf self.old (Command.Discard device) (string_bytes out.old) (string_bytes out.new)) }
+        ensures line { OnOk result (AppendsLineOf self.old (Command.Discard device)
+            (string_bytes out.old) (string_bytes out.new)) }
     {
         let i = seat_at(self.seats.as_slice(), device);
         acting::discard(&mut self.seats[i], device, out)
@@ -203,7 +215,8 @@ impl PlayState {
     fn submit(&mut self, device: Device, out: &mut String) -> Result<(), Memory>
         requires can { CanPerform self.old (Command.Submit device) }
         ensures state { OnOk result (Becomes self.old (Command.Submit device) self.new) }
-        ensures line { OnOk result (AppendsLineOf self.old (Command.Submit device) (string_bytes out.old) (string_bytes out.new)) }
+        ensures line { OnOk result (AppendsLineOf self.old (Command.Submit device)
+            (string_bytes out.old) (string_bytes out.new)) }
     {
         let i = seat_at(self.seats.as_slice(), device);
         let next = self.made.len() as u64 + 1;
@@ -214,7 +227,8 @@ impl PlayState {
     fn give(&mut self, alloc: Global, give: &Give, out: &mut String) -> Result<(), Memory>
         requires can { CanPerform self.old (Command.Give give.now) }
         ensures state { OnOk result (Becomes self.old (Command.Give give.now) self.new) }
-        ensures line { OnOk result (AppendsLineOf self.old (Command.Give give.now) (string_bytes out.old) (string_bytes out.new)) }
+        ensures line { OnOk result (AppendsLineOf self.old (Command.Give give.now)
+            (string_bytes out.old) (string_bytes out.new)) }
     {
         let i = seat_at(self.seats.as_slice(), give.device);
         let entry = entry_at(self.made.as_slice(), give.entry);
@@ -224,7 +238,8 @@ impl PlayState {
     fn restart(&mut self, restart: &Restart, out: &mut String) -> Result<(), Memory>
         requires can { CanPerform self.old (Command.Restart restart.now) }
         ensures state { OnOk result (Becomes self.old (Command.Restart restart.now) self.new) }
-        ensures line { OnOk result (AppendsLineOf self.old (Command.Restart restart.now) (string_bytes out.old) (string_bytes out.new)) }
+        ensures line { OnOk result (AppendsLineOf self.old (Command.Restart restart.now)
+            (string_bytes out.old) (string_bytes out.new)) }
     {
         let i = seat_at(self.seats.as_slice(), restart.device);
         acting::restart(&mut self.seats[i], restart, out)
@@ -233,7 +248,8 @@ impl PlayState {
     fn join(&mut self, alloc: Global, join: &Join, out: &mut String) -> Result<(), Memory>
         requires can { CanPerform self.old (Command.Join join.now) }
         ensures state { OnOk result (Becomes self.old (Command.Join join.now) self.new) }
-        ensures line { OnOk result (AppendsLineOf self.old (Command.Join join.now) (string_bytes out.old) (string_bytes out.new)) }
+        ensures line { OnOk result (AppendsLineOf self.old (Command.Join join.now)
+            (string_bytes out.old) (string_bytes out.new)) }
     {
         let i = seat_at(self.seats.as_slice(), join.device);
         joining::join(
@@ -251,7 +267,8 @@ impl PlayState {
 
     fn flip(&mut self, alloc: Global, flip: &Flip, out: &mut String) -> Result<(), Memory>
         ensures state { OnOk result (Becomes self.old (Command.Flip flip.now) self.new) }
-        ensures line { OnOk result (AppendsLineOf self.old (Command.Flip flip.now) (string_bytes out.old) (string_bytes out.new)) }
+        ensures line { OnOk result (AppendsLineOf self.old (Command.Flip flip.now)
+            (string_bytes out.old) (string_bytes out.new)) }
     {
         let at = flip.at;
         let number = flip.entry;
@@ -267,7 +284,8 @@ impl PlayState {
 
     fn cut(&mut self, alloc: Global, number: u64, out: &mut String) -> Result<(), Memory>
         ensures state { OnOk result (Becomes self.old (Command.Cut number) self.new) }
-        ensures line { OnOk result (AppendsLineOf self.old (Command.Cut number) (string_bytes out.old) (string_bytes out.new)) }
+        ensures line { OnOk result (AppendsLineOf self.old (Command.Cut number)
+            (string_bytes out.old) (string_bytes out.new)) }
     {
         let Some(entry) = entry_at(self.made.as_slice(), number) else {
             return push_no_entry(out, number);
@@ -279,9 +297,11 @@ impl PlayState {
 
     // Keeps an entry that was made of another.
     fn keep(&mut self, bytes: Vec<u8>, out: &mut String) -> Result<(), Memory>
-        ensures made { OnOk result (map_ (λ b. b.items) self.new.made.items ≡ map_ (λ b. b.items) self.old.made.items ++ bytes.items ∷ []) }
+        ensures made { OnOk result (map_ (λ b. b.items) self.new.made.items
+            ≡ map_ (λ b. b.items) self.old.made.items ++ bytes.items ∷ []) }
         ensures others { OnOk result (HasSameMembers self.old self.new) }
-        ensures line { OnOk result (string_bytes out.new ≡ string_bytes out.old ++ entry_line (length self.old.made.items + 1)) }
+        ensures line { OnOk result (string_bytes out.new
+            ≡ string_bytes out.old ++ entry_line (length self.old.made.items + 1)) }
     {
         let next = self.made.len() as u64 + 1;
         self.made.push(bytes)?;
@@ -291,7 +311,8 @@ impl PlayState {
     fn sign(&mut self, alloc: Global, forgery: &Forgery, out: &mut String) -> Result<(), Memory>
         requires can { CanPerform self.old (Command.Sign forgery.now) }
         ensures state { OnOk result (Becomes self.old (Command.Sign forgery.now) self.new) }
-        ensures line { OnOk result (AppendsLineOf self.old (Command.Sign forgery.now) (string_bytes out.old) (string_bytes out.new)) }
+        ensures line { OnOk result (AppendsLineOf self.old (Command.Sign forgery.now)
+            (string_bytes out.old) (string_bytes out.new)) }
     {
         let i = rogue_at(self.rogues.as_slice(), Device::first(forgery.member));
         let next = self.made.len() as u64 + 1;
@@ -303,7 +324,9 @@ impl PlayState {
 
     // Keeps the entry that was made, if one was.
     fn keep_made(&mut self, made: Option<Vec<u8>>) -> Result<(), Memory>
-        ensures made { OnOk result (map_ (λ b. b.items) self.new.made.items ≡ map_ (λ b. b.items) self.old.made.items ++ option_to_list (option_map (λ b. b.items) made)) }
+        ensures made { OnOk result
+            (map_ (λ b. b.items) self.new.made.items ≡ map_ (λ b. b.items) self.old.made.items
+            ++ option_to_list (option_map (λ b. b.items) made)) }
         ensures others { OnOk result (HasSameMembers self.old self.new) }
     {
         match made {
@@ -319,7 +342,8 @@ impl PlayState {
 
     fn show(&self, device: Device, out: &mut String) -> Result<(), Memory>
         requires { Contains (seated self.now.seats.items) device }
-        ensures { OnOk result (AppendsLineOf self.now (Command.Show device) (string_bytes out.old) (string_bytes out.new)) }
+        ensures { OnOk result (AppendsLineOf self.now (Command.Show device) (string_bytes out.old)
+            (string_bytes out.new)) }
     {
         match self.client(device) {
             Some(client) => push_show(out, client),
@@ -329,7 +353,8 @@ impl PlayState {
 
     fn members(&self, device: Device, out: &mut String) -> Result<(), Memory>
         requires { Contains (seated self.now.seats.items) device }
-        ensures { OnOk result (AppendsLineOf self.now (Command.Members device) (string_bytes out.old) (string_bytes out.new)) }
+        ensures { OnOk result (AppendsLineOf self.now (Command.Members device)
+            (string_bytes out.old) (string_bytes out.new)) }
     {
         match self.client(device) {
             Some(client) => push_members(out, client),
@@ -339,7 +364,8 @@ impl PlayState {
 
     fn hash(&self, alloc: Global, device: Device, out: &mut String) -> Result<(), Memory>
         requires { Contains (seated self.now.seats.items) device }
-        ensures { OnOk result (AppendsLineOf self.now (Command.Hash device) (string_bytes out.old) (string_bytes out.new)) }
+        ensures { OnOk result (AppendsLineOf self.now (Command.Hash device) (string_bytes out.old)
+            (string_bytes out.new)) }
     {
         match self.client(device) {
             Some(client) => push_hash(alloc, out, client),
@@ -349,7 +375,8 @@ impl PlayState {
 
     fn journal(&self, alloc: Global, device: Device, out: &mut String) -> Result<(), Memory>
         requires { Contains (seated self.now.seats.items) device }
-        ensures { OnOk result (AppendsLineOf self.now (Command.Journal device) (string_bytes out.old) (string_bytes out.new)) }
+        ensures { OnOk result (AppendsLineOf self.now (Command.Journal device)
+            (string_bytes out.old) (string_bytes out.new)) }
     {
         match self.client(device) {
             Some(client) => push_journal(alloc, out, client.journal()),
@@ -361,7 +388,8 @@ impl PlayState {
         requires first_seated { Contains (seated self.now.seats.items) pair.now.first }
         requires second_seated { Contains (seated self.now.seats.items) pair.now.second }
         requires one_document { AreOfOneDocument self.now }
-        ensures { OnOk result (AppendsLineOf self.now (Command.Compare pair.now) (string_bytes out.old) (string_bytes out.new)) }
+        ensures { OnOk result (AppendsLineOf self.now (Command.Compare pair.now)
+            (string_bytes out.old) (string_bytes out.new)) }
     {
         let Some(first) = self.client(pair.first) else {
             return acting::push_not_open(out, pair.first);
@@ -384,7 +412,8 @@ fn push_no_byte(out: &mut String, at: u64) -> Result<(), Memory>
 // A copy of an entry, with the lowest bit of one byte changed.
 fn with_flipped(alloc: Global, entry: &[u8], at: u64) -> Result<Vec<u8>, Memory>
     requires { at < length entry.now }
-    ensures { IfOk result (λ bytes. (byte : ℕ) × (slice_get entry.now at ≡ Some byte) × (bytes.items ≡ set entry.now at (flipped byte))) }
+    ensures { IfOk result (λ bytes. (byte : ℕ) × (slice_get entry.now at ≡ Some byte)
+        × (bytes.items ≡ set entry.now at (flipped byte))) }
 {
     let mut bytes = Vec::from_slice(alloc, entry)?;
     bytes[at as usize] ^= 1;

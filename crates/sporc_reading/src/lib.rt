@@ -7,8 +7,8 @@
 //! read_all(alloc, &mut source, 16)?                   // hello, in pieces of two
 //! ```
 //!
-//! Proved: what was taken of the source, whatever the answer, and when each fault comes. Only tested: that the call succeeds with
-//! ample memory. Neither: nothing else is claimed.
+//! Proved: what was taken of the source, whatever the answer, and when each fault comes. Only
+//! tested: that the call succeeds with ample memory. Neither: nothing else is claimed.
 #![tactic(auto)]
 
 mod reading;

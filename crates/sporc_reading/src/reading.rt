@@ -49,10 +49,12 @@ pub fn read_all<S: Source>(
 ) -> Result<Vec<u8>, ReadFault>
     requires { limit < 2 ^ 62 }
     ensures within { IfOk result (λ text. length text.items ≤ limit) }
-    ensures all { IfOk result (λ text. Consumes (S.told source.old).left (S.told source.new).left text.items) }
+    ensures all { IfOk result
+        (λ text. Consumes (S.told source.old).left (S.told source.new).left text.items) }
     ensures end { IfOk result (λ _. IsAtEnd (S.told source.new).left) }
     ensures taken { ConsumesAtMost (limit + 1) (S.told source.old).left (S.told source.new).left }
-    ensures failed { result ≡ Err ReadFault.Failed → Rose (S.told source.old).faults (S.told source.new).faults }
+    ensures failed { result ≡ Err ReadFault.Failed
+        → Rose (S.told source.old).faults (S.told source.new).faults }
     ensures too_long { result ≡ Err ReadFault.TooLong
         → ConsumesExactly (limit + 1) (S.told source.old).left (S.told source.new).left }
     ensures kept { (S.told source.old).faults ≤ (S.told source.new).faults }

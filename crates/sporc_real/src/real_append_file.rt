@@ -13,7 +13,8 @@ use std::io;
 use std::io::{ErrorKind, Write};
 use std::os::unix::fs::FileExt;
 
-/// A file that is appended to. Its sync returns once the system says that the bytes are on the disk.
+/// A file that is appended to. Its sync returns once the system says that the bytes are on the
+/// disk.
 #[derive(Drop)]
 pub struct RealAppendFile {
     file: File,

@@ -18,17 +18,19 @@ use std::{fs, io};
 
 /// Files by their paths from the current directory.
 ///
-/// A file that is written is on the disk when the call returns. A stop in the middle of [`Folder::write_file`] leaves the old
-/// file or the new one, and maybe a part of the new one beside it, under its name and `.new`; two programs must not write one
-/// file at once. The file that was replaced is kept under its name and `.old` until the next is, where the system has hard
+/// A file that is written is on the disk when the call returns. A stop in the middle of
+/// [`Folder::write_file`] leaves the old file or the new one, and maybe a part of the new one
+/// beside it, under its name and `.new`; two programs must not write one file at once. The file
+/// that was replaced is kept under its name and `.old` until the next is, where the system has hard
 /// links, and the new one has its mode. Of a symbolic link the file that it leads to is written.
 ///
-/// A stop in the middle of [`Folder::write_new`] leaves no file of this name or the whole one, where the system has hard
-/// links, and maybe one beside it, under its name, a number and `.new`. A file whose name ends with `.key`, `.ring` or
-/// `.leaf` is made readable by its owner alone.
+/// A stop in the middle of [`Folder::write_new`] leaves no file of this name or the whole one,
+/// where the system has hard links, and maybe one beside it, under its name, a number and `.new`. A
+/// file whose name ends with `.key`, `.ring` or `.leaf` is made readable by its owner alone.
 ///
-/// A disk has the system's lock on its leaf file until it is dropped: one that another program has taken is a call that fails.
-/// So has a file that is appended to, up to where it is taken back or gone.
+/// A disk has the system's lock on its leaf file until it is dropped: one that another program has
+/// taken is a call that fails. So has a file that is appended to, up to where it is taken back or
+/// gone.
 #[derive(Drop)]
 pub struct RealFolder<R: Files<File = File> + AllocGlobal + Drop> {
     rt: R,
@@ -80,7 +82,8 @@ fn open_file<R: Files<File = File>>(
     }
 }
 
-// Takes the system's lock on a file, unless it is taken. It is given back where the file is dropped, or the program ends.
+// Takes the system's lock on a file, unless it is taken. It is given back where the file is
+// dropped, or the program ends.
 fn lock(file: &File) -> io::Result<()> {
     Ok(file.try_lock()?)
 }
@@ -94,8 +97,8 @@ fn read_whole(alloc: Global, opened: OpenedFile) -> io::Result<Vec<u8>>
     Ok(bytes)
 }
 
-// Opens a file to append to it, which is made if there is none, with the system's lock on it, and says how many bytes it has.
-// Another program may have removed it before the lock was taken.
+// Opens a file to append to it, which is made if there is none, with the system's lock on it, and
+// says how many bytes it has. Another program may have removed it before the lock was taken.
 fn open_appended<R: Files<File = File>>(rt: &R, name: &str) -> io::Result<OpenedFile> {
     let mut options = OpenOptions::new();
     options.read(true).append(true).create(true);

@@ -87,8 +87,8 @@ fn make_in_place<R: Files<File = File>>(rt: &R, name: &str, bytes: &[u8]) -> io:
     Ok(())
 }
 
-// Fills a file beside a place, and links it to the name there, unless there is one. Where the system has no such links, the
-// file is made in its place.
+// Fills a file beside a place, and links it to the name there, unless there is one. Where the
+// system has no such links, the file is made in its place.
 fn fill_and_link<R: Files<File = File>>(
     rt: &R,
     file: File,
@@ -104,7 +104,8 @@ fn fill_and_link<R: Files<File = File>>(
     }
 }
 
-// Makes a file of these bytes, unless there is one with this name. What could not be made whole is removed.
+// Makes a file of these bytes, unless there is one with this name. What could not be made whole is
+// removed.
 pub(crate) fn save_new<R: Files<File = File> + AllocGlobal>(
     rt: &R,
     name: &str,
@@ -136,7 +137,8 @@ fn follow<R: Files<File = File> + AllocGlobal>(rt: &R, link: &PathBuf) -> io::Re
     }
 }
 
-// The place of a file with this name, behind symbolic links. What is there and is no plain file is not replaced.
+// The place of a file with this name, behind symbolic links. What is there and is no plain file is
+// not replaced.
 fn place_of<R: Files<File = File> + AllocGlobal>(rt: &R, name: &str) -> io::Result<Place> {
     let mut path = PathBuf::from_str(rt.alloc(), name)?;
     for _ in 0..MAX_LINKS {
@@ -156,7 +158,8 @@ fn place_of<R: Files<File = File> + AllocGlobal>(rt: &R, name: &str) -> io::Resu
     Err(io::Error::from(ErrorKind::InvalidInput))
 }
 
-// Gives a file that is about to be replaced a second name, in place of the one that had it, as far as the system lets it.
+// Gives a file that is about to be replaced a second name, in place of the one that had it, as far
+// as the system lets it.
 fn keep_old<R: Files<File = File> + AllocGlobal>(rt: &R, path: &str) -> io::Result<()> {
     let kept = format!(in rt.alloc(); "{path}.old")?;
     let beside = format!(in rt.alloc(); "{path}.old.new")?;
@@ -169,8 +172,8 @@ fn keep_old<R: Files<File = File> + AllocGlobal>(rt: &R, path: &str) -> io::Resu
     Ok(())
 }
 
-// Writes a file beside a place, with the mode of the one that is there, as far as the system lets it, and puts it there once
-// it is on the disk.
+// Writes a file beside a place, with the mode of the one that is there, as far as the system lets
+// it, and puts it there once it is on the disk.
 fn replace<R: Files<File = File> + AllocGlobal>(
     rt: &R,
     beside: &str,
@@ -191,8 +194,8 @@ fn replace<R: Files<File = File> + AllocGlobal>(
     fs::rename(rt, beside, path)
 }
 
-// Puts a file of these bytes in place of the one with this name. A stop at any moment leaves the old file or the new one, and
-// a fault nothing beside it.
+// Puts a file of these bytes in place of the one with this name. A stop at any moment leaves the
+// old file or the new one, and a fault nothing beside it.
 pub(crate) fn save<R: Files<File = File> + AllocGlobal>(
     rt: &R,
     name: &str,

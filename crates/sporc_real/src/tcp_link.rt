@@ -9,8 +9,9 @@ use std::io;
 use std::io::ErrorKind;
 use std::net::{Shutdown, TcpStream};
 
-/// A connection over TCP, whose two directions have one count. A read or a write may wait for the peer, as long as the net
-/// that made it says. [`Link::shut`] gives the connection back to the system at once.
+/// A connection over TCP, whose two directions have one count. A read or a write may wait for the
+/// peer, as long as the net that made it says. [`Link::shut`] gives the connection back to the
+/// system at once.
 #[derive(Drop)]
 pub struct TcpLink {
     stream: Option<TcpStream>,

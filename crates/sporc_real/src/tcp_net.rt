@@ -13,17 +13,17 @@ use std::sync::Wait;
 use std::thread::sleep;
 use std::time::Duration;
 
-// How often a call that could not be taken is tried for again, and how long is waited before each time: two minutes
-// together, in which descriptors come free that silent peers hold.
+// How often a call that could not be taken is tried for again, and how long is waited before each
+// time: two minutes together, in which descriptors come free that silent peers hold.
 const MAX_TRIES: u32 = 1_200;
 
 const PAUSE_MILLIS: u64 = 100;
 
-/// Dials and listens at addresses such as `localhost:4000`: a name or a number of a host, and a port. Small messages go out
-/// at once (`TCP_NODELAY`).
+/// Dials and listens at addresses such as `localhost:4000`: a name or a number of a host, and a
+/// port. Small messages go out at once (`TCP_NODELAY`).
 ///
-/// A call of another end that can't be taken, since no descriptor is free or it was taken back, is no fault of the net: it is
-/// tried for again for two minutes, and only what lasts so long fails.
+/// A call of another end that can't be taken, since no descriptor is free or it was taken back, is
+/// no fault of the net: it is tried for again for two minutes, and only what lasts so long fails.
 #[derive(Drop)]
 pub struct TcpNet<R: Net<Stream = TcpStream, Listener = TcpListener> + Clock + Drop> {
     rt: R,
@@ -48,8 +48,9 @@ impl<R: Net<Stream = TcpStream, Listener = TcpListener> + Clock + Drop> TcpNet<R
         }
     }
 
-    /// Listens nowhere yet. A read or a write of a link that waits longer than this for the peer fails, and so does a link
-    /// that isn't made in this time, at each address of the host. With a limit of 0 no link is made.
+    /// Listens nowhere yet. A read or a write of a link that waits longer than this for the peer
+    /// fails, and so does a link that isn't made in this time, at each address of the host. With a
+    /// limit of 0 no link is made.
     pub fn with_limit(rt: R, limit: Duration) -> TcpNet<R>
         ensures faults { result.faults ≡ 0 }
         ensures link_faults { result.link_faults ≡ 0 }
@@ -182,8 +183,8 @@ impl<R: Net<Stream = TcpStream, Listener = TcpListener> + Clock + Drop> Dial for
 }
 
 impl<R: Net<Stream = TcpStream, Listener = TcpListener> + Clock + Drop> Listen for TcpNet<R> {
-    /// At an address where it listens already it goes on, and no call that came there is lost. Else it listens at that one
-    /// alone.
+    /// At an address where it listens already it goes on, and no call that came there is lost. Else
+    /// it listens at that one alone.
     fn listen(&mut self, address: &str) -> Result<(), Failed> {
         if is_listening(&self.rt, &self.listener, address) {
             return Ok(());

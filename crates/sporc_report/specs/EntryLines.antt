@@ -1,5 +1,6 @@
 -- The lines of a history's entries.
-use Rattle.std.specs.Prelude.{ℕ, suc, ◌-◌, List, [], ◌∷◌, ◌++◌, codes, drop, Option, None, Some, Result, Ok, Err}
+use Rattle.std.specs.Prelude.{ℕ, suc, ◌-◌, List, [], ◌∷◌, ◌++◌, codes, drop, Option, None, Some}
+use Rattle.std.specs.Prelude.{Result, Ok, Err}
 use Rattle.std.specs.Fmt.{decimal}
 use Rattle.sporc_delta.specs.Marks.{Mark, apply}
 use Rattle.sporc_member.specs.declared.device.Device.{Device}
@@ -22,8 +23,12 @@ done_by None form = Edited form
 done_by (Some c) form = Changed c.change
 
 abbrev pub committed_by : Result Entry ℕ → List Mark → Operation
-committed_by (Ok e) form =
-    record { author = author_device e.header; number = e.header.number; base = e.header.base; what = done_by (change_of e) form }
+committed_by (Ok e) form = record {
+  author = author_device e.header;
+  number = e.header.number;
+  base = e.header.base;
+  what = done_by (change_of e) form;
+}
 committed_by (Err at) form = record { author = first_device 0; number = 0; base = 0; what = Unread }
 
 -- entries with their forms
@@ -55,12 +60,13 @@ what_text Unread = []
 
 -- position, author's device, number and base
 abbrev pub origin_text : ℕ → Device → ℕ → ℕ → List ℕ
-origin_text position author number base =
-    decimal position ++ (codes " " ++ (device_text author ++ (codes " " ++ (decimal number ++ (codes " " ++ decimal base)))))
+origin_text position author number base = decimal position ++ (codes " "
+    ++ (device_text author ++ (codes " " ++ (decimal number ++ (codes " " ++ decimal base)))))
 
 -- these, and what the entry did
 abbrev pub entry_line : ℕ → Operation → List ℕ
-entry_line position o = origin_text position o.author o.number o.base ++ (codes " " ++ (what_text o.what ++ codes "\n"))
+entry_line position o =
+    origin_text position o.author o.number o.base ++ (codes " " ++ (what_text o.what ++ codes "\n"))
 
 -- a line for each operation, of which the first stands behind so many
 unfoldable pub lines_after : ℕ → List Operation → List ℕ

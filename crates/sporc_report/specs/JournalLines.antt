@@ -32,19 +32,28 @@ abbrev pub delta_text : List Mark → List ℕ
 delta_text marks = parts_text (runs marks)
 
 abbrev pub change_text : MemberChange → List ℕ
-change_text (changes.Add member role key) = codes "add " ++ (decimal member ++ (codes " " ++ (role_name role ++ (codes " " ++ encode_lower key))))
+change_text (changes.Add member role key) = codes "add "
+    ++ (decimal member ++ (codes " " ++ (role_name role ++ (codes " " ++ encode_lower key))))
 change_text (changes.Remove member) = codes "remove " ++ decimal member
-change_text (changes.SetRole member role) = codes "role " ++ (decimal member ++ (codes " " ++ role_name role))
-change_text (changes.AddDevice member device key) = codes "device " ++ (decimal member ++ (codes " " ++ (decimal device ++ (codes " " ++ encode_lower key))))
-change_text (changes.DropDevice member device) = codes "drop-device " ++ (decimal member ++ (codes " " ++ decimal device))
+change_text (changes.SetRole member role) =
+    codes "role " ++ (decimal member ++ (codes " " ++ role_name role))
+change_text (changes.AddDevice member device key) = codes "device "
+    ++ (decimal member ++ (codes " " ++ (decimal device ++ (codes " " ++ encode_lower key))))
+change_text (changes.DropDevice member device) =
+    codes "drop-device " ++ (decimal member ++ (codes " " ++ decimal device))
 change_text changes.Upgrade = codes "upgrade"
 
 abbrev pub event_text : Event → List ℕ
-event_text (events.Edit by seen marks) = codes "edit " ++ (decimal by ++ (codes " " ++ (decimal seen ++ (codes " " ++ delta_text marks))))
-event_text (events.Change by change) = codes "change " ++ (decimal by ++ (codes " " ++ change_text change))
-event_text (events.Submit by entry) = codes "submit " ++ (decimal by ++ (codes " " ++ encode_lower entry))
-event_text (events.Dropped by fault) = codes "dropped " ++ (decimal by ++ (codes " " ++ change_fault_name fault))
-event_text (events.Accept by place) = codes "accept " ++ (decimal by ++ (codes " " ++ decimal place))
+event_text (events.Edit by seen marks) = codes "edit "
+    ++ (decimal by ++ (codes " " ++ (decimal seen ++ (codes " " ++ delta_text marks))))
+event_text (events.Change by change) =
+    codes "change " ++ (decimal by ++ (codes " " ++ change_text change))
+event_text (events.Submit by entry) =
+    codes "submit " ++ (decimal by ++ (codes " " ++ encode_lower entry))
+event_text (events.Dropped by fault) =
+    codes "dropped " ++ (decimal by ++ (codes " " ++ change_fault_name fault))
+event_text (events.Accept by place) =
+    codes "accept " ++ (decimal by ++ (codes " " ++ decimal place))
 event_text (events.Discard by) = codes "discard " ++ decimal by
 
 -- a line for each event

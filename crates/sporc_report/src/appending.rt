@@ -26,7 +26,8 @@ pub fn push_decimal(out: &mut String, number: u64) -> Result<(), Memory>
 
 // Appends a word and a number behind it.
 pub fn push_counted(out: &mut String, word: &str, number: u64) -> Result<(), Memory>
-    ensures ok { OnOk result (string_bytes out.new ≡ string_bytes out.old ++ (word.now ++ decimal number)) }
+    ensures ok { OnOk result
+        (string_bytes out.new ≡ string_bytes out.old ++ (word.now ++ decimal number)) }
     ensures memory { OnErr result (BeginsWith (string_bytes out.new) (string_bytes out.old)) }
 {
     push_word(out, word)?;

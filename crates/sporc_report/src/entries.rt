@@ -1,11 +1,13 @@
 //! The lines of a history's entries.
 
-ghost use Rattle.std.specs.Prelude.{◌≡◌, ◌-◌, ◌≤◌, ◌++◌, length, Ok, IsOk, OnErr, OnOk, string_bytes};
+ghost use Rattle.std.specs.Prelude.{◌≡◌, ◌-◌, ◌≤◌, ◌++◌, length, Ok, IsOk, OnErr, OnOk};
+ghost use Rattle.std.specs.Prelude.{string_bytes};
 ghost use Rattle.std.specs.Option.{option_copied};
 ghost use Rattle.sporc_entry.specs.Entry.{author_device, entry_of};
 ghost use Rattle.sporc_line.specs.Good.{Good};
 ghost use Rattle.sporc_report.specs.Appending.{BeginsWith};
-ghost use Rattle.sporc_report.specs.EntryLines.{committed, committed_by, done_by, entry_line, entry_lines, lines_behind, origin_text, what_text};
+ghost use Rattle.sporc_report.specs.EntryLines.{committed, committed_by, done_by, entry_line};
+ghost use Rattle.sporc_report.specs.EntryLines.{entry_lines, lines_behind, origin_text, what_text};
 
 use crate::appending::{push_counted, push_decimal, push_word};
 use crate::journal::{push_change, push_delta};
@@ -16,11 +18,12 @@ use sporc_entry::{ChangeBody, EntryFault, EntryView, Header};
 use sporc_line::Line;
 use std::alloc::{AllocError, Global};
 
-/// Appends a line for each entry of a history from a position on: its position, its author's device, number and base, and what
-/// it did.
-/// Of an edit that is its form, so that the text can be followed by the lines alone.
+/// Appends a line for each entry of a history from a position on: its position, its author's
+/// device, number and base, and what it did. Of an edit that is its form, so that the text can be
+/// followed by the lines alone.
 pub fn push_entries(alloc: Global, out: &mut String, line: &Line, from: u32) -> Result<(), Memory>
-    ensures ok { OnOk result (string_bytes out.new ≡ string_bytes out.old ++ entry_lines from line.now.genesis line.now.kit line.now.entries) }
+    ensures ok { OnOk result (string_bytes out.new
+        ≡ string_bytes out.old ++ entry_lines from line.now.genesis line.now.kit line.now.entries) }
     ensures memory { OnErr result (BeginsWith (string_bytes out.new) (string_bytes out.old)) }
 {
     let mut behind = from.saturating_sub(1);
@@ -31,14 +34,17 @@ pub fn push_entries(alloc: Global, out: &mut String, line: &Line, from: u32) -> 
     Ok(())
 }
 
-// Appends the line of the entry at a position: with the lines behind it, all is what it was with those from there on.
+// Appends the line of the entry at a position: with the lines behind it, all is what it was with
+// those from there on.
 fn push_at(alloc: Global, out: &mut String, line: &Line, position: u32) -> Result<(), Memory>
     requires positive { 1 ≤ position }
     requires in_bounds { position ≤ length line.now.entries }
     requires good { Good line.now.genesis line.now.kit line.now.entries }
     ensures ok { OnOk result (
-        string_bytes out.new ++ lines_behind position (committed line.now.genesis line.now.kit line.now.entries)
-        ≡ string_bytes out.old ++ lines_behind (position - 1) (committed line.now.genesis line.now.kit line.now.entries)) }
+        string_bytes out.new
+        ++ lines_behind position (committed line.now.genesis line.now.kit line.now.entries)
+        ≡ string_bytes out.old
+        ++ lines_behind (position - 1) (committed line.now.genesis line.now.kit line.now.entries)) }
     ensures grows { BeginsWith (string_bytes out.new) (string_bytes out.old) }
 {
     let entry = line.entries()[position as usize - 1].as_slice();
@@ -54,7 +60,8 @@ fn push_entry(
     form: &Delta,
 ) -> Result<(), Memory>
     requires { IsOk (entry_of bytes.now) }
-    ensures ok { OnOk result (string_bytes out.new ≡ string_bytes out.old ++ entry_line position (committed_by (entry_of bytes.now) form.now)) }
+    ensures ok { OnOk result (string_bytes out.new ≡ string_bytes out.old
+        ++ entry_line position (committed_by (entry_of bytes.now) form.now)) }
     ensures memory { OnErr result (BeginsWith (string_bytes out.new) (string_bytes out.old)) }
 {
     match EntryView::read(alloc, bytes) {
@@ -71,7 +78,8 @@ fn push_view(
     entry: &EntryView<'_>,
     form: &Delta,
 ) -> Result<(), Memory>
-    ensures ok { OnOk result (string_bytes out.new ≡ string_bytes out.old ++ entry_line position (committed_by (Ok entry.now.entry) form.now)) }
+    ensures ok { OnOk result (string_bytes out.new ≡ string_bytes out.old
+        ++ entry_line position (committed_by (Ok entry.now.entry) form.now)) }
     ensures memory { OnErr result (BeginsWith (string_bytes out.new) (string_bytes out.old)) }
 {
     push_origin(out, position, entry.header())?;
@@ -82,7 +90,8 @@ fn push_view(
 
 // Appends where an entry stands, whose it is, and behind how many it was made.
 fn push_origin(out: &mut String, position: u32, header: &Header) -> Result<(), Memory>
-    ensures ok { OnOk result (string_bytes out.new ≡ string_bytes out.old ++ origin_text position (author_device header.now) header.now.number header.now.base) }
+    ensures ok { OnOk result (string_bytes out.new ≡ string_bytes out.old
+        ++ origin_text position (author_device header.now) header.now.number header.now.base) }
     ensures memory { OnErr result (BeginsWith (string_bytes out.new) (string_bytes out.old)) }
 {
     push_decimal(out, u64::from(position))?;
@@ -99,7 +108,8 @@ fn push_done(
     change: Option<&ChangeBody>,
     form: &Delta,
 ) -> Result<(), Memory>
-    ensures ok { OnOk result (string_bytes out.new ≡ string_bytes out.old ++ what_text (done_by (option_copied change.entry) form.now)) }
+    ensures ok { OnOk result (string_bytes out.new
+        ≡ string_bytes out.old ++ what_text (done_by (option_copied change.entry) form.now)) }
     ensures memory { OnErr result (BeginsWith (string_bytes out.new) (string_bytes out.old)) }
 {
     match change {

@@ -5,7 +5,8 @@ ghost use Rattle.std.specs.Fmt.{decimal};
 ghost use Rattle.sporc_client.specs.declared.event.Event.TheVariants as events;
 ghost use Rattle.sporc_script.specs.Spelling.{role_name};
 ghost use Rattle.sporc_report.specs.Appending.{BeginsWith};
-ghost use Rattle.sporc_report.specs.JournalLines.{change_text, delta_text, event_text, journal_lines, part_text, spaced_part};
+ghost use Rattle.sporc_report.specs.JournalLines.{change_text, delta_text, event_text};
+ghost use Rattle.sporc_report.specs.JournalLines.{journal_lines, part_text, spaced_part};
 
 use crate::appending::{push_counted, push_word};
 use crate::quoted::push_quoted;
@@ -19,7 +20,8 @@ use std::alloc::Global;
 
 /// Appends a line for each event.
 pub fn push_journal(alloc: Global, out: &mut String, journal: &[Event]) -> Result<(), Memory>
-    ensures ok { OnOk result (string_bytes out.new ≡ string_bytes out.old ++ journal_lines journal.now) }
+    ensures ok { OnOk result
+        (string_bytes out.new ≡ string_bytes out.old ++ journal_lines journal.now) }
     ensures memory { OnErr result (BeginsWith (string_bytes out.new) (string_bytes out.old)) }
 {
     for event in journal {
@@ -44,7 +46,8 @@ fn push_event(alloc: Global, out: &mut String, event: &Event) -> Result<(), Memo
 }
 
 fn push_edit(out: &mut String, by: u32, seen: u64, delta: &Delta) -> Result<(), Memory>
-    ensures ok { OnOk result (string_bytes out.new ≡ string_bytes out.old ++ event_text (events.Edit by seen delta.now)) }
+    ensures ok { OnOk result (string_bytes out.new
+        ≡ string_bytes out.old ++ event_text (events.Edit by seen delta.now)) }
     ensures memory { OnErr result (BeginsWith (string_bytes out.new) (string_bytes out.old)) }
 {
     push_counted(out, "edit ", u64::from(by))?;
@@ -54,7 +57,8 @@ fn push_edit(out: &mut String, by: u32, seen: u64, delta: &Delta) -> Result<(), 
 }
 
 fn push_asked(alloc: Global, out: &mut String, by: u32, change: &Change) -> Result<(), Memory>
-    ensures ok { OnOk result (string_bytes out.new ≡ string_bytes out.old ++ event_text (events.Change by change.now)) }
+    ensures ok { OnOk result
+        (string_bytes out.new ≡ string_bytes out.old ++ event_text (events.Change by change.now)) }
     ensures memory { OnErr result (BeginsWith (string_bytes out.new) (string_bytes out.old)) }
 {
     push_counted(out, "change ", u64::from(by))?;
@@ -63,7 +67,8 @@ fn push_asked(alloc: Global, out: &mut String, by: u32, change: &Change) -> Resu
 }
 
 fn push_submitted(alloc: Global, out: &mut String, by: u32, entry: &[u8]) -> Result<(), Memory>
-    ensures ok { OnOk result (string_bytes out.new ≡ string_bytes out.old ++ event_text (events.Submit by entry.now)) }
+    ensures ok { OnOk result
+        (string_bytes out.new ≡ string_bytes out.old ++ event_text (events.Submit by entry.now)) }
     ensures memory { OnErr result (BeginsWith (string_bytes out.new) (string_bytes out.old)) }
 {
     push_counted(out, "submit ", u64::from(by))?;
@@ -72,7 +77,8 @@ fn push_submitted(alloc: Global, out: &mut String, by: u32, entry: &[u8]) -> Res
 }
 
 fn push_dropped(out: &mut String, by: u32, fault: ChangeFault) -> Result<(), Memory>
-    ensures ok { OnOk result (string_bytes out.new ≡ string_bytes out.old ++ event_text (events.Dropped by fault)) }
+    ensures ok { OnOk result
+        (string_bytes out.new ≡ string_bytes out.old ++ event_text (events.Dropped by fault)) }
     ensures memory { OnErr result (BeginsWith (string_bytes out.new) (string_bytes out.old)) }
 {
     push_counted(out, "dropped ", u64::from(by))?;
@@ -81,7 +87,8 @@ fn push_dropped(out: &mut String, by: u32, fault: ChangeFault) -> Result<(), Mem
 }
 
 fn push_accepted(out: &mut String, by: u32, place: u32) -> Result<(), Memory>
-    ensures ok { OnOk result (string_bytes out.new ≡ string_bytes out.old ++ event_text (events.Accept by place)) }
+    ensures ok { OnOk result
+        (string_bytes out.new ≡ string_bytes out.old ++ event_text (events.Accept by place)) }
     ensures memory { OnErr result (BeginsWith (string_bytes out.new) (string_bytes out.old)) }
 {
     push_counted(out, "accept ", u64::from(by))?;
@@ -89,7 +96,8 @@ fn push_accepted(out: &mut String, by: u32, place: u32) -> Result<(), Memory>
 }
 
 pub(crate) fn push_change(alloc: Global, out: &mut String, change: &Change) -> Result<(), Memory>
-    ensures ok { OnOk result (string_bytes out.new ≡ string_bytes out.old ++ change_text change.now) }
+    ensures ok { OnOk result
+        (string_bytes out.new ≡ string_bytes out.old ++ change_text change.now) }
     ensures memory { OnErr result (BeginsWith (string_bytes out.new) (string_bytes out.old)) }
 {
     match change {
@@ -118,7 +126,8 @@ pub(crate) fn push_change(alloc: Global, out: &mut String, change: &Change) -> R
 
 // A word, a member and a role.
 fn push_role(out: &mut String, word: &str, member: u16, role: Role) -> Result<(), Memory>
-    ensures ok { OnOk result (string_bytes out.new ≡ string_bytes out.old ++ (word.now ++ (codes " " ++ (decimal member ++ (codes " " ++ role_name role))))) }
+    ensures ok { OnOk result (string_bytes out.new ≡ string_bytes out.old
+        ++ (word.now ++ (codes " " ++ (decimal member ++ (codes " " ++ role_name role))))) }
     ensures memory { OnErr result (BeginsWith (string_bytes out.new) (string_bytes out.old)) }
 {
     push_word(out, word)?;
@@ -129,7 +138,8 @@ fn push_role(out: &mut String, word: &str, member: u16, role: Role) -> Result<()
 
 // A word, and a device as two words.
 fn push_device_words(out: &mut String, word: &str, member: u16, device: u8) -> Result<(), Memory>
-    ensures ok { OnOk result (string_bytes out.new ≡ string_bytes out.old ++ (word.now ++ (decimal member ++ (codes " " ++ decimal device)))) }
+    ensures ok { OnOk result (string_bytes out.new
+        ≡ string_bytes out.old ++ (word.now ++ (decimal member ++ (codes " " ++ decimal device)))) }
     ensures memory { OnErr result (BeginsWith (string_bytes out.new) (string_bytes out.old)) }
 {
     push_counted(out, word, u64::from(member))?;
@@ -151,7 +161,8 @@ pub(crate) fn push_delta(out: &mut String, delta: &Delta) -> Result<(), Memory>
 
 // Parts with a space before each.
 fn push_spaced(out: &mut String, parts: &[Part]) -> Result<(), Memory>
-    ensures ok { OnOk result (string_bytes out.new ≡ string_bytes out.old ++ flat_map spaced_part parts.now) }
+    ensures ok { OnOk result
+        (string_bytes out.new ≡ string_bytes out.old ++ flat_map spaced_part parts.now) }
     ensures memory { OnErr result (BeginsWith (string_bytes out.new) (string_bytes out.old)) }
 {
     for part in parts {

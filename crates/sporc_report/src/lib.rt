@@ -1,6 +1,7 @@
-//! The lines that tell of a client: its journal, what it shows, its members, the last value of its chain, how its history
-//! stands to another's; those of a history's entries; and the names of faults. What is named `push_` appends to a text. If it
-//! runs out of memory, the text begins with what it was before, and may have a part of the line behind it.
+//! The lines that tell of a client: its journal, what it shows, its members, the last value of its
+//! chain, how its history stands to another's; those of a history's entries; and the names of
+//! faults. What is named `push_` appends to a text. If it runs out of memory, the text begins with
+//! what it was before, and may have a part of the line behind it.
 //!
 //! ```text
 //! push_journal(alloc, &mut out, client.journal())?;   // edit 0 0 i"abc"
@@ -10,10 +11,10 @@
 //! push_entries(alloc, &mut out, &line, 1)?;           // 1 1 1 0 edit i"abc"
 //! ```
 //!
-//! Proved: a call that succeeds appends the line or the name of the definitions in `specs/`, and names no `Memory` of the
-//! faults that it takes; after out of memory the text begins with what it was; the text of a history can be followed by the
-//! lines of its entries ([`laws`]). Only tested: that the calls succeed with ample memory (`sporc_commands_tests`). Neither:
-//! how long they take.
+//! Proved: a call that succeeds appends the line or the name of the definitions in `specs/`, and
+//! names no `Memory` of the faults that it takes; after out of memory the text begins with what it
+//! was; the text of a history can be followed by the lines of its entries ([`laws`]). Only tested:
+//! that the calls succeed with ample memory (`sporc_commands_tests`). Neither: how long they take.
 #![tactic(auto, using(crate::proofs::Beginnings::begins_then, crate::proofs::Beginnings::begins_last, crate::proofs::Beginnings::begins_more))]
 
 mod appending;

@@ -2,7 +2,8 @@
 
 ghost use Rattle.std.specs.Prelude.{◌≡◌, ◌≢◌, ◌++◌, IfSome, OnErr, OnOk, string_bytes};
 ghost use Rattle.sporc_report.specs.Appending.{BeginsWith};
-ghost use Rattle.sporc_report.specs.Names.{accept_fault_name, edit_fault_name, hint_fault_name, open_fault_name, submit_fault_name};
+ghost use Rattle.sporc_report.specs.Names.{accept_fault_name, edit_fault_name, hint_fault_name};
+ghost use Rattle.sporc_report.specs.Names.{open_fault_name, submit_fault_name};
 
 use crate::appending::{push_counted, push_word};
 use sporc_base::Memory;
@@ -29,7 +30,8 @@ pub fn edit_fault_name(fault: EditFault) -> &'static str
 
 /// Appends the name of why an edit, a change or a discard is refused.
 pub fn push_edit_fault(out: &mut String, fault: EditFault) -> Result<(), Memory>
-    ensures name { OnOk result (string_bytes out.new ≡ string_bytes out.old ++ edit_fault_name fault) }
+    ensures name { OnOk result
+        (string_bytes out.new ≡ string_bytes out.old ++ edit_fault_name fault) }
     ensures named { OnOk result (fault ≢ EditFault.Memory) }
     ensures memory { OnErr result (BeginsWith (string_bytes out.new) (string_bytes out.old)) }
 {
@@ -41,7 +43,8 @@ pub fn push_edit_fault(out: &mut String, fault: EditFault) -> Result<(), Memory>
 
 /// Appends the name of why a submission is refused.
 pub fn push_submit_fault(out: &mut String, fault: SubmitFault) -> Result<(), Memory>
-    ensures name { OnOk result (string_bytes out.new ≡ string_bytes out.old ++ submit_fault_name fault) }
+    ensures name { OnOk result
+        (string_bytes out.new ≡ string_bytes out.old ++ submit_fault_name fault) }
     ensures named { OnOk result (fault ≢ SubmitFault.Memory) }
     ensures memory { OnErr result (BeginsWith (string_bytes out.new) (string_bytes out.old)) }
 {
@@ -73,7 +76,8 @@ fn submit_fault_name(fault: SubmitFault) -> Option<&'static str>
 
 /// Appends the name of why an entry is refused.
 pub fn push_accept_fault(alloc: Global, out: &mut String, fault: AcceptFault) -> Result<(), Memory>
-    ensures name { OnOk result (string_bytes out.new ≡ string_bytes out.old ++ accept_fault_name fault) }
+    ensures name { OnOk result
+        (string_bytes out.new ≡ string_bytes out.old ++ accept_fault_name fault) }
     ensures named { OnOk result (fault ≢ AcceptFault.Memory) }
     ensures memory { OnErr result (BeginsWith (string_bytes out.new) (string_bytes out.old)) }
 {
@@ -89,7 +93,8 @@ pub fn push_accept_fault(alloc: Global, out: &mut String, fault: AcceptFault) ->
 
 /// Appends the name of why entries give no hints.
 pub fn push_hint_fault(out: &mut String, fault: HintFault) -> Result<(), Memory>
-    ensures name { OnOk result (string_bytes out.new ≡ string_bytes out.old ++ hint_fault_name fault) }
+    ensures name { OnOk result
+        (string_bytes out.new ≡ string_bytes out.old ++ hint_fault_name fault) }
     ensures named { OnOk result (fault ≢ HintFault.Memory) }
     ensures memory { OnErr result (BeginsWith (string_bytes out.new) (string_bytes out.old)) }
 {
@@ -114,7 +119,8 @@ pub fn open_fault_name(fault: LineOpenFault) -> &'static str
 
 /// Appends the name of why a client does not open.
 pub fn push_open_fault(out: &mut String, fault: LineOpenFault) -> Result<(), Memory>
-    ensures name { OnOk result (string_bytes out.new ≡ string_bytes out.old ++ open_fault_name fault) }
+    ensures name { OnOk result
+        (string_bytes out.new ≡ string_bytes out.old ++ open_fault_name fault) }
     ensures named { OnOk result (fault ≢ LineOpenFault.Memory) }
     ensures memory { OnErr result (BeginsWith (string_bytes out.new) (string_bytes out.old)) }
 {

@@ -10,7 +10,8 @@ use sporc_base::Memory;
 
 /// Appends a text in quotes, with its escapes.
 pub fn push_quoted(out: &mut String, text: &str) -> Result<(), Memory>
-    ensures ok { OnOk result (string_bytes out.new ≡ string_bytes out.old ++ quoted (chars text.now)) }
+    ensures ok { OnOk result
+        (string_bytes out.new ≡ string_bytes out.old ++ quoted (chars text.now)) }
     ensures memory { OnErr result (BeginsWith (string_bytes out.new) (string_bytes out.old)) }
 {
     push_word(out, "\"")?;
@@ -19,7 +20,8 @@ pub fn push_quoted(out: &mut String, text: &str) -> Result<(), Memory>
 }
 
 fn push_all_escaped(out: &mut String, text: &str) -> Result<(), Memory>
-    ensures ok { OnOk result (string_bytes out.new ≡ string_bytes out.old ++ flat_map escape (chars text.now)) }
+    ensures ok { OnOk result
+        (string_bytes out.new ≡ string_bytes out.old ++ flat_map escape (chars text.now)) }
     ensures memory { OnErr result (BeginsWith (string_bytes out.new) (string_bytes out.old)) }
 {
     for c in text.chars() {

@@ -9,7 +9,9 @@ ghost use Rattle.sporc_head.specs.History.{hash_of, roster_of};
 ghost use Rattle.sporc_member.specs.Roster.{member_at};
 ghost use Rattle.sporc_script.specs.Spelling.{device_text, role_name};
 ghost use Rattle.sporc_report.specs.Appending.{BeginsWith};
-ghost use Rattle.sporc_report.specs.ClientLines.{compare_line, devices_text, further_text, hash_line, if_removed, members_line, members_text, place_text, show_line, text_of_member};
+ghost use Rattle.sporc_report.specs.ClientLines.{compare_line, devices_text, further_text};
+ghost use Rattle.sporc_report.specs.ClientLines.{hash_line, if_removed, members_line, members_text};
+ghost use Rattle.sporc_report.specs.ClientLines.{place_text, show_line, text_of_member};
 ghost use Rattle.sporc_script.specs.Quoted.{quoted};
 
 use crate::appending::{push_counted, push_decimal, push_word};
@@ -24,7 +26,8 @@ use std::alloc::Global;
 
 /// Appends what a client shows.
 pub fn push_show<D: LeafDisk>(out: &mut String, client: &Client<D>) -> Result<(), Memory>
-    ensures ok { OnOk result (string_bytes out.new ≡ string_bytes out.old ++ show_line client.now.opening.kit.me (state_of client.now)) }
+    ensures ok { OnOk result (string_bytes out.new
+        ≡ string_bytes out.old ++ show_line client.now.opening.kit.me (state_of client.now)) }
     ensures memory { OnErr result (BeginsWith (string_bytes out.new) (string_bytes out.old)) }
 {
     push_place(out, client)?;
@@ -36,7 +39,8 @@ pub fn push_show<D: LeafDisk>(out: &mut String, client: &Client<D>) -> Result<()
 
 // Appends how many entries a client has accepted, and how many of its items are pending.
 fn push_place<D: LeafDisk>(out: &mut String, client: &Client<D>) -> Result<(), Memory>
-    ensures ok { OnOk result (string_bytes out.new ≡ string_bytes out.old ++ place_text client.now.opening.kit.me (state_of client.now)) }
+    ensures ok { OnOk result (string_bytes out.new
+        ≡ string_bytes out.old ++ place_text client.now.opening.kit.me (state_of client.now)) }
     ensures memory { OnErr result (BeginsWith (string_bytes out.new) (string_bytes out.old)) }
 {
     push_device(out, device_of(client))?;
@@ -46,7 +50,8 @@ fn push_place<D: LeafDisk>(out: &mut String, client: &Client<D>) -> Result<(), M
 
 // Appends the text that a client shows, in quotes.
 fn push_shown<D: LeafDisk>(out: &mut String, client: &Client<D>) -> Result<(), Memory>
-    ensures ok { OnOk result (string_bytes out.new ≡ string_bytes out.old ++ quoted (shown_of (state_of client.now))) }
+    ensures ok { OnOk result
+        (string_bytes out.new ≡ string_bytes out.old ++ quoted (shown_of (state_of client.now))) }
     ensures memory { OnErr result (BeginsWith (string_bytes out.new) (string_bytes out.old)) }
 {
     let text = client.shown()?;
@@ -65,7 +70,8 @@ fn push_removed(out: &mut String, removed: bool) -> Result<(), Memory>
     }
 }
 
-/// Appends a device as a word: `M`, its member's number, for the first one; `M.D` for a further one.
+/// Appends a device as a word: `M`, its member's number, for the first one; `M.D` for a further
+/// one.
 pub fn push_device(out: &mut String, device: Device) -> Result<(), Memory>
     ensures ok { OnOk result (string_bytes out.new ≡ string_bytes out.old ++ device_text device) }
     ensures memory { OnErr result (BeginsWith (string_bytes out.new) (string_bytes out.old)) }
@@ -79,7 +85,8 @@ pub fn push_device(out: &mut String, device: Device) -> Result<(), Memory>
 
 /// Appends what a client's line starts with.
 pub fn push_start(out: &mut String, device: Device, words: &str) -> Result<(), Memory>
-    ensures ok { OnOk result (string_bytes out.new ≡ string_bytes out.old ++ (device_text device ++ words.now)) }
+    ensures ok { OnOk result
+        (string_bytes out.new ≡ string_bytes out.old ++ (device_text device ++ words.now)) }
     ensures memory { OnErr result (BeginsWith (string_bytes out.new) (string_bytes out.old)) }
 {
     push_device(out, device)?;
@@ -88,7 +95,8 @@ pub fn push_start(out: &mut String, device: Device, words: &str) -> Result<(), M
 
 /// Appends a client's line that ends in a number.
 pub fn push_number(out: &mut String, device: Device, words: &str, number: u64) -> Result<(), Memory>
-    ensures ok { OnOk result (string_bytes out.new ≡ string_bytes out.old ++ (device_text device ++ (words.now ++ (decimal number ++ codes "\n")))) }
+    ensures ok { OnOk result (string_bytes out.new ≡ string_bytes out.old
+        ++ (device_text device ++ (words.now ++ (decimal number ++ codes "\n")))) }
     ensures memory { OnErr result (BeginsWith (string_bytes out.new) (string_bytes out.old)) }
 {
     push_start(out, device, words)?;
@@ -108,7 +116,8 @@ fn device_of<D: LeafDisk>(client: &Client<D>) -> Device
 
 /// Appends the members, in ascending order of their numbers, with their roles and live devices.
 pub fn push_members<D: LeafDisk>(out: &mut String, client: &Client<D>) -> Result<(), Memory>
-    ensures ok { OnOk result (string_bytes out.new ≡ string_bytes out.old ++ members_line client.now.opening.kit.me (state_of client.now)) }
+    ensures ok { OnOk result (string_bytes out.new
+        ≡ string_bytes out.old ++ members_line client.now.opening.kit.me (state_of client.now)) }
     ensures memory { OnErr result (BeginsWith (string_bytes out.new) (string_bytes out.old)) }
 {
     push_start(out, device_of(client), " members")?;
@@ -118,7 +127,8 @@ pub fn push_members<D: LeafDisk>(out: &mut String, client: &Client<D>) -> Result
 
 // Appends each member with its role and devices.
 fn push_roster<D: LeafDisk>(out: &mut String, client: &Client<D>) -> Result<(), Memory>
-    ensures ok { OnOk result (string_bytes out.new ≡ string_bytes out.old ++ members_text (roster_of client.now.opening.genesis (state_of client.now).entries)) }
+    ensures ok { OnOk result (string_bytes out.new ≡ string_bytes out.old
+        ++ members_text (roster_of client.now.opening.genesis (state_of client.now).entries)) }
     ensures memory { OnErr result (BeginsWith (string_bytes out.new) (string_bytes out.old)) }
 {
     let roster = client.roster();
@@ -130,7 +140,8 @@ fn push_roster<D: LeafDisk>(out: &mut String, client: &Client<D>) -> Result<(), 
 
 // Appends the member with this number, if there is one.
 fn push_numbered(out: &mut String, roster: &Roster, number: u16) -> Result<(), Memory>
-    ensures ok { OnOk result (string_bytes out.new ≡ string_bytes out.old ++ text_of_member roster.now.roster (member_at roster.now.roster number)) }
+    ensures ok { OnOk result (string_bytes out.new ≡ string_bytes out.old
+        ++ text_of_member roster.now.roster (member_at roster.now.roster number)) }
     ensures memory { OnErr result (BeginsWith (string_bytes out.new) (string_bytes out.old)) }
 {
     match roster.member(number) {
@@ -143,7 +154,8 @@ fn push_numbered(out: &mut String, roster: &Roster, number: u16) -> Result<(), M
 }
 
 fn push_member(out: &mut String, number: u16, role: Role) -> Result<(), Memory>
-    ensures ok { OnOk result (string_bytes out.new ≡ string_bytes out.old ++ (codes " " ++ (decimal number ++ (codes "=" ++ role_name role)))) }
+    ensures ok { OnOk result (string_bytes out.new ≡ string_bytes out.old
+        ++ (codes " " ++ (decimal number ++ (codes "=" ++ role_name role)))) }
     ensures memory { OnErr result (BeginsWith (string_bytes out.new) (string_bytes out.old)) }
 {
     push_counted(out, " ", u64::from(number))?;
@@ -153,7 +165,8 @@ fn push_member(out: &mut String, number: u16, role: Role) -> Result<(), Memory>
 
 // Appends the numbers of a member's live devices, unless there is the first one alone.
 fn push_devices(out: &mut String, devices: &[u8]) -> Result<(), Memory>
-    ensures ok { OnOk result (string_bytes out.new ≡ string_bytes out.old ++ devices_text devices.now) }
+    ensures ok { OnOk result
+        (string_bytes out.new ≡ string_bytes out.old ++ devices_text devices.now) }
     ensures memory { OnErr result (BeginsWith (string_bytes out.new) (string_bytes out.old)) }
 {
     match devices {
@@ -163,7 +176,8 @@ fn push_devices(out: &mut String, devices: &[u8]) -> Result<(), Memory>
 }
 
 fn push_listed(out: &mut String, first: u8, more: &[u8]) -> Result<(), Memory>
-    ensures ok { OnOk result (string_bytes out.new ≡ string_bytes out.old ++ devices_text (first ∷ more.now)) }
+    ensures ok { OnOk result
+        (string_bytes out.new ≡ string_bytes out.old ++ devices_text (first ∷ more.now)) }
     ensures memory { OnErr result (BeginsWith (string_bytes out.new) (string_bytes out.old)) }
 {
     if first == FIRST_DEVICE && more.is_empty() {
@@ -174,7 +188,8 @@ fn push_listed(out: &mut String, first: u8, more: &[u8]) -> Result<(), Memory>
 }
 
 fn push_further(out: &mut String, numbers: &[u8]) -> Result<(), Memory>
-    ensures ok { OnOk result (string_bytes out.new ≡ string_bytes out.old ++ flat_map further_text numbers.now) }
+    ensures ok { OnOk result
+        (string_bytes out.new ≡ string_bytes out.old ++ flat_map further_text numbers.now) }
     ensures memory { OnErr result (BeginsWith (string_bytes out.new) (string_bytes out.old)) }
 {
     for number in numbers {
@@ -189,7 +204,8 @@ pub fn push_hash<D: LeafDisk>(
     out: &mut String,
     client: &Client<D>,
 ) -> Result<(), Memory>
-    ensures ok { OnOk result (string_bytes out.new ≡ string_bytes out.old ++ hash_line client.now.opening.kit.me (state_of client.now)) }
+    ensures ok { OnOk result (string_bytes out.new
+        ≡ string_bytes out.old ++ hash_line client.now.opening.kit.me (state_of client.now)) }
     ensures memory { OnErr result (BeginsWith (string_bytes out.new) (string_bytes out.old)) }
 {
     push_start(out, device_of(client), " hash ")?;
@@ -207,7 +223,8 @@ pub fn last_hash<D: LeafDisk>(client: &Client<D>) -> Digest32
 
 /// Appends bytes as hexadecimal digits.
 pub fn push_digits(alloc: Global, out: &mut String, bytes: &[u8]) -> Result<(), Memory>
-    ensures ok { OnOk result (string_bytes out.new ≡ string_bytes out.old ++ encode_lower bytes.now) }
+    ensures ok { OnOk result
+        (string_bytes out.new ≡ string_bytes out.old ++ encode_lower bytes.now) }
     ensures memory { OnErr result (BeginsWith (string_bytes out.new) (string_bytes out.old)) }
 {
     let digits = hex::encode(alloc, bytes)?;
@@ -221,7 +238,8 @@ pub fn push_verdict(
     second: Device,
     verdict: Verdict,
 ) -> Result<(), Memory>
-    ensures ok { OnOk result (string_bytes out.new ≡ string_bytes out.old ++ compare_line (record { first = first; second = second }) verdict) }
+    ensures ok { OnOk result (string_bytes out.new ≡ string_bytes out.old
+        ++ compare_line (record { first = first; second = second }) verdict) }
     ensures memory { OnErr result (BeginsWith (string_bytes out.new) (string_bytes out.old)) }
 {
     push_start(out, first, " ")?;

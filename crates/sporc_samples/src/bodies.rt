@@ -41,7 +41,8 @@ pub fn edit_body(
     Ok(body)
 }
 
-/// The body of a change that a device signs in an epoch, with the next key sealed for these members.
+/// The body of a change that a device signs in an epoch, with the next key sealed for these
+/// members.
 pub fn change_body(
     alloc: Global,
     change: Change,

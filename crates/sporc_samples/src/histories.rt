@@ -7,7 +7,8 @@ use crate::history::History;
 use sporc_member::Change;
 use std::alloc::Global;
 
-/// A history of four entries whose text is `abcd`: edits by 2 and 4, a change by 1 that removes 4, and an edit by 5.
+/// A history of four entries whose text is `abcd`: edits by 2 and 4, a change by 1 that removes 4,
+/// and an edit by 5.
 pub fn short_history(alloc: Global, cast: &Cast) -> Result<History, SampleFault> {
     let genesis = cast.genesis(alloc)?;
     let mut sample = History::new(alloc, &genesis)?;

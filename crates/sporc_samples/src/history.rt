@@ -52,7 +52,8 @@ impl History {
         self.epoch
     }
 
-    /// The header of the next entry of this kind by an author's first device: its base is the whole history.
+    /// The header of the next entry of this kind by an author's first device: its base is the whole
+    /// history.
     pub fn header(&self, author: u16, kind: u8) -> Header {
         self.header_of(Device::first(author), kind)
     }

@@ -1,10 +1,12 @@
-//! Samples for tests: members with keys, a document that they founded, and signed histories of it; and the loop of all tables of
-//! calls that fail. No program stands on this crate.
+//! Samples for tests: members with keys, a document that they founded, and signed histories of it;
+//! and the loop of all tables of calls that fail. No program stands on this crate.
 //!
-//! - [`Cast`]: five members with their one-time keys, and the genesis of the document that they founded.
+//! - [`Cast`]: five members with their one-time keys, and the genesis of the document that they
+//!   founded.
 //! - [`Draft`]: an entry to be signed, each field of whose header can be spoilt first.
 //! - [`Member::by_device`]: a further device of a member, with keys of its own.
-//! - [`History`]: a history that grows by signed edits and changes, by first devices or any others; [`short_history`] is one of four entries.
+//! - [`History`]: a history that grows by signed edits and changes, by first devices or any others;
+//!   [`short_history`] is one of four entries.
 //! - [`epoch_key`], [`pair_key`]: the keys that its edits are masked with and its changes seal.
 //! - [`count_calls`]: lets each call of an object fail in turn, in a run anew for each.
 //!
@@ -17,9 +19,9 @@
 //! let bytes = draft.signed(alloc, cast.member(2)?, body)?;
 //! ```
 //!
-//! The bytes of deltas and of the genesis follow the formats by their tables and not by the crates that read them back;
-//! entries and changes are written by `sporc_entry`. Proved: nothing but that each
-//! call is safe and ends, and that the genesis is one.
+//! The bytes of deltas and of the genesis follow the formats by their tables and not by the crates
+//! that read them back; entries and changes are written by `sporc_entry`. Proved: nothing but that
+//! each call is safe and ends, and that the genesis is one.
 #![tactic(auto)]
 
 mod bodies;

@@ -7,11 +7,18 @@ use Rattle.sporc_script.specs.declared.command.Keyword.{Keyword}
 use Rattle.sporc_script.specs.declared.command.Keyword.TheVariants as keywords
 use Rattle.sporc_script.specs.Edits.{edit_of, roster_edit_of}
 use Rattle.sporc_script.specs.Numbers.{JoinInRange, join_of, join_spelling}
-use Rattle.sporc_script.specs.Plain.{flip_of, further_device_of, give_of, keyword_of, member_role_of, restart_of, tree_of, two_devices_of, two_members_of}
+use Rattle.sporc_script.specs.Plain.{flip_of, further_device_of, give_of, keyword_of}
+use Rattle.sporc_script.specs.Plain.{member_role_of, restart_of, tree_of, two_devices_of}
+use Rattle.sporc_script.specs.Plain.{two_members_of}
 use Rattle.sporc_script.specs.Readers.{device_of, keyed_of, member_of}
 use Rattle.sporc_script.specs.Signs.{ForgeryInRange, forgery_of, forgery_spelling}
 use Rattle.sporc_member.specs.Device.{IsMember}
-use Rattle.sporc_script.specs.Spelling.{DeviceInRange, DevicePairInRange, EditInRange, FlipInRange, FurtherInRange, GiveInRange, IsU64, PairInRange, RestartInRange, RosterEditInRange, device_pair_spelling, device_text, edit_spelling, flip_spelling, give_spelling, member_device_spelling, member_role_spelling, pair_spelling, restart_spelling, roster_edit_spelling, tree_spelling}
+use Rattle.sporc_script.specs.Spelling.{DeviceInRange, DevicePairInRange, EditInRange, FlipInRange}
+use Rattle.sporc_script.specs.Spelling.{FurtherInRange, GiveInRange, IsU64, PairInRange}
+use Rattle.sporc_script.specs.Spelling.{RestartInRange, RosterEditInRange, device_pair_spelling}
+use Rattle.sporc_script.specs.Spelling.{device_text, edit_spelling, flip_spelling, give_spelling}
+use Rattle.sporc_script.specs.Spelling.{member_device_spelling, member_role_spelling, pair_spelling}
+use Rattle.sporc_script.specs.Spelling.{restart_spelling, roster_edit_spelling, tree_spelling}
 use Rattle.sporc_script.specs.Words.{number_of}
 
 abbrev pub spelling : Command → List ℕ

@@ -1,5 +1,6 @@
 -- What the lines of a play script declare, and which line may follow.
-use Rattle.std.specs.Prelude.{ℕ, ◌==◌, nat_lt, ◌&&◌, ◌||◌, not, Bool, true, false, List, [], ◌∷◌, ◌++◌, length, fold, Option, Some}
+use Rattle.std.specs.Prelude.{ℕ, ◌==◌, nat_lt, ◌&&◌, ◌||◌, not, Bool, true, false, List, [], ◌∷◌}
+use Rattle.std.specs.Prelude.{◌++◌, length, fold, Option, Some}
 use Rattle.std.specs.List.{list_any}
 use Rattle.sporc_member.specs.declared.device.Device.{Device}
 use Rattle.sporc_member.specs.Device.{first_device, same_device}
@@ -18,8 +19,8 @@ use Rattle.sporc_script.specs.declared.sign.What.TheVariants as whats
 
 -- what the lines before one have declared
 pub record Declared : Type 0 where
-  -- all numbers that are declared, all devices with a client, the numbers of founders without one, and of those who join, in
-  -- the order of their lines
+  -- all numbers that are declared, all devices with a client, the numbers of founders without one,
+  -- and of those who join, in the order of their lines
   pub numbers : List ℕ
   pub clients : List Device
   pub rogues : List ℕ
@@ -31,13 +32,36 @@ pub record Declared : Type 0 where
   pub begun : Bool
 
 abbrev pub none_declared : Declared
-none_declared = record { numbers = []; clients = []; rogues = []; joiners = []; has_admin = false; started = false; begun = false }
+none_declared = record {
+  numbers = [];
+  clients = [];
+  rogues = [];
+  joiners = [];
+  has_admin = false;
+  started = false;
+  begun = false;
+}
 
 abbrev pub declared_after : Declared → Command → Declared
 declared_after d (commands.Tree t) = record d { started = true }
-declared_after d (commands.Member m) = record d { numbers = d.numbers ++ m.member ∷ []; clients = d.clients ++ first_device m.member ∷ []; has_admin = d.has_admin || is_admin m.role; started = true }
-declared_after d (commands.Rogue m) = record d { numbers = d.numbers ++ m.member ∷ []; rogues = d.rogues ++ m.member ∷ []; has_admin = d.has_admin || is_admin m.role; started = true }
-declared_after d (commands.Joiner m) = record d { numbers = d.numbers ++ m ∷ []; clients = d.clients ++ first_device m ∷ []; joiners = d.joiners ++ m ∷ []; started = true }
+declared_after d (commands.Member m) = record d {
+  numbers = d.numbers ++ m.member ∷ [];
+  clients = d.clients ++ first_device m.member ∷ [];
+  has_admin = d.has_admin || is_admin m.role;
+  started = true;
+}
+declared_after d (commands.Rogue m) = record d {
+  numbers = d.numbers ++ m.member ∷ [];
+  rogues = d.rogues ++ m.member ∷ [];
+  has_admin = d.has_admin || is_admin m.role;
+  started = true;
+}
+declared_after d (commands.Joiner m) = record d {
+  numbers = d.numbers ++ m ∷ [];
+  clients = d.clients ++ first_device m ∷ [];
+  joiners = d.joiners ++ m ∷ [];
+  started = true;
+}
 declared_after d (commands.Unpaired p) = record d { started = true }
 declared_after d (commands.Device x) = record d { clients = d.clients ++ x ∷ []; started = true }
 declared_after d command = record d { started = true; begun = true }
@@ -69,7 +93,8 @@ may_declare d n = not d.begun && (nat_lt (length d.numbers) MAX_DECLARED && not 
 
 -- a member with a client may have a further device, once
 abbrev pub may_declare_device : Declared → Device → Bool
-may_declare_device d device = not d.begun && (is_client d (first_device device.member) && not (is_client d device))
+may_declare_device d device =
+    not d.begun && (is_client d (first_device device.member) && not (is_client d device))
 
 -- who is changed is declared
 abbrev pub is_known_change : Declared → RosterChange → Bool
@@ -92,7 +117,8 @@ is_known_suffix d suffix = true
 
 -- a rogue signs, from a client's history
 abbrev pub may_sign : Declared → Forgery → Bool
-may_sign d f = is_rogue d f.member && (is_client d f.from && (is_known_what d f.signed.what && is_known_suffix d f.signed.suffix))
+may_sign d f = is_rogue d f.member
+    && (is_client d f.from && (is_known_what d f.signed.what && is_known_suffix d f.signed.suffix))
 
 -- those whom a command names can do it
 abbrev pub names_performers : Declared → Command → Bool
@@ -117,6 +143,7 @@ may_follow d (commands.Tree t) = not d.started
 may_follow d (commands.Member m) = may_declare d m.member
 may_follow d (commands.Rogue m) = may_declare d m.member
 may_follow d (commands.Joiner m) = may_declare d m
-may_follow d (commands.Unpaired p) = not d.begun && (is_declared d p.first && (is_declared d p.second && not (p.first == p.second)))
+may_follow d (commands.Unpaired p) =
+    not d.begun && (is_declared d p.first && (is_declared d p.second && not (p.first == p.second)))
 may_follow d (commands.Device x) = may_declare_device d x
 may_follow d command = d.has_admin && names_performers d command

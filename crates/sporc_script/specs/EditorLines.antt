@@ -1,5 +1,6 @@
 -- The lines of an editor script: how each is spelled, and how it is read.
-use Rattle.std.specs.Prelude.{◌≡◌, ℕ, ◌==◌, Bool, true, List, [], ◌∷◌, ◌++◌, length, codes, Option, option_map}
+use Rattle.std.specs.Prelude.{◌≡◌, ℕ, ◌==◌, Bool, true, List, [], ◌∷◌, ◌++◌, length, codes, Option}
+use Rattle.std.specs.Prelude.{option_map}
 use Rattle.std.specs.Fmt.{decimal}
 use Rattle.std.specs.Str.{all_scalars}
 use Rattle.hex.specs.Hex.{encode_lower}
@@ -15,9 +16,11 @@ use Rattle.sporc_script.specs.Edits.{insertion_of, removal_of}
 use Rattle.sporc_script.specs.Hex.{hex_of}
 use Rattle.sporc_script.specs.Plain.{member_device_of, member_role_of, role_of}
 use Rattle.sporc_script.specs.Quoted.{quoted}
-use Rattle.sporc_script.specs.Readers.{device_number_of, keyed_of, lone_or, member_of, named_of, pair_of, passing}
+use Rattle.sporc_script.specs.Readers.{device_number_of, keyed_of, lone_or, member_of, named_of}
+use Rattle.sporc_script.specs.Readers.{pair_of, passing}
 use Rattle.sporc_member.specs.Device.{IsMember}
-use Rattle.sporc_script.specs.Spelling.{DeviceInRange, IsU64, member_device_spelling, member_role_spelling, role_name}
+use Rattle.sporc_script.specs.Spelling.{DeviceInRange, IsU64, member_device_spelling}
+use Rattle.sporc_script.specs.Spelling.{member_role_spelling, role_name}
 
 abbrev pub editor_word_name : EditorWord → List ℕ
 editor_word_name words.Insert = codes "insert"
@@ -29,14 +32,18 @@ editor_word_name words.Device = codes "device"
 editor_word_name words.DropDevice = codes "drop-device"
 
 abbrev pub newcomer_spelling : Founder → List ℕ
-newcomer_spelling f = decimal f.member ++ (codes " " ++ (role_name f.role ++ (codes " " ++ encode_lower f.key)))
+newcomer_spelling f =
+    decimal f.member ++ (codes " " ++ (role_name f.role ++ (codes " " ++ encode_lower f.key)))
 
 abbrev pub new_device_spelling : LiveDevice → List ℕ
-new_device_spelling d = decimal d.device.member ++ (codes " " ++ (decimal d.device.number ++ (codes " " ++ encode_lower d.key)))
+new_device_spelling d = decimal d.device.member
+    ++ (codes " " ++ (decimal d.device.number ++ (codes " " ++ encode_lower d.key)))
 
 abbrev pub editor_spelling : EditorCommand → List ℕ
-editor_spelling (commands.Insert e) = codes "insert " ++ (decimal e.at ++ (codes " " ++ quoted e.text))
-editor_spelling (commands.Remove e) = codes "remove " ++ (decimal e.at ++ (codes " " ++ decimal e.count))
+editor_spelling (commands.Insert e) =
+    codes "insert " ++ (decimal e.at ++ (codes " " ++ quoted e.text))
+editor_spelling (commands.Remove e) =
+    codes "remove " ++ (decimal e.at ++ (codes " " ++ decimal e.count))
 editor_spelling (commands.Add f) = codes "add " ++ newcomer_spelling f
 editor_spelling (commands.Drop m) = codes "drop " ++ decimal m
 editor_spelling (commands.SetRole m) = codes "role " ++ member_role_spelling m
@@ -69,8 +76,8 @@ unfoldable pub key_of_word : List ℕ → Option (List ℕ)
 key_of_word word = passing is_key (hex_of word)
 
 unfoldable pub newcomer_of : List ℕ → Option Founder
-newcomer_of words =
-    option_map (λ p. record { member = p.0; role = p.1.0; key = p.1.1 }) (pair_of member_of (pair_of role_of key_of_word) words)
+newcomer_of words = option_map (λ p. record { member = p.0; role = p.1.0; key = p.1.1 })
+    (pair_of member_of (pair_of role_of key_of_word) words)
 
 unfoldable pub new_device_of : List ℕ → Option LiveDevice
 new_device_of words =
@@ -78,10 +85,8 @@ new_device_of words =
     (pair_of member_of (pair_of device_number_of key_of_word) words)
 
 unfoldable pub editor_word_of : List ℕ → Option EditorWord
-editor_word_of word =
-    named_of editor_word_name
-    (words.Insert ∷ words.Remove ∷ words.Add ∷ words.Drop ∷ words.Role ∷ words.Device ∷ words.DropDevice ∷ [])
-    word
+editor_word_of word = named_of editor_word_name (words.Insert ∷ words.Remove ∷ words.Add
+    ∷ words.Drop ∷ words.Role ∷ words.Device ∷ words.DropDevice ∷ []) word
 
 abbrev pub editor_with : EditorWord → List ℕ → Option EditorCommand
 editor_with words.Insert rest = option_map commands.Insert (insertion_of rest)
@@ -94,4 +99,5 @@ editor_with words.DropDevice rest = option_map commands.DropDevice (member_devic
 
 -- the command that the line spells
 unfoldable pub editor_of : List ℕ → Option EditorCommand
-editor_of line = lone_or (codes "upgrade") commands.Upgrade (keyed_of editor_word_of editor_with) line
+editor_of line =
+    lone_or (codes "upgrade") commands.Upgrade (keyed_of editor_word_of editor_with) line

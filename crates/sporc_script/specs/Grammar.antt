@@ -29,8 +29,10 @@ editor_line n command = record { number = n; command = command }
 
 -- the text is this editor script: any line may follow any
 abbrev pub IsEditorScript : List ℕ → List EditorLine → Type 0
-IsEditorScript text script = ReadsAs editor_line (λ before line command. SpellsEditor line command) [] 1 (lines_of text) script
+IsEditorScript text script = ReadsAs editor_line
+    (λ before line command. SpellsEditor line command) [] 1 (lines_of text) script
 
 -- line k of the text is the first that is outside the grammar of editor scripts
 abbrev pub IsEditorFault : List ℕ → ℕ → Type 0
-IsEditorFault text k = IsFirstBad editor_line (λ before line command. SpellsEditor line command) [] 1 (lines_of text) k
+IsEditorFault text k =
+    IsFirstBad editor_line (λ before line command. SpellsEditor line command) [] 1 (lines_of text) k

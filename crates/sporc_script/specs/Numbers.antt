@@ -1,5 +1,6 @@
 -- Lists of numbers with one space between two of them.
-use Rattle.std.specs.Prelude.{ℕ, ◌<◌, ◌==◌, if◌then◌else◌, List, [], ◌∷◌, ◌++◌, length, codes, Option, Some, option_map}
+use Rattle.std.specs.Prelude.{ℕ, ◌<◌, ◌==◌, if◌then◌else◌, List, [], ◌∷◌, ◌++◌, length, codes}
+use Rattle.std.specs.Prelude.{Option, Some, option_map}
 use Rattle.std.specs.List.{AllByRecursion}
 use Rattle.std.specs.Fmt.{decimal}
 use Rattle.sporc_script.specs.declared.command.Join.{Join}
@@ -31,10 +32,12 @@ parts_of (b ∷ bs) = if b == 32 then [] ∷ parts_of bs else with_byte b (parts
 -- the numbers that words are
 abbrev pub all_numbers : List (List ℕ) → Option (List ℕ)
 all_numbers [] = Some []
-all_numbers (word ∷ words) = then_read (number_of word) (λ n. option_map (λ ns. n ∷ ns) (all_numbers words))
+all_numbers (word ∷ words) =
+    then_read (number_of word) (λ n. option_map (λ ns. n ∷ ns) (all_numbers words))
 
 unfoldable pub numbers_of : List ℕ → Option (List ℕ)
 numbers_of words = all_numbers (parts_of words)
 
 unfoldable pub join_of : List ℕ → Option Join
-join_of words = option_map (λ p. record { device = p.0; entries = p.1 }) (pair_of device_of numbers_of words)
+join_of words =
+    option_map (λ p. record { device = p.0; entries = p.1 }) (pair_of device_of numbers_of words)

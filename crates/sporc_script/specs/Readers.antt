@@ -1,5 +1,6 @@
 -- How words are read, and what is made of readers of one word.
-use Rattle.std.specs.Prelude.{ℕ, ◌^◌, nat_lt, ◌&&◌, if◌then◌else◌, Bool, List, Option, None, Some, option_map, find}
+use Rattle.std.specs.Prelude.{ℕ, ◌^◌, nat_lt, ◌&&◌, if◌then◌else◌, Bool, List, Option, None, Some}
+use Rattle.std.specs.Prelude.{option_map, find}
 use Rattle.std.specs.Str.{bytes_eq}
 use Rattle.sporc_member.specs.Device.{first_device}
 use Rattle.sporc_member.specs.declared.device.Device.{Device}
@@ -15,13 +16,17 @@ abbrev pub passing : {A : Type 0} → (A → Bool) → Option A → Option A
 passing test found = then_read found (λ a. if test a then Some a else None)
 
 -- a word, a space, and what stands after it
-abbrev pub pair_of : {A B : Type 0} → (List ℕ → Option A) → (List ℕ → Option B) → List ℕ → Option (A × B)
-pair_of first second line = then_read (cut line) (λ parts. then_read (first parts.0) (λ a. then_read (second parts.1) (λ b. Some (a, b))))
+abbrev pub pair_of : {A B : Type 0} → (List ℕ → Option A) → (List ℕ → Option B) → List ℕ
+    → Option (A × B)
+pair_of first second line = then_read (cut line)
+    (λ parts. then_read (first parts.0) (λ a. then_read (second parts.1) (λ b. Some (a, b))))
 
 -- a word, and a space with more, if it follows
-abbrev pub with_more : {A B : Type 0} → (List ℕ → Option A) → (List ℕ → Option B) → List ℕ → Option (List ℕ × List ℕ) → Option (A × Option B)
+abbrev pub with_more : {A B : Type 0} → (List ℕ → Option A) → (List ℕ → Option B) → List ℕ
+    → Option (List ℕ × List ℕ) → Option (A × Option B)
 with_more first second line None = option_map (λ a. (a, None)) (first line)
-with_more first second line (Some parts) = then_read (first parts.0) (λ a. option_map (λ b. (a, Some b)) (second parts.1))
+with_more first second line (Some parts) =
+    then_read (first parts.0) (λ a. option_map (λ b. (a, Some b)) (second parts.1))
 
 -- that of these which has this name
 abbrev pub named_of : {A : Type 0} → (A → List ℕ) → List A → List ℕ → Option A
@@ -60,16 +65,20 @@ device_with (member, Some number) = record { member = member; number = number }
 
 -- the device that the word is: a member's number, and behind a '.' the number of a further device
 unfoldable pub device_of : List ℕ → Option Device
-device_of word = option_map device_with (with_more member_of further_number_of word (split_at 46 word))
+device_of word =
+    option_map device_with (with_more member_of further_number_of word (split_at 46 word))
 
 -- a word that stands alone for a value, or what else these words are
 abbrev pub lone_or : {A : Type 0} → List ℕ → A → (List ℕ → Option A) → List ℕ → Option A
 lone_or name value read words = if bytes_eq words name then Some value else read words
 
 -- a first word that is known, and what it makes of the rest
-abbrev pub keyed_of : {K A : Type 0} → (List ℕ → Option K) → (K → List ℕ → Option A) → List ℕ → Option A
-keyed_of word_of read words = then_read (cut words) (λ parts. then_read (word_of parts.0) (λ k. read k parts.1))
+abbrev pub keyed_of : {K A : Type 0} → (List ℕ → Option K) → (K → List ℕ → Option A) → List ℕ
+    → Option A
+keyed_of word_of read words =
+    then_read (cut words) (λ parts. then_read (word_of parts.0) (λ k. read k parts.1))
 
 -- what stands behind this word
 abbrev pub behind_of : {A : Type 0} → List ℕ → (List ℕ → Option A) → List ℕ → Option A
-behind_of name read words = then_read (cut words) (λ parts. if bytes_eq parts.0 name then read parts.1 else None)
+behind_of name read words =
+    then_read (cut words) (λ parts. if bytes_eq parts.0 name then read parts.1 else None)

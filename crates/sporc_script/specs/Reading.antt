@@ -12,12 +12,13 @@ use Rattle.sporc_script.specs.Lines.{IsSkipped}
 -- line n, after these declarations, is skipped, or is a part of the script
 abbrev pub ReadsLine : Declared → ℕ → List ℕ → Option PlayLine → Type 0
 ReadsLine declared n line None = IsSkipped line
-ReadsLine declared n line (Some l) = (l.number ≡ n) × Spells line l.command × (may_follow declared l.command ≡ true)
+ReadsLine declared n line (Some l) =
+    (l.number ≡ n) × Spells line l.command × (may_follow declared l.command ≡ true)
 
 -- line k is this one, and it is outside the grammar
 abbrev pub IsBadLine : Declared → ℕ → List ℕ → ℕ → Type 0
-IsBadLine declared n line k =
-    (k ≡ n) × ¬ (IsSkipped line) × ((c : Command) → Spells line c → may_follow declared c ≡ true → ⊥)
+IsBadLine declared n line k = (k ≡ n) × ¬ (IsSkipped line)
+    × ((c : Command) → Spells line c → may_follow declared c ≡ true → ⊥)
 
 -- what is declared once a line is read
 abbrev pub declared_with : Declared → Option PlayLine → Declared
@@ -30,4 +31,5 @@ ReadsEditorLine n line None = IsSkipped line
 ReadsEditorLine n line (Some l) = (l.number ≡ n) × SpellsEditor line l.command
 
 abbrev pub IsBadEditorLine : ℕ → List ℕ → ℕ → Type 0
-IsBadEditorLine n line k = (k ≡ n) × ¬ (IsSkipped line) × ((c : EditorCommand) → ¬ SpellsEditor line c)
+IsBadEditorLine n line k =
+    (k ≡ n) × ¬ (IsSkipped line) × ((c : EditorCommand) → ¬ SpellsEditor line c)

@@ -1,5 +1,6 @@
 -- What a script signs for a rogue: how it is spelled, and how it is read.
-use Rattle.std.specs.Prelude.{◌≡◌, ℕ, ◌<◌, ◌^◌, nat_lt, ◌&&◌, Bool, true, false, List, [], ◌∷◌, ◌++◌, length, codes, Option, None, Some, option_map, if◌then◌else◌}
+use Rattle.std.specs.Prelude.{◌≡◌, ℕ, ◌<◌, ◌^◌, nat_lt, ◌&&◌, Bool, true, false, List, [], ◌∷◌}
+use Rattle.std.specs.Prelude.{◌++◌, length, codes, Option, None, Some, option_map, if◌then◌else◌}
 use Rattle.std.specs.Fmt.{decimal}
 use Rattle.std.specs.Str.{all_scalars}
 use Rattle.hex.specs.Hex.{encode_lower}
@@ -20,9 +21,11 @@ use Rattle.sporc_script.specs.declared.sign.WhatWord.TheVariants as what_words
 use Rattle.sporc_script.specs.Hex.{hex_of}
 use Rattle.sporc_script.specs.Plain.{role_of}
 use Rattle.sporc_script.specs.Quoted.{quoted}
-use Rattle.sporc_script.specs.Readers.{behind_of, device_number_of, device_of, keyed_of, lone_or, member_of, named_of, pair_of, passing, with_more, u32_of}
+use Rattle.sporc_script.specs.Readers.{behind_of, device_number_of, device_of, keyed_of, lone_or}
+use Rattle.sporc_script.specs.Readers.{member_of, named_of, pair_of, passing, with_more, u32_of}
 use Rattle.sporc_member.specs.Device.{IsMember}
-use Rattle.sporc_script.specs.Spelling.{DeviceInRange, IsDeviceNumber, IsU64, RosterChangeInRange, device_text, role_name}
+use Rattle.sporc_script.specs.Spelling.{DeviceInRange, IsDeviceNumber, IsU64, RosterChangeInRange}
+use Rattle.sporc_script.specs.Spelling.{device_text, role_name}
 use Rattle.sporc_script.specs.Texts.{text_of}
 use Rattle.sporc_script.specs.Words.{cut, number_of}
 
@@ -70,20 +73,28 @@ with_suffix word None = word
 with_suffix word (Some suffix) = word ++ (codes " " ++ suffix_spelling suffix)
 
 abbrev pub signed_spelling_of : What → Option Suffix → List ℕ
-signed_spelling_of (whats.Insert e) suffix = codes "insert " ++ (decimal e.at ++ (codes " " ++ with_suffix (quoted e.text) suffix))
-signed_spelling_of (whats.Raw bytes) suffix = codes "raw " ++ with_suffix (encode_lower bytes) suffix
-signed_spelling_of (whats.Change (changes.Add m)) suffix = codes "add " ++ (decimal m.member ++ (codes " " ++ with_suffix (role_name m.role) suffix))
-signed_spelling_of (whats.Change (changes.Remove m)) suffix = codes "remove " ++ with_suffix (decimal m) suffix
-signed_spelling_of (whats.Change (changes.SetRole m)) suffix = codes "role " ++ (decimal m.member ++ (codes " " ++ with_suffix (role_name m.role) suffix))
-signed_spelling_of (whats.Change (changes.AddDevice d)) suffix = codes "device " ++ (decimal d.member ++ (codes " " ++ with_suffix (decimal d.number) suffix))
-signed_spelling_of (whats.Change (changes.DropDevice d)) suffix = codes "drop-device " ++ (decimal d.member ++ (codes " " ++ with_suffix (decimal d.number) suffix))
+signed_spelling_of (whats.Insert e) suffix =
+    codes "insert " ++ (decimal e.at ++ (codes " " ++ with_suffix (quoted e.text) suffix))
+signed_spelling_of (whats.Raw bytes) suffix =
+    codes "raw " ++ with_suffix (encode_lower bytes) suffix
+signed_spelling_of (whats.Change (changes.Add m)) suffix =
+    codes "add " ++ (decimal m.member ++ (codes " " ++ with_suffix (role_name m.role) suffix))
+signed_spelling_of (whats.Change (changes.Remove m)) suffix =
+    codes "remove " ++ with_suffix (decimal m) suffix
+signed_spelling_of (whats.Change (changes.SetRole m)) suffix =
+    codes "role " ++ (decimal m.member ++ (codes " " ++ with_suffix (role_name m.role) suffix))
+signed_spelling_of (whats.Change (changes.AddDevice d)) suffix =
+    codes "device " ++ (decimal d.member ++ (codes " " ++ with_suffix (decimal d.number) suffix))
+signed_spelling_of (whats.Change (changes.DropDevice d)) suffix = codes "drop-device "
+    ++ (decimal d.member ++ (codes " " ++ with_suffix (decimal d.number) suffix))
 signed_spelling_of (whats.Change changes.Upgrade) suffix = with_suffix (codes "upgrade") suffix
 
 abbrev pub signed_spelling : Signed → List ℕ
 signed_spelling s = signed_spelling_of s.what s.suffix
 
 abbrev pub forgery_spelling : Forgery → List ℕ
-forgery_spelling f = decimal f.member ++ (codes " from " ++ (device_text f.from ++ (codes " " ++ signed_spelling f.signed)))
+forgery_spelling f = decimal f.member
+    ++ (codes " from " ++ (device_text f.from ++ (codes " " ++ signed_spelling f.signed)))
 
 -- ---- the values
 
@@ -138,7 +149,8 @@ may_suffix what None = true
 may_suffix what (Some suffix) = if needs_change suffix then is_change what else true
 
 abbrev pub SignedInRange : Signed → Type 0
-SignedInRange s = WhatInRange s.what × MaySuffixInRange s.suffix × (may_suffix s.what s.suffix ≡ true)
+SignedInRange s =
+    WhatInRange s.what × MaySuffixInRange s.suffix × (may_suffix s.what s.suffix ≡ true)
 
 abbrev pub ForgeryInRange : Forgery → Type 0
 ForgeryInRange f = IsMember f.member × DeviceInRange f.from × SignedInRange f.signed
@@ -146,18 +158,14 @@ ForgeryInRange f = IsMember f.member × DeviceInRange f.from × SignedInRange f.
 -- ---- reading
 
 unfoldable pub what_word_of : List ℕ → Option WhatWord
-what_word_of word =
-    named_of what_word_name
-    (what_words.Insert ∷ what_words.Raw ∷ what_words.Add ∷ what_words.Remove ∷ what_words.Role ∷ what_words.Device
-    ∷ what_words.DropDevice ∷ what_words.Upgrade ∷ [])
-    word
+what_word_of word = named_of what_word_name
+    (what_words.Insert ∷ what_words.Raw ∷ what_words.Add ∷ what_words.Remove ∷ what_words.Role
+    ∷ what_words.Device ∷ what_words.DropDevice ∷ what_words.Upgrade ∷ []) word
 
 unfoldable pub suffix_word_of : List ℕ → Option SuffixWord
-suffix_word_of word =
-    named_of suffix_word_name
-    (suffix_words.Number ∷ suffix_words.Base ∷ suffix_words.Epoch ∷ suffix_words.Leaf ∷ suffix_words.Wrap ∷ suffix_words.Drop
-    ∷ suffix_words.Version ∷ suffix_words.Device ∷ [])
-    word
+suffix_word_of word = named_of suffix_word_name
+    (suffix_words.Number ∷ suffix_words.Base ∷ suffix_words.Epoch ∷ suffix_words.Leaf
+    ∷ suffix_words.Wrap ∷ suffix_words.Drop ∷ suffix_words.Version ∷ suffix_words.Device ∷ []) word
 
 unfoldable pub lone_word_of : List ℕ → Option LoneWord
 lone_word_of word = named_of lone_word_name (lone_words.Commit ∷ lone_words.Previous ∷ []) word
@@ -198,26 +206,40 @@ abbrev pub signed_upgrade : Option Suffix → Signed
 signed_upgrade suffix = record { what = whats.Change changes.Upgrade; suffix = suffix }
 
 abbrev pub signed_with : WhatWord → List ℕ → Option Signed
-signed_with what_words.Insert words =
-    option_map (λ p. record { what = whats.Insert (record { at = p.0; text = p.1.0 }); suffix = p.1.1 }) (pair_of number_of (last_of text_of) words)
-signed_with what_words.Raw words = option_map (λ p. record { what = whats.Raw p.0; suffix = p.1 }) (last_of hex_of words)
-signed_with what_words.Add words =
-    option_map (λ p. record { what = whats.Change (changes.Add (record { member = p.0; role = p.1.0 })); suffix = p.1.1 }) (pair_of member_of (last_of role_of) words)
-signed_with what_words.Remove words = option_map (λ p. record { what = whats.Change (changes.Remove p.0); suffix = p.1 }) (last_of member_of words)
-signed_with what_words.Role words =
-    option_map (λ p. record { what = whats.Change (changes.SetRole (record { member = p.0; role = p.1.0 })); suffix = p.1.1 }) (pair_of member_of (last_of role_of) words)
-signed_with what_words.Device words =
-    option_map (λ p. record { what = whats.Change (changes.AddDevice (record { member = p.0; number = p.1.0 })); suffix = p.1.1 }) (pair_of member_of (last_of device_number_of) words)
-signed_with what_words.DropDevice words =
-    option_map (λ p. record { what = whats.Change (changes.DropDevice (record { member = p.0; number = p.1.0 })); suffix = p.1.1 }) (pair_of member_of (last_of device_number_of) words)
-signed_with what_words.Upgrade words = option_map (λ suffix. signed_upgrade (Some suffix)) (suffix_of words)
+signed_with what_words.Insert words = option_map
+    (λ p. record { what = whats.Insert (record { at = p.0; text = p.1.0 }); suffix = p.1.1 })
+    (pair_of number_of (last_of text_of) words)
+signed_with what_words.Raw words =
+    option_map (λ p. record { what = whats.Raw p.0; suffix = p.1 }) (last_of hex_of words)
+signed_with what_words.Add words = option_map (λ p. record {
+  what = whats.Change (changes.Add (record { member = p.0; role = p.1.0 }));
+  suffix = p.1.1;
+}) (pair_of member_of (last_of role_of) words)
+signed_with what_words.Remove words =
+    option_map (λ p. record { what = whats.Change (changes.Remove p.0); suffix = p.1 })
+    (last_of member_of words)
+signed_with what_words.Role words = option_map (λ p. record {
+  what = whats.Change (changes.SetRole (record { member = p.0; role = p.1.0 }));
+  suffix = p.1.1;
+}) (pair_of member_of (last_of role_of) words)
+signed_with what_words.Device words = option_map (λ p. record {
+  what = whats.Change (changes.AddDevice (record { member = p.0; number = p.1.0 }));
+  suffix = p.1.1;
+}) (pair_of member_of (last_of device_number_of) words)
+signed_with what_words.DropDevice words = option_map (λ p. record {
+  what = whats.Change (changes.DropDevice (record { member = p.0; number = p.1.0 }));
+  suffix = p.1.1;
+}) (pair_of member_of (last_of device_number_of) words)
+signed_with what_words.Upgrade words =
+    option_map (λ suffix. signed_upgrade (Some suffix)) (suffix_of words)
 
 abbrev pub suffix_fits : Signed → Bool
 suffix_fits s = may_suffix s.what s.suffix
 
 -- what is signed, whether or not the suffix may follow
 unfoldable pub stated_of : List ℕ → Option Signed
-stated_of words = lone_or (codes "upgrade") (signed_upgrade None) (keyed_of what_word_of signed_with) words
+stated_of words =
+    lone_or (codes "upgrade") (signed_upgrade None) (keyed_of what_word_of signed_with) words
 
 unfoldable pub signed_of : List ℕ → Option Signed
 signed_of words = passing suffix_fits (stated_of words)

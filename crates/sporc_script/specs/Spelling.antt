@@ -1,5 +1,7 @@
--- How the lines of a play script are spelled: words with one space between them, numbers in decimal.
-use Rattle.std.specs.Prelude.{◌≡◌, ℕ, ◌^◌, ◌<◌, ◌==◌, if◌then◌else◌, List, ◌++◌, codes, true, Option, None, Some}
+-- How the lines of a play script are spelled: words with one space between them, numbers in
+-- decimal.
+use Rattle.std.specs.Prelude.{◌≡◌, ℕ, ◌^◌, ◌<◌, ◌==◌, if◌then◌else◌, List, ◌++◌, codes, true}
+use Rattle.std.specs.Prelude.{Option, None, Some}
 use Rattle.std.specs.Fmt.{decimal}
 use Rattle.std.specs.Str.{all_scalars}
 use Rattle.sporc_member.specs.declared.device.Device.{Device}
@@ -19,7 +21,9 @@ use Rattle.sporc_script.specs.declared.member_role.MemberRole.{MemberRole}
 use Rattle.sporc_script.specs.declared.command.Pair.{Pair}
 use Rattle.sporc_script.specs.declared.command.Restart.{Restart}
 use Rattle.sporc_script.specs.declared.roster_change.RosterChange.{RosterChange}
-use Rattle.sporc_script.specs.declared.roster_change.RosterChange.TheVariants.{Add, Remove as Leave, SetRole, AddDevice, DropDevice, Upgrade}
+use Rattle.sporc_script.specs.declared.roster_change.RosterChange.TheVariants.{Add, Remove as Leave}
+use Rattle.sporc_script.specs.declared.roster_change.RosterChange.TheVariants.{SetRole, AddDevice}
+use Rattle.sporc_script.specs.declared.roster_change.RosterChange.TheVariants.{DropDevice, Upgrade}
 use Rattle.sporc_script.specs.declared.command.RosterEdit.{RosterEdit}
 use Rattle.sporc_script.specs.declared.command.Tree.{Tree}
 use Rattle.sporc_script.specs.declared.command.Width.{Width}
@@ -85,7 +89,9 @@ width_name Eight = codes "8"
 
 -- a device as a word: its member's number alone for the first one
 abbrev pub device_text : Device → List ℕ
-device_text d = if d.number == FIRST_DEVICE then decimal d.member else decimal d.member ++ (codes "." ++ decimal d.number)
+device_text d =
+    if d.number == FIRST_DEVICE then decimal d.member
+    else decimal d.member ++ (codes "." ++ decimal d.number)
 
 -- as two words
 abbrev pub member_device_spelling : Device → List ℕ
@@ -106,7 +112,8 @@ abbrev pub device_pair_spelling : DevicePair → List ℕ
 device_pair_spelling p = device_text p.first ++ (codes " " ++ device_text p.second)
 
 abbrev pub give_spelling : Give → List ℕ
-give_spelling g = device_text g.device ++ (codes " " ++ (decimal g.position ++ (codes " " ++ decimal g.entry)))
+give_spelling g =
+    device_text g.device ++ (codes " " ++ (decimal g.position ++ (codes " " ++ decimal g.entry)))
 
 abbrev pub restart_spelling : Restart → List ℕ
 restart_spelling r = device_text r.device ++ (codes " " ++ decimal r.entries)
@@ -121,7 +128,8 @@ text_edit_spelling (Remove e) = codes "remove " ++ (decimal e.at ++ (codes " " +
 -- an edit, and what it is stated on
 abbrev pub stated_spelling : Option ℕ → TextEdit → List ℕ
 stated_spelling None change = text_edit_spelling change
-stated_spelling (Some seen) change = codes "seen " ++ (decimal seen ++ (codes " " ++ text_edit_spelling change))
+stated_spelling (Some seen) change =
+    codes "seen " ++ (decimal seen ++ (codes " " ++ text_edit_spelling change))
 
 abbrev pub edit_spelling : Edit → List ℕ
 edit_spelling e = device_text e.device ++ (codes " " ++ stated_spelling e.seen e.change)
@@ -137,7 +145,8 @@ roster_change_spelling Upgrade = codes "upgrade"
 abbrev pub roster_edit_spelling : RosterEdit → List ℕ
 roster_edit_spelling e = device_text e.device ++ (codes " " ++ roster_change_spelling e.change)
 
--- ---- the values: numbers fit their types, a member's is not 0, and characters are Unicode scalar values
+-- ---- the values: numbers fit their types, a member's is not 0, and characters are Unicode scalar
+-- values
 
 abbrev pub IsDeviceNumber : ℕ → Type 0
 IsDeviceNumber n = n < 2 ^ 8

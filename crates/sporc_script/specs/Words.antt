@@ -1,5 +1,7 @@
 -- Words of a line: one space stands between two of them, and a space in a quoted text ends none.
-use Rattle.std.specs.Prelude.{◌≡◌, ◌≢◌, ℕ, ◌<◌, ◌^◌, ◌==◌, nat_lt, ◌&&◌, if◌then◌else◌, Bool, false, List, [], ◌∷◌, ◌++◌, length, slice_index, Option, None, Some, option_map}
+use Rattle.std.specs.Prelude.{◌≡◌, ◌≢◌, ℕ, ◌<◌, ◌^◌, ◌==◌, nat_lt, ◌&&◌, if◌then◌else◌, Bool, false}
+use Rattle.std.specs.Prelude.{List, [], ◌∷◌, ◌++◌, length, slice_index, Option, None, Some}
+use Rattle.std.specs.Prelude.{option_map}
 use Rattle.std.specs.List.{AllByRecursion}
 use Rattle.std.specs.Str.{bytes_eq}
 use Rattle.std.specs.Str.Parse.{digits_value}
@@ -33,7 +35,9 @@ with_first b parts = (b ∷ parts.0, parts.1)
 -- what stands before the first space that is in no quoted text, and what stands after it
 unfoldable pub cut_at : Place → List ℕ → Option (List ℕ × List ℕ)
 cut_at place [] = None
-cut_at place (b ∷ bs) = if ends_word place b then Some ([], bs) else option_map (with_first b) (cut_at (place_after place b) bs)
+cut_at place (b ∷ bs) =
+    if ends_word place b then Some ([], bs)
+    else option_map (with_first b) (cut_at (place_after place b) bs)
 
 -- the first word of a line that has more, and those after it
 abbrev pub cut : List ℕ → Option (List ℕ × List ℕ)

@@ -1,7 +1,11 @@
 //! What the lines of a play script declare.
 
 ghost use Rattle.std.specs.Prelude.{◌≡◌, OnOk};
-ghost use Rattle.sporc_script.specs.Declarations.{declared_after, is_among, is_client, is_declared, is_joiner, is_known_change, is_known_suffix, is_known_what, is_rogue, may_declare, may_declare_device, may_follow, may_sign, names_performers, none_declared};
+ghost use Rattle.sporc_script.specs.Declarations.{declared_after, is_among, is_client, is_declared};
+ghost use Rattle.sporc_script.specs.Declarations.{is_joiner, is_known_change, is_known_suffix};
+ghost use Rattle.sporc_script.specs.Declarations.{is_known_what, is_rogue, may_declare};
+ghost use Rattle.sporc_script.specs.Declarations.{may_declare_device, may_follow, may_sign};
+ghost use Rattle.sporc_script.specs.Declarations.{names_performers, none_declared};
 
 use crate::command::Command;
 use crate::roster_change::RosterChange;
@@ -31,7 +35,15 @@ impl Model for Declared {
 
     ghost Value = { Declared };
 
-    ghost view = { λ d. record { numbers = d.numbers.items; clients = d.clients.items; rogues = d.rogues.items; joiners = d.joiners.items; has_admin = d.has_admin; started = d.started; begun = d.begun } };
+    ghost view = { λ d. record {
+      numbers = d.numbers.items;
+      clients = d.clients.items;
+      rogues = d.rogues.items;
+      joiners = d.joiners.items;
+      has_admin = d.has_admin;
+      started = d.started;
+      begun = d.begun;
+    } };
 }
 
 impl Declared {

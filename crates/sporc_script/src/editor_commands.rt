@@ -1,7 +1,8 @@
 //! One line of an editor script, read.
 
 ghost use Rattle.std.specs.Prelude.{◌≡◌, IfOk};
-ghost use Rattle.sporc_script.specs.EditorLines.{editor_of, editor_with, key_of_word, new_device_of, newcomer_of};
+ghost use Rattle.sporc_script.specs.EditorLines.{editor_of, editor_with, key_of_word};
+ghost use Rattle.sporc_script.specs.EditorLines.{new_device_of, newcomer_of};
 
 use crate::editor_line::{EditorCommand, EditorWord, KEY_BYTES};
 use crate::edits::{read_insertion, read_removal};

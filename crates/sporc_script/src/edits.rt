@@ -1,7 +1,8 @@
 //! Edits of the text and of the members, read.
 
 ghost use Rattle.std.specs.Prelude.{◌≡◌, IfOk, Some, option_map};
-ghost use Rattle.sporc_script.specs.Edits.{edit_of, insertion_of, removal_of, roster_change_of, roster_edit_of, stated_of, text_edit_of};
+ghost use Rattle.sporc_script.specs.Edits.{edit_of, insertion_of, removal_of, roster_change_of};
+ghost use Rattle.sporc_script.specs.Edits.{roster_edit_of, stated_of, text_edit_of};
 ghost use Rattle.sporc_script.specs.Readers.{pair_of};
 ghost use Rattle.sporc_script.specs.Words.{number_of};
 
@@ -55,7 +56,8 @@ fn read_stated(alloc: Global, words: &[u8]) -> Result<Option<(Option<u64>, TextE
 
 // `S`, and an edit
 fn read_seen(alloc: Global, words: &[u8]) -> Result<Option<(Option<u64>, TextEdit)>, Memory>
-    ensures { IfOk result (λ found. found ≡ option_map (λ p. (Some p.0, p.1)) (pair_of number_of text_edit_of words.now)) }
+    ensures { IfOk result (λ found. found
+        ≡ option_map (λ p. (Some p.0, p.1)) (pair_of number_of text_edit_of words.now)) }
 {
     let Some((first, rest)) = cut(words) else {
         return Ok(None);

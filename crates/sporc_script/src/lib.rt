@@ -1,8 +1,9 @@
 //! Scripts: what members of a group do, a line each.
 //!
-//! [`read_play`] reads a play, which declares members and then has commands, and [`read_editor`] the lines of one editor.
-//! Both answer the lines that are not skipped, with their numbers and the values that their words stand for, or the first
-//! line outside the grammar. The grammar stands in docs/FORMATS.md:
+//! [`read_play`] reads a play, which declares members and then has commands, and [`read_editor`]
+//! the lines of one editor. Both answer the lines that are not skipped, with their numbers and the
+//! values that their words stand for, or the first line outside the grammar. The grammar stands in
+//! docs/FORMATS.md:
 //!
 //! ```text
 //! member 1 admin
@@ -12,10 +13,11 @@
 //! sign 2 from 1 insert 0 "x" with number 7
 //! ```
 //!
-//! Proved: a text is one script or has one first line outside the grammar, and the readers answer which. A line is in the
-//! grammar if it is how some command is spelled (`specs/Commands.antt`, `specs/EditorLines.antt`) that may follow the lines
-//! before it (`specs/Declarations.antt`). Only tested: that reading does not run out of memory if there is
-//! ample (`sporc_files_tests`). Neither: how long it takes.
+//! Proved: a text is one script or has one first line outside the grammar, and the readers answer
+//! which. A line is in the grammar if it is how some command is spelled (`specs/Commands.antt`,
+//! `specs/EditorLines.antt`) that may follow the lines before it (`specs/Declarations.antt`). Only
+//! tested: that reading does not run out of memory if there is ample (`sporc_files_tests`).
+//! Neither: how long it takes.
 #![tactic(auto)]
 
 mod command;

@@ -1,6 +1,7 @@
 //! Limits of what is read, played and edited.
 
-/// The most bytes of a text that is read as a script: 1 GiB, as many as a file has at most. A play takes fewer.
+/// The most bytes of a text that is read as a script: 1 GiB, as many as a file has at most. A play
+/// takes fewer.
 pub const MAX_SCRIPT_BYTES: usize = 1 << 30;
 
 /// The most edits of a generated run.

@@ -4,8 +4,10 @@ ghost use Rattle.std.specs.Prelude.{◌≡◌};
 ghost use Rattle.sporc_script.specs.EditorLines.{editor_word_name, editor_word_of};
 ghost use Rattle.sporc_script.specs.Edits.{roster_word_of, text_word_of};
 ghost use Rattle.sporc_script.specs.Plain.{height_of, keyword_of, role_of, width_of};
-ghost use Rattle.sporc_script.specs.Signs.{lone_word_name, lone_word_of, suffix_word_name, suffix_word_of, what_word_name, what_word_of};
-ghost use Rattle.sporc_script.specs.Spelling.{height_name, keyword_name, role_name, roster_word_name, text_word_name, width_name};
+ghost use Rattle.sporc_script.specs.Signs.{lone_word_name, lone_word_of, suffix_word_name};
+ghost use Rattle.sporc_script.specs.Signs.{suffix_word_of, what_word_name, what_word_of};
+ghost use Rattle.sporc_script.specs.Spelling.{height_name, keyword_name, role_name};
+ghost use Rattle.sporc_script.specs.Spelling.{roster_word_name, text_word_name, width_name};
 
 use crate::command::{Height, Keyword, Width};
 use crate::editor_line::EditorWord;

@@ -1,7 +1,9 @@
 //! Lines that are words and numbers alone.
 
 ghost use Rattle.std.specs.Prelude.{◌≡◌};
-ghost use Rattle.sporc_script.specs.Plain.{flip_of, further_device_of, give_of, member_device_of, member_role_of, restart_of, tree_of, two_devices_of, two_members_of};
+ghost use Rattle.sporc_script.specs.Plain.{flip_of, further_device_of, give_of, member_device_of};
+ghost use Rattle.sporc_script.specs.Plain.{member_role_of, restart_of, tree_of, two_devices_of};
+ghost use Rattle.sporc_script.specs.Plain.{two_members_of};
 
 use crate::command::{DevicePair, Flip, Give, Pair, Restart, Tree};
 use crate::member_role::MemberRole;

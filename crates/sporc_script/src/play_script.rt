@@ -73,7 +73,8 @@ fn read_numbered(
     line: &[u8],
 ) -> Result<Option<PlayLine>, LineFault>
     ensures ok { IfOk result (λ found. ReadsLine declared.now number line.now found) }
-    ensures err { (k : ℕ) → result ≡ Err (faults.Line k) → IsBadLine declared.now number line.now k }
+    ensures err { (k : ℕ) → result ≡ Err (faults.Line k)
+        → IsBadLine declared.now number line.now k }
 {
     if is_skipped(line) {
         return Ok(None);

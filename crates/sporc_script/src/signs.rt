@@ -7,7 +7,9 @@ ghost use Rattle.sporc_script.specs.declared.sign.WhatWord.{WhatWord};
 ghost use Rattle.sporc_script.specs.declared.sign.WhatWord.TheVariants as what_words;
 ghost use Rattle.sporc_script.specs.Plain.{role_of};
 ghost use Rattle.sporc_script.specs.Readers.{behind_of, device_number_of, member_of, pair_of};
-ghost use Rattle.sporc_script.specs.Signs.{forgery_of, last_of, lone_suffix, needs_change, signed_of, signed_upgrade, signed_with, stated_of, suffix_fits, suffix_of, suffix_with, version_of};
+ghost use Rattle.sporc_script.specs.Signs.{forgery_of, last_of, lone_suffix, needs_change};
+ghost use Rattle.sporc_script.specs.Signs.{signed_of, signed_upgrade, signed_with, stated_of};
+ghost use Rattle.sporc_script.specs.Signs.{suffix_fits, suffix_of, suffix_with, version_of};
 
 use crate::hex_word::parse_hex;
 use crate::member_role::MemberRole;
@@ -53,7 +55,8 @@ pub fn read_forgery(alloc: Global, words: &[u8]) -> Result<Option<Forgery>, Memo
 
 // What stands behind this word.
 fn behind<'a>(words: &'a [u8], name: &[u8]) -> Option<&'a [u8]>
-    ensures { MatchOption result (behind_of name.now Some words.now ≡ None) (λ rest. behind_of name.now Some words.now ≡ Some rest.now) }
+    ensures { MatchOption result (behind_of name.now Some words.now ≡ None)
+        (λ rest. behind_of name.now Some words.now ≡ Some rest.now) }
 {
     let (first, rest) = cut(words)?;
     if is_same(first, name) {
@@ -252,7 +255,8 @@ fn read_suffixed_upgrade(words: &[u8]) -> Option<Signed>
 
 // The first word, and the suffix that may follow it.
 fn split_suffix(words: &[u8]) -> Option<(&[u8], Option<Suffix>)>
-    ensures { MatchOption result (last_of Some words.now ≡ None) (λ parts. last_of Some words.now ≡ Some (parts.0.now, parts.1)) }
+    ensures { MatchOption result (last_of Some words.now ≡ None)
+        (λ parts. last_of Some words.now ≡ Some (parts.0.now, parts.1)) }
 {
     let Some((first, rest)) = cut(words) else {
         return Some((words, None));

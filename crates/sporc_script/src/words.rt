@@ -1,8 +1,11 @@
 //! Words of a line, and numbers as they are written.
 
-ghost use Rattle.std.specs.Prelude.{◌≡◌, ◌≢◌, ◌<◌, ◌↔◌, ◌++◌, ℕ, List, IsTrue, MatchOption, None, Some};
-ghost use Rattle.sporc_script.specs.Words.{IsPlain, Lacks, Splits, cut, ends_word, number_of, place_after};
-ghost use Rattle.sporc_script.specs.Readers.{device_number_of, device_of, further_number_of, member_of, u32_of};
+ghost use Rattle.std.specs.Prelude.{◌≡◌, ◌≢◌, ◌<◌, ◌↔◌, ◌++◌, ℕ, List, IsTrue, MatchOption, None};
+ghost use Rattle.std.specs.Prelude.{Some};
+ghost use Rattle.sporc_script.specs.Words.{IsPlain, Lacks, Splits, cut, ends_word, number_of};
+ghost use Rattle.sporc_script.specs.Words.{place_after};
+ghost use Rattle.sporc_script.specs.Readers.{device_number_of, device_of, further_number_of};
+ghost use Rattle.sporc_script.specs.Readers.{member_of, u32_of};
 
 use sporc_member::Device;
 
@@ -38,7 +41,8 @@ fn ends_word(place: Place, b: u8) -> bool
 
 // The first word of a line that has more, and those after it.
 pub fn cut(line: &[u8]) -> Option<(&[u8], &[u8])>
-    ensures value { MatchOption result (cut line.now ≡ None) (λ parts. cut line.now ≡ Some (parts.0.now, parts.1.now)) }
+    ensures value { MatchOption result (cut line.now ≡ None)
+        (λ parts. cut line.now ≡ Some (parts.0.now, parts.1.now)) }
 {
     let mut place = Place::Outside;
     for (i, b) in line.iter().enumerate() {
@@ -105,7 +109,8 @@ pub fn parse_u64(word: &[u8]) -> Option<u64>
     }
 }
 
-/// The number that the whole word is, as [`parse_u64`] reads it, if it fits 32 bits: a position, or a count of rounds.
+/// The number that the whole word is, as [`parse_u64`] reads it, if it fits 32 bits: a position, or
+/// a count of rounds.
 #[tactic(auto, unfolding(crate::specs::Readers::u32_of))]
 pub fn parse_u32(word: &[u8]) -> Option<u32>
     ensures value { result ≡ u32_of word.now }
@@ -153,7 +158,8 @@ pub fn parse_further_number(word: &[u8]) -> Option<u8>
     None
 }
 
-/// The device that the whole word is: `M`, its member's number, for the first one; `M.D` for a further one, D from 1 to 255.
+/// The device that the whole word is: `M`, its member's number, for the first one; `M.D` for a
+/// further one, D from 1 to 255.
 #[tactic(auto, using(crate::proofs::DeviceWords::device_alone))]
 pub fn parse_device(word: &[u8]) -> Option<Device>
     ensures value { result ≡ device_of word.now }

@@ -1,5 +1,6 @@
 -- Sessions that a server runs beside one another, for inner contracts.
-use Rattle.std.specs.Prelude.{◌≡◌, ◌≢◌, ◌+◌, ◌<◌, ◌≤◌, ◌^◌, ℕ, List, Option, Some, None, Result, Err}
+use Rattle.std.specs.Prelude.{◌≡◌, ◌≢◌, ◌+◌, ◌<◌, ◌≤◌, ◌^◌, ℕ, List, Option, Some, None, Result}
+use Rattle.std.specs.Prelude.{Err}
 use Rattle.sporc_outside.specs.Nets.{NetTold}
 use Rattle.sporc_turn.specs.declared.known.Known.{Known}
 use Rattle.sporc_turn.specs.declared.pass.Pass.{Pass}
@@ -12,11 +13,13 @@ use Rattle.sporc_serve.specs.declared.desk.Desk.{Desk}
 use Rattle.sporc_serve.specs.declared.fault.ServeFault.{ServeFault}
 use Rattle.sporc_serve.specs.declared.fault.ServeFault.TheVariants.{Unkept}
 use Rattle.sporc_serve.specs.declared.item.Item.{Item}
-use Rattle.sporc_serve.specs.Visits.{Visit, Visits, CameOpen, came, handed_back, AreFrom, AreBehind, SomeWorn, NoneUnkept, TellsOf}
+use Rattle.sporc_serve.specs.Visits.{Visit, Visits, CameOpen, came, handed_back, AreFrom, AreBehind}
+use Rattle.sporc_serve.specs.Visits.{SomeWorn, NoneUnkept, TellsOf}
 
--- the sessions that were served, of so many, where the pass that comes back has read this as the next ticket
-pub record Crowd (genesis : Genesis)
-    (before after : Known Item) (read : ℕ) (old new : NetTold) (sessions : ℕ) (result : Result (Unit {0}) ServeFault) (visits : List Visit) : Type 0 where
+-- the sessions that were served, of so many, where the pass that comes back has read this as the
+-- next ticket
+pub record Crowd (genesis : Genesis) (before after : Known Item) (read : ℕ) (old new : NetTold)
+    (sessions : ℕ) (result : Result (Unit {0}) ServeFault) (visits : List Visit) : Type 0 where
   pub visits_are : Visits genesis before after visits
   pub came_open : CameOpen visits
   pub coming : AreFrom old.coming new.coming (came visits)
@@ -31,11 +34,14 @@ IsCrowd genesis before after read old new sessions result =
     (visits : List Visit) × Crowd genesis before after read old new sessions result visits
 
 -- a pass of this lock with number 0, which has room for so many splits
-abbrev pub IsFirst : {T : Type 0} {tail : Ghosts T} → Turn (Desk T tail) Item → Option (Pass Item) → ℕ → Type 0
+abbrev pub IsFirst : {T : Type 0} {tail : Ghosts T} → Turn (Desk T tail) Item → Option (Pass Item)
+    → ℕ → Type 0
 IsFirst turn None sessions = ⊥
-IsFirst turn (Some p) sessions = IsPassOf turn p × ((known_of p).number ≡ 0) × ((known_of p).splits + sessions < 2 ^ 32)
+IsFirst turn (Some p) sessions =
+    IsPassOf turn p × ((known_of p).number ≡ 0) × ((known_of p).splits + sessions < 2 ^ 32)
 
 -- a pass of this lock with another number
-abbrev pub IsOther : {T : Type 0} {tail : Ghosts T} → Turn (Desk T tail) Item → Option (Pass Item) → Type 0
+abbrev pub IsOther : {T : Type 0} {tail : Ghosts T} → Turn (Desk T tail) Item
+    → Option (Pass Item) → Type 0
 IsOther turn None = ⊥
 IsOther turn (Some p) = IsPassOf turn p × ((known_of p).number ≢ 0)

@@ -1,5 +1,6 @@
 -- Why a step of a session is its last.
-use Rattle.std.specs.Prelude.{◌≡◌, ◌<◌, ◌≤◌, ℕ, List, [], length, Option, Some, None, Result, Ok, Err}
+use Rattle.std.specs.Prelude.{◌≡◌, ◌<◌, ◌≤◌, ℕ, List, [], length, Option, Some, None, Result, Ok}
+use Rattle.std.specs.Prelude.{Err}
 use Rattle.std.specs.Io.KnownBytes.{Consumes, Appends, IsAtEnd}
 use Rattle.sporc_outside.specs.Counts.{Rose}
 use Rattle.sporc_outside.specs.Streams.{StreamTold}
@@ -11,14 +12,19 @@ use Rattle.sporc_wire.specs.ToServer.{to_server_of}
 use Rattle.sporc_order.specs.declared.session.Answer.{Answer}
 use Rattle.sporc_order.specs.declared.session.Answer.TheVariants.{Close}
 use Rattle.sporc_serve.specs.declared.end.SessionEnd.{SessionEnd}
-use Rattle.sporc_serve.specs.declared.end.SessionEnd.TheVariants.{Closed, LinkEnded, LinkFault, BadFrame, Worn, Memory, Unkept}
+use Rattle.sporc_serve.specs.declared.end.SessionEnd.TheVariants.{Closed, LinkEnded, LinkFault}
+use Rattle.sporc_serve.specs.declared.end.SessionEnd.TheVariants.{BadFrame, Worn, Memory, Unkept}
 use Rattle.sporc_serve.specs.Sending.{bytes_of}
 
--- why no answer is to follow, where a link was given these bytes and its count went from `before` to `after`
+-- why no answer is to follow, where a link was given these bytes and its count went from `before`
+-- to `after`
 abbrev pub IsSendEnd : Answer → Option (List ℕ) → Option (List ℕ) → ℕ → ℕ → SessionEnd → Type 0
-IsSendEnd answer written written' before after Closed = (answer ≡ Close) × Appends written written' []
-IsSendEnd answer written written' before after LinkFault = AppendsLess written written' (bytes_of answer) × Rose before after
-IsSendEnd answer written written' before after Memory = Appends written written' [] × (0 < length (bytes_of answer))
+IsSendEnd answer written written' before after Closed =
+    (answer ≡ Close) × Appends written written' []
+IsSendEnd answer written written' before after LinkFault =
+    AppendsLess written written' (bytes_of answer) × Rose before after
+IsSendEnd answer written written' before after Memory =
+    Appends written written' [] × (0 < length (bytes_of answer))
 IsSendEnd answer written written' before after LinkEnded = ⊥
 IsSendEnd answer written written' before after BadFrame = ⊥
 IsSendEnd answer written written' before after (Worn ticket) = ⊥
@@ -44,9 +50,12 @@ pub record TakesPiece (a b : Inlet) (piece : List ℕ) : Type 0 where
 
 -- why no message is to follow
 abbrev pub IsNextEnd : Inlet → Inlet → SessionEnd → Type 0
-IsNextEnd a b LinkEnded = Consumes a.left b.left [] × IsAtEnd b.left × ((next to_server_of a.unread).answer ≡ Ok None)
-IsNextEnd a b LinkFault = Consumes a.left b.left [] × Rose a.faults b.faults × ((next to_server_of a.unread).answer ≡ Ok None)
-IsNextEnd a b BadFrame = Consumes a.left b.left [] × (fault : FrameFault) × ((next to_server_of a.unread).answer ≡ Err fault)
+IsNextEnd a b LinkEnded =
+    Consumes a.left b.left [] × IsAtEnd b.left × ((next to_server_of a.unread).answer ≡ Ok None)
+IsNextEnd a b LinkFault = Consumes a.left b.left [] × Rose a.faults b.faults
+    × ((next to_server_of a.unread).answer ≡ Ok None)
+IsNextEnd a b BadFrame = Consumes a.left b.left [] × (fault : FrameFault)
+    × ((next to_server_of a.unread).answer ≡ Err fault)
 IsNextEnd a b Memory = (piece : List ℕ) × Consumes a.left b.left piece
 IsNextEnd a b Closed = ⊥
 IsNextEnd a b (Worn ticket) = ⊥
@@ -77,4 +86,5 @@ IsFound a b (Err end) = IsNextEnd a b end
 
 -- the first message, or why there is none
 abbrev pub IsFirst : Inlet → Inlet → Result ToServer SessionEnd → Type 0
-IsFirst a b result = (mid : Inlet) × (bytes : List ℕ) × Waits a mid bytes × (mid.faults ≤ b.faults) × IsFound mid b result
+IsFirst a b result = (mid : Inlet) × (bytes : List ℕ) × Waits a mid bytes × (mid.faults ≤ b.faults)
+    × IsFound mid b result

@@ -1,5 +1,7 @@
--- The log that the sessions of a server share: the document, and its entries with the number of each one's pass.
-use Rattle.std.specs.Prelude.{◌≡◌, ◌+◌, ℕ, Bool, true, false, List, [], ◌∷◌, length, Option, None, Some, Result, Ok, Err}
+-- The log that the sessions of a server share: the document, and its entries with the number of
+-- each one's pass.
+use Rattle.std.specs.Prelude.{◌≡◌, ◌+◌, ℕ, Bool, true, false, List, [], ◌∷◌, length, Option, None}
+use Rattle.std.specs.Prelude.{Some, Result, Ok, Err}
 use Rattle.sporc_entry.specs.declared.genesis.Genesis.{Genesis}
 use Rattle.sporc_head.specs.declared.refusal.Refusal.{Refusal}
 use Rattle.sporc_head.specs.HeadChecks.{head_fault}
@@ -54,7 +56,8 @@ unless_refused entry None = entry ∷ []
 
 -- what a message adds to an order
 abbrev pub added_of : OrderModel → Bool → ToServer → List (List ℕ)
-added_of o true (Submit entry) = unless_refused entry (head_fault o.genesis None o.entries (length o.entries + 1) entry)
+added_of o true (Submit entry) =
+    unless_refused entry (head_fault o.genesis None o.entries (length o.entries + 1) entry)
 added_of o true (Hello document member) = []
 added_of o true (Pull from) = []
 added_of o false message = []

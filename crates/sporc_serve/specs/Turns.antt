@@ -12,7 +12,8 @@ use Rattle.sporc_order.specs.declared.tail.Unanswered.{Unanswered}
 use Rattle.sporc_order.specs.declared.tail.Unanswered.TheVariants as unanswered
 use Rattle.sporc_order.specs.Sessions.{step_of}
 use Rattle.sporc_serve.specs.declared.end.SessionEnd.{SessionEnd}
-use Rattle.sporc_serve.specs.declared.end.SessionEnd.TheVariants.{Closed, LinkEnded, LinkFault, BadFrame, Worn, Memory, Unkept}
+use Rattle.sporc_serve.specs.declared.end.SessionEnd.TheVariants.{Closed, LinkEnded, LinkFault}
+use Rattle.sporc_serve.specs.declared.end.SessionEnd.TheVariants.{BadFrame, Worn, Memory, Unkept}
 use Rattle.sporc_serve.specs.declared.item.Item.{Item}
 use Rattle.sporc_serve.specs.Logs.{order_at, added_of, placed_by}
 
@@ -25,14 +26,16 @@ pub record SeesAndAdds (before after : Known Item) (found items : List Item) : T
   pub start : after.start ≡ before.start
 
 -- a message was answered at the log that was found
-pub record IsAnswered (genesis : Genesis) (before after : Known Item) (greeted greeted' : Bool) (message : ToServer) (answer : Answer)
-    (found : List Item) : Type 0 where
+pub record IsAnswered (genesis : Genesis) (before after : Known Item) (greeted greeted' : Bool)
+    (message : ToServer) (answer : Answer) (found : List Item) : Type 0 where
   pub answer_is : answer ≡ (step_of (order_at genesis found) greeted message).answer
   pub greeted_is : greeted' ≡ (step_of (order_at genesis found) greeted message).is_greeted
-  pub adds : SeesAndAdds before after found (placed_by before.number (added_of (order_at genesis found) greeted message))
+  pub adds : SeesAndAdds before after found
+      (placed_by before.number (added_of (order_at genesis found) greeted message))
 
 -- a turn ended without an answer, and changed nothing
-pub record LeavesUnanswered (before after : Known Item) (greeted greeted' : Bool) (found : List Item) : Type 0 where
+pub record LeavesUnanswered (before after : Known Item) (greeted greeted' : Bool)
+    (found : List Item) : Type 0 where
   pub greeted_is : greeted' ≡ greeted
   pub adds : SeesAndAdds before after found []
 
@@ -51,7 +54,8 @@ IsTurnEnd (Worn ticket) = ticket ≡ MAX_TICKETS
 IsTurnEnd Memory = Unit {0}
 IsTurnEnd Unkept = Unit {0}
 
--- a session that ended for want of a ticket has read that every ticket was drawn, where its pass read this as the next one
+-- a session that ended for want of a ticket has read that every ticket was drawn, where its pass
+-- read this as the next one
 abbrev pub HasReadLast : ℕ → SessionEnd → Type 0
 HasReadLast read (Worn ticket) = MAX_TICKETS ≤ read
 HasReadLast read Closed = Unit {0}
@@ -63,11 +67,14 @@ HasReadLast read Unkept = Unit {0}
 
 -- a turn that was taken to look at the log, or was not taken, and changed nothing
 abbrev pub Looks : {A : Type 0} → Known Item → Known Item → Result A SessionEnd → Type 0
-Looks before after result = (found : List Item) × SeesAndAdds before after found [] × IfErr result IsTurnEnd
+Looks before after result =
+    (found : List Item) × SeesAndAdds before after found [] × IfErr result IsTurnEnd
 
 -- one turn of a session, from what its pass knew before to what it knows after
-abbrev pub TakesTurn : Genesis → Known Item → Known Item → Bool → Bool → ToServer → Result Reply SessionEnd → Type 0
+abbrev pub TakesTurn : Genesis → Known Item → Known Item → Bool → Bool → ToServer
+    → Result Reply SessionEnd → Type 0
 TakesTurn genesis before after greeted greeted' message (Ok reply) =
-    (answer : Answer) × (found : List Item) × IsAnswered genesis before after greeted greeted' message answer found × Says answer reply
+    (answer : Answer) × (found : List Item)
+    × IsAnswered genesis before after greeted greeted' message answer found × Says answer reply
 TakesTurn genesis before after greeted greeted' message (Err end) =
     (found : List Item) × LeavesUnanswered before after greeted greeted' found × IsTurnEnd end

@@ -1,5 +1,6 @@
 -- The sessions of a server, and what they did to the log together.
-use Rattle.std.specs.Prelude.{◌≡◌, ◌≢◌, ◌⊎◌, ℕ, false, List, [], ◌∷◌, ◌++◌, length, Option, Result, Ok, Err}
+use Rattle.std.specs.Prelude.{◌≡◌, ◌≢◌, ◌⊎◌, ℕ, false, List, [], ◌∷◌, ◌++◌, length, Option, Result}
+use Rattle.std.specs.Prelude.{Ok, Err}
 use Rattle.sporc_outside.specs.Counts.{Rose}
 use Rattle.sporc_outside.specs.Told.{IsFalseIfTold, IfBoth}
 use Rattle.sporc_outside.specs.Streams.{Shuts, StreamTold}
@@ -32,8 +33,8 @@ pub record IsUnserved (v : Visit) : Type 0 where
   pub shuts : Shuts (record { before = v.before; after = v.after })
 
 module _ (genesis : Genesis) where
-  -- a session over a link by a pass that knew this at first and that at last: the link, as the session came to its end, was
-  -- as shut as it came, and then it was shut
+  -- a session over a link by a pass that knew this at first and that at last: the link, as the
+  -- session came to its end, was as shut as it came, and then it was shut
   pub record ServesSession (first last : Known Item) (v : Visit) (link : StreamTold) : Type 0 where
     pub ends : IsEnd genesis (stand_at first v.before (stream_of []) false)
         (stand_at last link (stream_of []) false) v.end
@@ -46,11 +47,11 @@ module _ (genesis : Genesis) where
   -- number 0 knew this before, and split a pass for each session and joined it back
   abbrev pub Visits : Known Item → Known Item → List Visit → Type 0
   Visits before after [] = after ≡ before
-  Visits before after (v ∷ vs) =
-      (IsUnserved v × (vs ≡ []) × (after ≡ before))
-      ⊎ ((rest : Known Item) × (last : Known Item) × IsServedSession (copied before) last v × Visits (splitting before) rest vs
-      × (last.number ≡ (copied before).number) × (after ≡ joined_with rest last) × StartsWith after.seen rest.seen × StartsWith after.seen last.seen
-      × Agrees by_of after after.seen)
+  Visits before after (v ∷ vs) = (IsUnserved v × (vs ≡ []) × (after ≡ before))
+      ⊎ ((rest : Known Item) × (last : Known Item) × IsServedSession (copied before) last v
+      × Visits (splitting before) rest vs × (last.number ≡ (copied before).number)
+      × (after ≡ joined_with rest last) × StartsWith after.seen rest.seen
+      × StartsWith after.seen last.seen × Agrees by_of after after.seen)
 
 -- no link was shut as it came
 abbrev pub CameOpen : List Visit → Type 0
@@ -71,7 +72,8 @@ abbrev pub AreFrom : Option (List StreamTold) → Option (List StreamTold) → L
 AreFrom old new links = IfBoth old new (λ before after. before ≡ links ++ after)
 
 -- told links went behind those that were handed back before
-abbrev pub AreBehind : Option (List StreamTold) → Option (List StreamTold) → List StreamTold → Type 0
+abbrev pub AreBehind : Option (List StreamTold) → Option (List StreamTold)
+    → List StreamTold → Type 0
 AreBehind old new links = IfBoth old new (λ before after. after ≡ before ++ links)
 
 -- a session ended out of memory, or at the lock's last ticket
@@ -98,16 +100,18 @@ abbrev pub NoneUnkept : List Visit → Type 0
 NoneUnkept [] = Unit {0}
 NoneUnkept (v ∷ vs) = (v.end ≢ Unkept) × NoneUnkept vs
 
--- what is answered of these sessions, of so many, where the net's count went from `before` to `after`
+-- what is answered of these sessions, of so many, where the net's count went from `before` to
+-- `after`
 abbrev pub TellsOf : ℕ → ℕ → ℕ → List Visit → Result (Unit {0}) ServeFault → Type 0
 TellsOf sessions before after visits (Ok done) = (length visits ≡ sessions) × NoneWants visits
 TellsOf sessions before after visits (Err faults.ListenFault) = Rose before after
-TellsOf sessions before after visits (Err (faults.Worn ticket)) = (ticket ≡ MAX_TICKETS) × SomeWorn ticket visits
+TellsOf sessions before after visits (Err (faults.Worn ticket)) =
+    (ticket ≡ MAX_TICKETS) × SomeWorn ticket visits
 TellsOf sessions before after visits (Err faults.Memory) = Unit {0}
 TellsOf sessions before after visits (Err faults.Unkept) = SomeUnkept visits
 
--- what is answered once one session more has ended: that an entry was not kept goes before a fault of the net, that before a ticket's,
--- and that before running out of memory
+-- what is answered once one session more has ended: that an entry was not kept goes before a fault
+-- of the net, that before a ticket's, and that before running out of memory
 abbrev pub with_end : Result (Unit {0}) ServeFault → SessionEnd → Result (Unit {0}) ServeFault
 with_end (Err faults.Unkept) end = Err faults.Unkept
 with_end (Err faults.ListenFault) Unkept = Err faults.Unkept

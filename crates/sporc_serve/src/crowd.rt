@@ -24,8 +24,8 @@ use std::alloc::Global;
 use std::sync::Wait;
 use std::thread::{Threads, join_mut};
 
-/// What a server answers, once a session more has ended: a fault of the tail goes before one of the net, that before a ticket's,
-/// and that before running out of memory.
+/// What a server answers, once a session more has ended: a fault of the tail goes before one of the
+/// net, that before a ticket's, and that before running out of memory.
 pub fn with_end(rest: Result<(), ServeFault>, end: SessionEnd) -> Result<(), ServeFault>
     ensures { result ≡ with_end rest end }
 {
@@ -53,7 +53,8 @@ fn with_worn(rest: Result<(), ServeFault>, ticket: u64) -> Result<(), ServeFault
     }
 }
 
-// Joins a session that has ended to the rest: what the server answers, and number 0's pass, which keeps the items of both.
+// Joins a session that has ended to the rest: what the server answers, and number 0's pass, which
+// keeps the items of both.
 fn joined<T: Tail>(
     turn: &Turn<Desk<T>>,
     rest: (Result<(), ServeFault>, Pass<Item>),
@@ -66,7 +67,8 @@ fn joined<T: Tail>(
     ensures known { known_of result.1 ≡ joined_with (known_of rest.1) (known_of session.1) }
     ensures read { read_of result.1 ≡ max (read_of rest.1) (read_of session.1) }
     ensures lock { IsPassOf turn.now result.1 }
-    ensures begins { StartsWith (known_of result.1).seen (known_of rest.1).seen × StartsWith (known_of result.1).seen (known_of session.1).seen }
+    ensures begins { StartsWith (known_of result.1).seen (known_of rest.1).seen
+        × StartsWith (known_of result.1).seen (known_of session.1).seen }
     ensures agrees { Agrees by_of (known_of result.1) (known_of result.1).seen }
 {
     let (answer, first) = rest;
@@ -74,9 +76,10 @@ fn joined<T: Tail>(
     (with_end(answer, end), turn.join(first, second))
 }
 
-// Takes so many links, and serves each with a pass that is split from number 0 and joined back. The session of a link runs in
-// this thread, and a new one takes the links behind it; where none can be made, this one takes them after its session. So no
-// thread's stack has more than one session, but in that case.
+// Takes so many links, and serves each with a pass that is split from number 0 and joined back. The
+// session of a link runs in this thread, and a new one takes the links behind it; where none can be
+// made, this one takes them after its session. So no thread's stack has more than one session, but
+// in that case.
 pub(crate) fn crowd<R: Threads + Wait + Sync, N: Listen, G: Gate + Sync, T: Tail + Send>(
     rt: &R,
     alloc: Global,
@@ -123,21 +126,26 @@ where
     let (rest, session) = join_mut(
         rt,
         &mut || -> (Result<(), ServeFault>, Pass<Item>)
-            requires { IsSync R.row × IsSync G.row × IsSend N.row × IsSend N.Link.row × IsSend T.row × IsFirst turn.now first others }
-            ensures { IfSome first.entry (λ p. IsPassOf turn.entry.now result.1 × ((known_of result.1).number ≡ 0)
-                × OfDocument (known_of p).seen
+            requires { IsSync R.row × IsSync G.row × IsSend N.row × IsSend N.Link.row × IsSend T.row
+                × IsFirst turn.now first others }
+            ensures { IfSome first.entry (λ p. IsPassOf turn.entry.now result.1
+                × ((known_of result.1).number ≡ 0) × OfDocument (known_of p).seen
                 (λ genesis. IsCrowd genesis (known_of p) (known_of result.1) (read_of result.1)
                 (N.told net.entry.now) (N.told net.exit.now) others result.0)
-                × AreShutBehind (N.told net.entry.now).returned (N.told net.exit.now).returned × ((N.told net.exit.now).asked ≡ (N.told net.entry.now).asked)
-                × ((N.told net.exit.now).out ≡ (N.told net.entry.now).out) × ((N.told net.entry.now).faults ≤ (N.told net.exit.now).faults)
+                × AreShutBehind (N.told net.entry.now).returned (N.told net.exit.now).returned
+                × ((N.told net.exit.now).asked ≡ (N.told net.entry.now).asked)
+                × ((N.told net.exit.now).out ≡ (N.told net.entry.now).out)
+                × ((N.told net.entry.now).faults ≤ (N.told net.exit.now).faults)
                 × (result.0 ≡ Err ServeFault.Unkept → T.may_fail)) }
         { crowd(rt, alloc, net, turn, gate, first.take().unwrap(), others) },
         &mut || -> (SessionEnd, Pass<Item>)
             requires { IsSync R.row × IsSync G.row × IsSend T.row × IsOther turn.now second }
-            ensures { IfSome second.entry (λ p. IsPassOf turn.entry.now result.1 × ((known_of result.1).number ≡ (known_of p).number)
-                × OfDocument (known_of p).seen
-                (λ genesis. IsServedSession genesis (known_of p) (known_of result.1) (visit (N.Link.told link.entry) (N.Link.told link.exit) result.0))
-                × IsTrueIfTold (N.Link.told link.exit).is_shut × HasReadLast (read_of result.1) result.0 × (result.0 ≡ SessionEnd.Unkept → T.may_fail)) }
+            ensures { IfSome second.entry (λ p. IsPassOf turn.entry.now result.1
+                × ((known_of result.1).number ≡ (known_of p).number) × OfDocument (known_of p).seen
+                (λ genesis. IsServedSession genesis (known_of p) (known_of result.1)
+                (visit (N.Link.told link.entry) (N.Link.told link.exit) result.0))
+                × IsTrueIfTold (N.Link.told link.exit).is_shut × HasReadLast
+                (read_of result.1) result.0 × (result.0 ≡ SessionEnd.Unkept → T.may_fail)) }
         { serve_link(rt, alloc, turn, gate, &mut link, second.take().unwrap()) },
     );
     net.take_back(link);

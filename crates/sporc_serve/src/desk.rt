@@ -1,6 +1,7 @@
 //! The order that the sessions share.
 
-ghost use Rattle.std.specs.Prelude.{◌≡◌, ◌+◌, ◌++◌, length, replicate, OnOk, OnErr, IfOk, IfErr, IfSome};
+ghost use Rattle.std.specs.Prelude.{◌≡◌, ◌+◌, ◌++◌, length, replicate, OnOk, OnErr, IfOk, IfErr};
+ghost use Rattle.std.specs.Prelude.{IfSome};
 ghost use Rattle.sporc_head.specs.Examined.{key_for};
 ghost use Rattle.sporc_head.specs.History.{roster_of};
 ghost use Rattle.sporc_order.specs.Replies.{Says};
@@ -16,8 +17,8 @@ use sporc_turn::Kept;
 use sporc_wire::ToServer;
 use std::alloc::Global;
 
-/// An order, the number of the pass that submitted each entry, and what keeps each entry before the order takes it: at each
-/// moment at which nobody has a turn, it keeps all of the order's.
+/// An order, the number of the pass that submitted each entry, and what keeps each entry before the
+/// order takes it: at each moment at which nobody has a turn, it keeps all of the order's.
 #[derive(Drop)]
 pub struct Desk<T: Tail> {
     order: Order,
@@ -27,8 +28,8 @@ pub struct Desk<T: Tail> {
     ghost kept: { ∥ T.keeps tail order.entries ∥₁ },
 }
 
-// What the examination of an entry asks of the order: the key of its author, if there is one, and the position that the
-// entry would have.
+// What the examination of an entry asks of the order: the key of its author, if there is one, and
+// the position that the entry would have.
 #[derive(Clone, Copy)]
 pub(crate) struct Sought {
     pub(crate) key: Option<[u8; 56]>,
@@ -55,7 +56,8 @@ impl<T: Tail> Desk<T> {
     pub(crate) fn new(alloc: Global, order: Order, tail: T) -> Result<Desk<T>, (Order, T)>
         requires tail { ∥ T.keeps tail order.entries ∥₁ }
         ensures order { IfOk result (λ desk. desk.order ≡ order) }
-        ensures numbers { IfOk result (λ desk. desk.numbers.items ≡ replicate (length order.entries) 0) }
+        ensures numbers { IfOk result
+            (λ desk. desk.numbers.items ≡ replicate (length order.entries) 0) }
         ensures err { IfErr result (λ e. (e.0 ≡ order) × (e.1 ≡ tail)) }
     {
         match vec![in alloc; 0; order.len() as usize] {
@@ -70,7 +72,8 @@ impl<T: Tail> Desk<T> {
 
     // The key of an entry's author, and the position that the entry would have.
     pub(crate) fn seek(&self, entry: &[u8]) -> Sought
-        ensures key { result.key ≡ key_for (roster_of self.now.order.genesis self.now.order.entries) entry.now }
+        ensures key { result.key
+            ≡ key_for (roster_of self.now.order.genesis self.now.order.entries) entry.now }
         ensures position { result.position ≡ length self.now.order.entries + 1 }
     {
         Sought {
@@ -79,8 +82,8 @@ impl<T: Tail> Desk<T> {
         }
     }
 
-    // Answers a message of the session that has the pass with this number, where a verdict of its entry may be known. The tail
-    // keeps the entry before the order takes it.
+    // Answers a message of the session that has the pass with this number, where a verdict of its
+    // entry may be known. The tail keeps the entry before the order takes it.
     pub(crate) fn step(
         &mut self,
         alloc: Global,
@@ -92,12 +95,15 @@ impl<T: Tail> Desk<T> {
         requires exact { IfSome known (λ v. IsExactFor v.now message.now) }
         ensures sendable { IsFramed message.now → IfOk result CanBeSent }
         ensures reply { IfOk result (Says (step_of self.old.order session.old message.now).answer) }
-        ensures greeted { OnOk result (session.new ≡ (step_of self.old.order session.old message.now).is_greeted) }
-        ensures log { OnOk result (log_of self.new.order self.new.numbers.items ≡ log_of self.old.order self.old.numbers.items
+        ensures greeted { OnOk result
+            (session.new ≡ (step_of self.old.order session.old message.now).is_greeted) }
+        ensures log { OnOk result (log_of self.new.order self.new.numbers.items
+            ≡ log_of self.old.order self.old.numbers.items
             ++ placed_by number (added_of self.old.order session.old message.now)) }
         ensures unchanged { OnErr result (session.new ≡ session.old) }
         ensures unanswered { IfErr result (IsUnanswered T.may_fail) }
-        ensures err { OnErr result (log_of self.new.order self.new.numbers.items ≡ log_of self.old.order self.old.numbers.items) }
+        ensures err { OnErr result (log_of self.new.order self.new.numbers.items
+            ≡ log_of self.old.order self.old.numbers.items) }
     {
         self.numbers.reserve(1)?;
         let before = self.order.len();

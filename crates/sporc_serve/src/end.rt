@@ -15,6 +15,7 @@ pub enum SessionEnd {
     Worn(u64),
     /// Memory ran out.
     Memory,
-    /// The entry that was submitted fails no check, and the tail did not keep it, so it was not ordered.
+    /// The entry that was submitted fails no check, and the tail did not keep it, so it was not
+    /// ordered.
     Unkept,
 }

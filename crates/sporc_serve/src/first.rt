@@ -17,7 +17,8 @@ pub fn first_message<R: Wait, L: Link>(
     frames: &mut Frames,
 ) -> Result<ToServer, SessionEnd>
     requires fresh { frames.old ≡ stream_of [] }
-    ensures first { IsFirst (inlet_at (L.told link.old) frames.old) (inlet_at (L.told link.new) frames.new) result }
+    ensures first { IsFirst (inlet_at (L.told link.old) frames.old)
+        (inlet_at (L.told link.new) frames.new) result }
     ensures written { (L.told link.new).written ≡ (L.told link.old).written }
     ensures as_shut { (L.told link.new).is_shut ≡ (L.told link.old).is_shut }
     ensures kept { (L.told link.old).faults ≤ (L.told link.new).faults }

@@ -14,7 +14,8 @@ use sporc_order::{Order, Tail};
 use sporc_turn::{Away, Pass, Turn};
 use std::alloc::Global;
 
-/// The lock round an order and the tail that keeps its entries, with the pass of number 0. It fails if memory runs out.
+/// The lock round an order and the tail that keeps its entries, with the pass of number 0. It fails
+/// if memory runs out.
 pub fn open_kept<T: Tail>(
     alloc: Global,
     order: Order,
@@ -36,7 +37,8 @@ pub fn open_kept<T: Tail>(
     }
 }
 
-/// The order under a lock, and its tail, if each pass that was split was joined back: that of all that number 0 has seen.
+/// The order under a lock, and its tail, if each pass that was split was joined back: that of all
+/// that number 0 has seen.
 pub fn close_kept<T: Tail>(
     turn: Turn<Desk<T>>,
     first: Pass<Item>,
@@ -44,7 +46,8 @@ pub fn close_kept<T: Tail>(
     requires lock { IsPassOf turn first }
     requires first { (known_of first).number ≡ 0 }
     ensures all { OnOk result (out_of first ≡ 0) }
-    ensures order { IfOk result (λ both. (genesis : Genesis) → IsLogOf genesis (known_of first).seen → both.0 ≡ order_at genesis (known_of first).seen) }
+    ensures order { IfOk result (λ both. (genesis : Genesis) → IsLogOf genesis (known_of first).seen
+        → both.0 ≡ order_at genesis (known_of first).seen) }
     ensures tail { IfOk result (λ both. ∥ T.keeps both.1 both.0.entries ∥₁) }
     ensures agrees { OnOk result (Agrees by_of (known_of first) (known_of first).seen) }
     ensures away { IfErr result (λ e. (e.2.out ≡ out_of first) × (e.2.out ≢ 0)) }

@@ -20,8 +20,8 @@ use sporc_wire::ToServer;
 use std::alloc::Global;
 use std::sync::Wait;
 
-// Answers a message in a turn. The signature of a submitted entry is examined before it, while no turn is held: under the
-// key that a turn before looked up.
+// Answers a message in a turn. The signature of a submitted entry is examined before it, while no
+// turn is held: under the key that a turn before looked up.
 pub(crate) fn reply_to<R: Wait, G: Gate, T: Tail>(
     rt: &R,
     alloc: Global,
@@ -37,8 +37,8 @@ pub(crate) fn reply_to<R: Wait, G: Gate, T: Tail>(
     ensures sendable { IfOk result.0 CanBeSent }
     ensures number { (known_of result.1).number ≡ (known_of pass).number }
     ensures worn { IfErr result.0 (HasReadLast (read_of result.1)) }
-    ensures turn { OfDocument (known_of pass).seen
-        (λ genesis. TakesTurn genesis (known_of pass) (known_of result.1) session.old session.new message.now result.0) }
+    ensures turn { OfDocument (known_of pass).seen (λ genesis. TakesTurn genesis (known_of pass)
+        (known_of result.1) session.old session.new message.now result.0) }
     ensures unkept { result.0 ≡ Err SessionEnd.Unkept → T.may_fail }
 {
     let Some(entry) = session.entry_in(message) else {

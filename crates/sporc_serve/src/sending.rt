@@ -28,9 +28,11 @@ pub(crate) fn send<R: Wait, L: Link, G: Gate>(
     reply: &Reply,
 ) -> Option<SessionEnd>
     requires { CanBeSent reply.now }
-    ensures none { (answer : Answer) → Says answer reply.now → IfNone result (Appends (L.told link.old).written (L.told link.new).written (bytes_of answer)) }
+    ensures none { (answer : Answer) → Says answer reply.now → IfNone result
+        (Appends (L.told link.old).written (L.told link.new).written (bytes_of answer)) }
     ensures some { (answer : Answer) → Says answer reply.now
-        → IfSome result (IsSendEnd answer (L.told link.old).written (L.told link.new).written (L.told link.old).faults (L.told link.new).faults) }
+        → IfSome result (IsSendEnd answer (L.told link.old).written (L.told link.new).written
+        (L.told link.old).faults (L.told link.new).faults) }
     ensures worn { (read : ℕ) → IfSome result (HasReadLast read) }
     ensures unkept { result ≢ Some SessionEnd.Unkept }
     ensures close { reply.now ≡ Reply.Close → result ≡ Some SessionEnd.Closed }
@@ -54,8 +56,10 @@ pub(crate) fn send<R: Wait, L: Link, G: Gate>(
 // Writes a message.
 fn write<L: Link>(alloc: Global, link: &mut L, message: &ToClient) -> Option<SessionEnd>
     requires { IsSendable (answers.Send message.now) }
-    ensures none { IfNone result (Appends (L.told link.old).written (L.told link.new).written (bytes_of (answers.Send message.now))) }
-    ensures some { IfSome result (IsSendEnd (answers.Send message.now) (L.told link.old).written (L.told link.new).written (L.told link.old).faults (L.told link.new).faults) }
+    ensures none { IfNone result (Appends (L.told link.old).written (L.told link.new).written
+        (bytes_of (answers.Send message.now))) }
+    ensures some { IfSome result (IsSendEnd (answers.Send message.now) (L.told link.old).written
+        (L.told link.new).written (L.told link.old).faults (L.told link.new).faults) }
     ensures left { (L.told link.new).left ≡ (L.told link.old).left }
     ensures as_shut { (L.told link.new).is_shut ≡ (L.told link.old).is_shut }
     ensures kept { (L.told link.old).faults ≤ (L.told link.new).faults }
@@ -69,8 +73,11 @@ fn write<L: Link>(alloc: Global, link: &mut L, message: &ToClient) -> Option<Ses
 
 // Writes a frame.
 fn write_frame<L: Link>(link: &mut L, frame: &[u8]) -> Option<SessionEnd>
-    ensures none { IfNone result (Appends (L.told link.old).written (L.told link.new).written frame.now) }
-    ensures some { IfSome result (λ end. (end ≡ SessionEnd.LinkFault) × AppendsLess (L.told link.old).written (L.told link.new).written frame.now × Rose (L.told link.old).faults (L.told link.new).faults) }
+    ensures none { IfNone result
+        (Appends (L.told link.old).written (L.told link.new).written frame.now) }
+    ensures some { IfSome result (λ end. (end ≡ SessionEnd.LinkFault)
+        × AppendsLess (L.told link.old).written (L.told link.new).written frame.now
+        × Rose (L.told link.old).faults (L.told link.new).faults) }
     ensures left { (L.told link.new).left ≡ (L.told link.old).left }
     ensures as_shut { (L.told link.new).is_shut ≡ (L.told link.old).is_shut }
     ensures kept { (L.told link.old).faults ≤ (L.told link.new).faults }

@@ -15,17 +15,20 @@ use std::alloc::Global;
 use std::sync::Wait;
 use std::thread::Threads;
 
-/// Listens at the address, takes so many links, and answers the messages of each from one order: a session each, in a
-/// thread of its own where one can be made. Each link is shut as its session ends, and handed back to the net.
+/// Listens at the address, takes so many links, and answers the messages of each from one order: a
+/// session each, in a thread of its own where one can be made. Each link is shut as its session
+/// ends, and handed back to the net.
 ///
-/// Where no thread can be made, the session of the link that was taken last is served to its end before the next link is
-/// taken. A thread ends once those of all links behind its own have ended.
+/// Where no thread can be made, the session of the link that was taken last is served to its end
+/// before the next link is taken. A thread ends once those of all links behind its own have ended.
 ///
-/// A fault of a link or of its frames ends that session alone, and so does running out of memory in it.
+/// A fault of a link or of its frames ends that session alone, and so does running out of memory in
+/// it.
 ///
-/// The gate is called after each entry that is ordered, and before the turn in which a submitted entry is answered, once it
-/// was examined: there `before_line` is told the session's number, from 1 on, and the position at which the entry was then
-/// to stand. The caller of the gate holds no turn.
+/// The gate is called after each entry that is ordered, and before the turn in which a submitted
+/// entry is answered, once it was examined: there `before_line` is told the session's number, from
+/// 1 on, and the position at which the entry was then to stand. The caller of the gate holds no
+/// turn.
 pub fn serve<R: Threads + Wait + Sync, N: Listen, G: Gate + Sync>(
     rt: &R,
     alloc: Global,
@@ -41,7 +44,8 @@ where
     requires positive { 1 ≤ sessions }
     requires limit { sessions ≤ MAX_SESSIONS }
     ensures served { IsServed order result.0 (N.told net.old) (N.told net.new) sessions result.1 }
-    ensures asked { result.1 ≢ Err ServeFault.ListenFault → AppendsItem (N.told net.old).asked (N.told net.new).asked address.now }
+    ensures asked { result.1 ≢ Err ServeFault.ListenFault
+        → AppendsItem (N.told net.old).asked (N.told net.new).asked address.now }
     ensures may_ask { MayAppend (N.told net.old).asked (N.told net.new).asked address.now }
     ensures shut { AreShutBehind (N.told net.old).returned (N.told net.new).returned }
     ensures links_out { (N.told net.new).out ≡ (N.told net.old).out }
@@ -52,8 +56,9 @@ where
     (order, answer)
 }
 
-/// Serves as [`serve`] does, with a tail that keeps each entry before the order takes it, and so before it is answered or
-/// handed out. An entry that is not kept is not ordered, and its session ends.
+/// Serves as [`serve`] does, with a tail that keeps each entry before the order takes it, and so
+/// before it is answered or handed out. An entry that is not kept is not ordered, and its session
+/// ends.
 pub fn serve_kept<R: Threads + Wait + Sync, N: Listen, G: Gate + Sync, T: Tail + Send>(
     rt: &R,
     alloc: Global,
@@ -73,7 +78,8 @@ where
     ensures served { IsServed order result.0 (N.told net.old) (N.told net.new) sessions result.2 }
     ensures tail { ∥ T.keeps result.1 result.0.entries ∥₁ }
     ensures unkept { result.2 ≡ Err ServeFault.Unkept → T.may_fail }
-    ensures asked { result.2 ≢ Err ServeFault.ListenFault → AppendsItem (N.told net.old).asked (N.told net.new).asked address.now }
+    ensures asked { result.2 ≢ Err ServeFault.ListenFault
+        → AppendsItem (N.told net.old).asked (N.told net.new).asked address.now }
     ensures may_ask { MayAppend (N.told net.old).asked (N.told net.new).asked address.now }
     ensures shut { AreShutBehind (N.told net.old).returned (N.told net.new).returned }
     ensures links_out { (N.told net.new).out ≡ (N.told net.old).out }

@@ -1,6 +1,7 @@
 //! One session, from its first message to its end.
 
-ghost use Rattle.std.specs.Prelude.{◌≡◌, ◌≢◌, ◌≤◌, [], false, Ok, Err, Some, None, IfErr, IfSome, OnOk};
+ghost use Rattle.std.specs.Prelude.{◌≡◌, ◌≢◌, ◌≤◌, [], false, Ok, Err, Some, None, IfErr, IfSome};
+ghost use Rattle.std.specs.Prelude.{OnOk};
 ghost use Rattle.sporc_outside.specs.Told.{IsTrueIfTold};
 ghost use Rattle.sporc_turn.specs.Passes.{known_of, read_of, IsPassOf};
 ghost use Rattle.sporc_wire.specs.Messages.{Unread, next, stream_of};
@@ -30,8 +31,10 @@ const PIECE: usize = 4096;
 // Takes a piece more of the link's bytes.
 fn take_piece<L: Link>(link: &mut L, frames: &mut Frames) -> Result<(), SessionEnd>
     requires { (next to_server_of frames.old).answer ≡ Ok None }
-    ensures ok { OnOk result (IsNext (inlet_at (L.told link.old) frames.old) (inlet_at (L.told link.new) frames.new) (Ok None)) }
-    ensures err { IfErr result (λ end. IsNext (inlet_at (L.told link.old) frames.old) (inlet_at (L.told link.new) frames.new) (Err end)) }
+    ensures ok { OnOk result (IsNext (inlet_at (L.told link.old) frames.old)
+        (inlet_at (L.told link.new) frames.new) (Ok None)) }
+    ensures err { IfErr result (λ end. IsNext (inlet_at (L.told link.old) frames.old)
+        (inlet_at (L.told link.new) frames.new) (Err end)) }
     ensures written { (L.told link.new).written ≡ (L.told link.old).written }
     ensures as_shut { (L.told link.new).is_shut ≡ (L.told link.old).is_shut }
     ensures kept { (L.told link.old).faults ≤ (L.told link.new).faults }
@@ -68,7 +71,8 @@ pub(crate) fn next_message<L: Link>(
     link: &mut L,
     frames: &mut Frames,
 ) -> Result<Option<ToServer>, SessionEnd>
-    ensures next { IsNext (inlet_at (L.told link.old) frames.old) (inlet_at (L.told link.new) frames.new) result }
+    ensures next { IsNext (inlet_at (L.told link.old) frames.old)
+        (inlet_at (L.told link.new) frames.new) result }
     ensures written { (L.told link.new).written ≡ (L.told link.old).written }
     ensures as_shut { (L.told link.new).is_shut ≡ (L.told link.old).is_shut }
     ensures kept { (L.told link.old).faults ≤ (L.told link.new).faults }
@@ -105,7 +109,8 @@ fn answer<R: Wait, L: Link, G: Gate, T: Tail>(
     ensures unkept { result.0 ≡ Some SessionEnd.Unkept → T.may_fail }
     ensures goes { (unread : Unread) → (next to_server_of unread).answer ≡ Ok (Some message.now)
         → Carries (stand_at (known_of pass) (L.told link.old) unread session.old)
-        (stand_at (known_of result.1) (L.told link.new) (next to_server_of unread).after session.new) result.0 }
+        (stand_at (known_of result.1) (L.told link.new)
+        (next to_server_of unread).after session.new) result.0 }
 {
     let (reply, pass) = reply_to(rt, alloc, turn, gate, pass, session, message);
     match reply {
@@ -175,8 +180,8 @@ fn go_on<R: Wait, L: Link, G: Gate, T: Tail>(
     unreachable!()
 }
 
-/// The session over a link from its first message on, at the order under this lock. The message is the first that was taken
-/// of the frames. The link is left open.
+/// The session over a link from its first message on, at the order under this lock. The message is
+/// the first that was taken of the frames. The link is left open.
 pub fn serve_from<R: Wait, L: Link, G: Gate, T: Tail>(
     rt: &R,
     alloc: Global,
@@ -194,7 +199,8 @@ pub fn serve_from<R: Wait, L: Link, G: Gate, T: Tail>(
     ensures as_shut { (L.told link.new).is_shut ≡ (L.told link.old).is_shut }
     ensures worn { HasReadLast (read_of result.1) result.0 }
     ensures unkept { result.0 ≡ SessionEnd.Unkept → T.may_fail }
-    ensures goes { (unread : Unread) → (next to_server_of unread).answer ≡ Ok (Some first.now) → frames.old ≡ (next to_server_of unread).after
+    ensures goes { (unread : Unread) → (next to_server_of unread).answer ≡ Ok (Some first.now)
+        → frames.old ≡ (next to_server_of unread).after
         → Leads (stand_at (known_of pass) (L.told link.old) unread false)
         (stand_at (known_of result.1) (L.told link.new) (stream_of []) false) (Some result.0) }
 {
@@ -218,8 +224,8 @@ pub(crate) fn serve_link<R: Wait, L: Link, G: Gate, T: Tail>(
     requires lock { IsPassOf turn.now pass }
     ensures lock { IsPassOf turn.now result.1 }
     ensures number { (known_of result.1).number ≡ (known_of pass).number }
-    ensures session { OfDocument (known_of pass).seen
-        (λ genesis. IsServedSession genesis (known_of pass) (known_of result.1) (visit (L.told link.old) (L.told link.new) result.0)) }
+    ensures session { OfDocument (known_of pass).seen (λ genesis. IsServedSession genesis
+        (known_of pass) (known_of result.1) (visit (L.told link.old) (L.told link.new) result.0)) }
     ensures worn { HasReadLast (read_of result.1) result.0 }
     ensures unkept { result.0 ≡ SessionEnd.Unkept → T.may_fail }
     ensures shut { IsTrueIfTold (L.told link.new).is_shut }

@@ -31,11 +31,13 @@ fn step_held<T: Tail>(
     requires exact { IfSome known (λ v. IsExactFor v.now message.now) }
     ensures turn { IsSameTurn held.old held.new }
     ensures sendable { IsFramed message.now → IfOk result CanBeSent }
-    ensures reply { IfOk result (Says (step_of (value_of held.old).order session.old message.now).answer) }
-    ensures greeted { OnOk result (session.new ≡ (step_of (value_of held.old).order session.old message.now).is_greeted) }
+    ensures reply { IfOk result
+        (Says (step_of (value_of held.old).order session.old message.now).answer) }
+    ensures greeted { OnOk result
+        (session.new ≡ (step_of (value_of held.old).order session.old message.now).is_greeted) }
     ensures log { log_of (value_of held.new).order (value_of held.new).numbers.items
-        ≡ log_of (value_of held.old).order (value_of held.old).numbers.items
-        ++ placed_by number (if_answered result (added_of (value_of held.old).order session.old message.now)) }
+        ≡ log_of (value_of held.old).order (value_of held.old).numbers.items ++ placed_by number
+        (if_answered result (added_of (value_of held.old).order session.old message.now)) }
     ensures unchanged { OnErr result (session.new ≡ session.old) }
     ensures unanswered { IfErr result (IsUnanswered T.may_fail) }
 {
@@ -93,8 +95,8 @@ pub(crate) fn take_turn<R: Wait, T: Tail>(
     ensures sendable { IfOk result.0 CanBeSent }
     ensures number { (known_of result.1).number ≡ (known_of pass).number }
     ensures worn { IfErr result.0 (HasReadLast (read_of result.1)) }
-    ensures turn { OfDocument (known_of pass).seen
-        (λ genesis. TakesTurn genesis (known_of pass) (known_of result.1) session.old session.new message.now result.0) }
+    ensures turn { OfDocument (known_of pass).seen (λ genesis. TakesTurn genesis (known_of pass)
+        (known_of result.1) session.old session.new message.now result.0) }
     ensures unkept { result.0 ≡ Err SessionEnd.Unkept → T.may_fail }
 {
     let number = pass.number();

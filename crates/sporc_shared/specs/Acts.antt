@@ -1,5 +1,7 @@
--- What the receiver of a session does, as a list of acts, and what each act adds to the log, the link and the chance.
-use Rattle.std.specs.Prelude.{◌≡◌, ◌≤◌, ℕ, ◌+◌, Bool, List, [], ◌∷◌, ◌++◌, drop, length, map, Result, ⊤}
+-- What the receiver of a session does, as a list of acts, and what each act adds to the log, the
+-- link and the chance.
+use Rattle.std.specs.Prelude.{◌≡◌, ◌≤◌, ℕ, ◌+◌, Bool, List, [], ◌∷◌, ◌++◌, drop, length, map}
+use Rattle.std.specs.Prelude.{Result, ⊤}
 use Rattle.lms_leaf.specs.declared.faults.LeafFault.{LeafFault}
 use Rattle.sporc_turn.specs.Log.{StartsWith}
 use Rattle.sporc_head.specs.declared.refusal.Refusal.{Refusal}
@@ -121,25 +123,25 @@ pub record Looked (client : PlainClient) (at pending : ℕ) : Type 0 where
   pub at_is : at ≡ length client.entries
   pub pending_is : pending ≡ length client.pending
 
--- An act fits the log, where the receiver had added these items: what it saw is so at a point after them, and before its
--- next item, and the item that it added follows that point
+-- An act fits the log, where the receiver had added these items: what it saw is so at a point after
+-- them, and before its next item, and the item that it added follows that point
 abbrev pub Fits : List Item → ℕ → List Item → Act → Type 0
 Fits log start mine (Ask document member) = IsFor log document member
 Fits log start mine (Greet document member) = ⊤
-Fits log start mine (Look point at pending) =
-    IsPoint log start 0 mine point × ((client : PlainClient) × IsClientAt log point client × Looked client at pending)
+Fits log start mine (Look point at pending) = IsPoint log start 0 mine point
+    × ((client : PlainClient) × IsClientAt log point client × Looked client at pending)
 Fits log start mine (Pull from came) = ⊤
 Fits log start mine (Take position entry) = ⊤
-Fits log start mine (Submit point first second answer) =
-    IsPoint log start 0 mine point
-    × ((client : PlainClient) × (leaf : Result ℕ LeafFault) × IsClientAt log point client × MayDraw client leaf
-    × (answer ≡ submission client (first ++ second) leaf))
+Fits log start mine (Submit point first second answer) = IsPoint log start 0 mine point
+    × ((client : PlainClient) × (leaf : Result ℕ LeafFault) × IsClientAt log point client
+    × MayDraw client leaf × (answer ≡ submission client (first ++ second) leaf))
     × StartsWith (drop point log) (map Happened (submission_added 0 answer))
 Fits log start mine (Send entry reply) = ⊤
-Fits log start mine (Check point entry stays) =
-    IsPoint log start 0 mine point × ((client : PlainClient) × IsClientAt log point client × (stays ≡ is_flight client entry))
+Fits log start mine (Check point entry stays) = IsPoint log start 0 mine point
+    × ((client : PlainClient) × IsClientAt log point client × (stays ≡ is_flight client entry))
 
 -- each of a list of acts does, in order
 abbrev pub FitAll : List Item → ℕ → List Item → List Act → Type 0
 FitAll log start mine [] = ⊤
-FitAll log start mine (act ∷ acts) = Fits log start mine act × FitAll log start (mine ++ items_by act) acts
+FitAll log start mine (act ∷ acts) =
+    Fits log start mine act × FitAll log start (mine ++ items_by act) acts

@@ -1,5 +1,6 @@
 -- What an exchange of messages does to a link.
-use Rattle.std.specs.Prelude.{◌≡◌, ◌≤◌, ℕ, List, [], ◌∷◌, take, Option, None, Some, Result, Ok, Err, ⊤}
+use Rattle.std.specs.Prelude.{◌≡◌, ◌≤◌, ℕ, List, [], ◌∷◌, take, Option, None, Some, Result, Ok, Err}
+use Rattle.std.specs.Prelude.{⊤}
 use Rattle.std.specs.Io.KnownBytes.{Consumes, IsAtEnd}
 use Rattle.sporc_head.specs.declared.refusal.Refusal.{Refusal}
 use Rattle.sporc_outside.specs.Counts.{Rose}
@@ -14,7 +15,8 @@ use Rattle.sporc_shared.specs.Acts.{ServerReply, Ordered, Rejected, handed_out, 
 use Rattle.sporc_shared.specs.Traces.{KnowsMore}
 use Rattle.sporc_shared.specs.Endings.{IsAnswer, TakingStopped, takes_of}
 use Rattle.sporc_shared.specs.Items.{Item}
-use Rattle.sporc_shared.specs.Wires.{IsBadFrame, IsCut, IsLastFrom, LinkStand, Exchanged, more_taken, spelled}
+use Rattle.sporc_shared.specs.Wires.{IsBadFrame, IsCut, IsLastFrom, LinkStand, Exchanged}
+use Rattle.sporc_shared.specs.Wires.{more_taken, spelled}
 
 -- a piece was taken off the link, and nothing was written to it
 pub record Took (a b : LinkStand) (piece : List ℕ) : Type 0 where
@@ -81,19 +83,26 @@ IsReply (Some refusal) (Ordered position) = ⊥
 IsReply (Some refusal) (Rejected r) = r ≡ refusal
 
 -- Entries were pulled after so many others, and accepted
-pub record Gathered (k k' : Known Item) (a b : LinkStand) (at : ℕ) (came : List (List ℕ)) : Type 0 where
+pub record Gathered (k k' : Known Item) (a b : LinkStand) (at : ℕ)
+    (came : List (List ℕ)) : Type 0 where
   pub link : Exchanged a b (spelled (to_server.Pull at ∷ [])) (handed_out at came ∷ [])
   pub knows : KnowsMore k k' (all_of items_by (takes_of at came))
 
 -- none came, or one of them wasn't accepted
-pub data GatherStopped (k k' : Known Item) (a b : LinkStand) (at : ℕ) (fault : SessionFault) : Type 0 where
+pub data GatherStopped (k k' : Known Item) (a b : LinkStand) (at : ℕ)
+    (fault : SessionFault) : Type 0 where
   asking : k' ≡ k → AskFails a b (to_server.Pull at) fault → GatherStopped k k' a b at fault
-  taking : {came : List (List ℕ)} → Exchanged a b (spelled (to_server.Pull at ∷ [])) (handed_out at came ∷ []) → TakingStopped k k' at came fault → GatherStopped k k' a b at fault
+  taking : {came : List (List ℕ)}
+      → Exchanged a b (spelled (to_server.Pull at ∷ [])) (handed_out at came ∷ [])
+      → TakingStopped k k' at came fault → GatherStopped k k' a b at fault
 
--- what an answer to an entry says; anything else is no answer to it, and its frame began at this place
-abbrev pub IsOutcomeOf : ℕ → Result ToClient SessionFault → Result (Option Refusal) SessionFault → Type 0
+-- what an answer to an entry says; anything else is no answer to it, and its frame began at this
+-- place
+abbrev pub IsOutcomeOf : ℕ → Result ToClient SessionFault
+    → Result (Option Refusal) SessionFault → Type 0
 IsOutcomeOf place (Err fault) result = result ≡ Err fault
 IsOutcomeOf place (Ok (to_client.Ordered position)) result = result ≡ Ok None
 IsOutcomeOf place (Ok (to_client.Rejected refusal)) result = result ≡ Ok (Some refusal)
-IsOutcomeOf place (Ok (to_client.Entries first entries)) result = result ≡ Err (faults.BadMessage place)
+IsOutcomeOf place (Ok (to_client.Entries first entries)) result =
+    result ≡ Err (faults.BadMessage place)
 IsOutcomeOf place (Ok to_client.Empty) result = result ≡ Err (faults.BadMessage place)

@@ -10,25 +10,30 @@ use Rattle.sporc_client.specs.declared.submitted.Submitted.{Submitted}
 use Rattle.sporc_client.specs.Drawing.{MayDraw}
 use Rattle.sporc_client.specs.Log.{Logged}
 use Rattle.sporc_client.specs.Submissions.{submission}
-use Rattle.sporc_shared.specs.Items.{Item, Happened, Past, IsAllowed, by_of, client_of, items_of, with_events}
+use Rattle.sporc_shared.specs.Items.{Item, Happened, Past, IsAllowed, by_of, client_of, items_of}
+use Rattle.sporc_shared.specs.Items.{with_events}
 
--- the past of a client that its own calls can have, whose log begins with what a pass had seen, and has the pass's own
--- items, in order, and no others with its number after the start
-pub record IsLegal (past : Past) (start : ℕ) (seen : List Item) (number : ℕ) (mine : List Item) : Type 0 where
+-- the past of a client that its own calls can have, whose log begins with what a pass had seen, and
+-- has the pass's own items, in order, and no others with its number after the start
+pub record IsLegal (past : Past) (start : ℕ) (seen : List Item) (number : ℕ)
+    (mine : List Item) : Type 0 where
   pub allowed : IsAllowed past
   pub begins : StartsWith (items_of past) seen
   pub mine_are : own by_of number start (items_of past) ≡ mine
 
--- A call through a pass that knew k, and knows k' afterwards. The client then had this past, and the call added these
--- events: none, or its one event
+-- A call through a pass that knew k, and knows k' afterwards. The client then had this past, and
+-- the call added these events: none, or its one event
 pub record IsCall (k k' : Known Item) (before : Past) (added : List Logged) : Type 0 where
-  pub known : k' ≡ record k { seen = items_of (with_events before added); mine = k.mine ++ map Happened added }
-  pub legal : IsLegal (with_events before added) k.start k.seen k.number (k.mine ++ map Happened added)
+  pub known : k'
+      ≡ record k { seen = items_of (with_events before added); mine = k.mine ++ map Happened added }
+  pub legal : IsLegal (with_events before added) k.start k.seen k.number
+      (k.mine ++ map Happened added)
   pub found : Agrees by_of k (items_of before)
   pub agrees : Agrees by_of k' (items_of (with_events before added))
 
 -- a submission's answer, by what the drawing of the leaf may have answered, if one was due
-pub record SubmitsAt (before : Past) (random : List ℕ) (answer : Result Submitted SubmitFault) : Type 0 where
+pub record SubmitsAt (before : Past) (random : List ℕ)
+    (answer : Result Submitted SubmitFault) : Type 0 where
   pub leaf : Result ℕ LeafFault
   pub may : MayDraw (client_of before) leaf
   pub gives : GivesUnless Memory (λ s. s) answer (submission (client_of before) random leaf)

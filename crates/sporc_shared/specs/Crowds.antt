@@ -1,5 +1,6 @@
 -- What the receiver and the editors did in the first phase, once the editors were joined.
-use Rattle.std.specs.Prelude.{◌≡◌, ◌⊎◌, ℕ, ◌+◌, ◌<◌, ◌^◌, List, [], ◌∷◌, ◌++◌, length, take, drop, Option, None, Some}
+use Rattle.std.specs.Prelude.{◌≡◌, ◌⊎◌, ℕ, ◌+◌, ◌<◌, ◌^◌, List, [], ◌∷◌, ◌++◌, length, take, drop}
+use Rattle.std.specs.Prelude.{Option, None, Some}
 use Rattle.sporc_base.specs.FirstFault.{first_of}
 use Rattle.sporc_script.specs.declared.editor_line.EditorLine.{EditorLine}
 use Rattle.sporc_turn.specs.declared.known.Joined.{Joined}
@@ -15,20 +16,24 @@ use Rattle.sporc_shared.specs.Passes.{IsPassOf}
 use Rattle.sporc_shared.specs.Sessions.{FirstPhase}
 
 -- these are the items of the first lines
-pub record EditorPart (log : List Item) (start number : ℕ) (lines : List EditorLine) (items : List Item) (end : Option SessionFault) : Type 0 where
+pub record EditorPart (log : List Item) (start number : ℕ) (lines : List EditorLine)
+    (items : List Item) (end : Option SessionFault) : Type 0 where
   pub count : ℕ
   pub done : AreLinesDone log start number [] (take count lines) items
   pub ended : LineEnd log start number items (drop count lines) end
 
 -- each editor that was started was joined, the last one first
-abbrev pub CrowdDid : List Item → ℕ → ℕ → List (List EditorLine) → List (Option SessionFault) → List (Joined Item) → Type 0
+abbrev pub CrowdDid : List Item → ℕ → ℕ → List (List EditorLine) → List (Option SessionFault)
+    → List (Joined Item) → Type 0
 CrowdDid log start number [] ends js = (ends ≡ []) × (js ≡ [])
 CrowdDid log start number (script ∷ scripts) [] js = js ≡ []
 CrowdDid log start number (script ∷ scripts) (end ∷ ends) [] = ⊥
 CrowdDid log start number (script ∷ scripts) (end ∷ ends) (j ∷ js) =
-    (j.number ≡ number) × EditorPart log start number script j.items end × CrowdDid log start (number + 1) scripts ends js
+    (j.number ≡ number) × EditorPart log start number script j.items end
+    × CrowdDid log start (number + 1) scripts ends js
 
-pub record IsCrowd (a b : Stand) (rounds : ℕ) (scripts : List (List EditorLine)) (receiver fault : Option SessionFault) : Type 0 where
+pub record IsCrowd (a b : Stand) (rounds : ℕ) (scripts : List (List EditorLine))
+    (receiver fault : Option SessionFault) : Type 0 where
   pub phase : FirstPhase a b rounds receiver
   pub ends : List (Option SessionFault)
   pub joined : List (Joined Item)
@@ -41,7 +46,8 @@ pub record IsCrowd (a b : Stand) (rounds : ℕ) (scripts : List (List EditorLine
 -- the pass that a thread is to take: number 0, which may still be split so often
 abbrev pub IsFirst : {D : Type 0} → SharedClient D → Option (Pass Item) → ℕ → Type 0
 IsFirst shared None more = ⊥
-IsFirst shared (Some p) more = IsPassOf shared p × ((known_of p).number ≡ 0) × ((known_of p).splits + more < 2 ^ 32)
+IsFirst shared (Some p) more =
+    IsPassOf shared p × ((known_of p).number ≡ 0) × ((known_of p).splits + more < 2 ^ 32)
 
 -- another pass
 abbrev pub IsOther : {D : Type 0} → SharedClient D → Option (Pass Item) → Type 0

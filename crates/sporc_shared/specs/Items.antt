@@ -21,7 +21,8 @@ abbrev pub by_of : Item → ℕ
 by_of (Opened opening first_leaf) = 0
 by_of (Happened event) = maker_of event
 
--- a client so far: what it was opened with, the first leaf number that it could draw, and its events
+-- a client so far: what it was opened with, the first leaf number that it could draw, and its
+-- events
 pub record Past : Type 0 where
   pub opening : Opening
   pub first_leaf : ℕ
@@ -65,4 +66,5 @@ item_again (Happened event) = refl
 
 -- the code by which proofs tell items apart
 abbrev pub item_code : Coded Item
-item_code = code_by ((Opening × ℕ) ⊎ Logged) (coded⊎ (coded× opening_code coded_ℕ) logged_code) item_parts item_of_parts item_again
+item_code = code_by ((Opening × ℕ) ⊎ Logged)
+    (coded⊎ (coded× opening_code coded_ℕ) logged_code) item_parts item_of_parts item_again

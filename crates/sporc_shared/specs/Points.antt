@@ -4,8 +4,8 @@ use Rattle.sporc_turn.specs.Log.{own}
 use Rattle.sporc_client.specs.PlainClient.{PlainClient}
 use Rattle.sporc_shared.specs.Items.{Item, Past, by_of, client_of, items_of}
 
--- Of the items after the start, the first n of the log have these of the pass with this number, and no others of it. So n is
--- a moment after the pass had made them, and before it made its next one
+-- Of the items after the start, the first n of the log have these of the pass with this number, and
+-- no others of it. So n is a moment after the pass had made them, and before it made its next one
 pub record IsPoint (log : List Item) (start number : ℕ) (mine : List Item) (n : ℕ) : Type 0 where
   pub after_start : start ≤ n
   pub within : n ≤ length log

@@ -1,5 +1,6 @@
 -- The order of a receiver's acts.
-use Rattle.std.specs.Prelude.{◌≡◌, ℕ, ◌+◌, nat_lt, ◌||◌, Bool, true, false, List, [], ◌∷◌, Result, Ok, Err, ⊤}
+use Rattle.std.specs.Prelude.{◌≡◌, ℕ, ◌+◌, nat_lt, ◌||◌, Bool, true, false, List, [], ◌∷◌, Result}
+use Rattle.std.specs.Prelude.{Ok, Err, ⊤}
 use Rattle.sporc_head.specs.declared.refusal.Refusal.{Refusal}
 use Rattle.sporc_wire.specs.declared.to_server.ToServer.{ToServer}
 use Rattle.sporc_wire.specs.declared.to_server.ToServer.TheVariants as to_server
@@ -7,9 +8,11 @@ use Rattle.sporc_client.specs.declared.fault.SubmitFault.{SubmitFault}
 use Rattle.sporc_client.specs.declared.fault.SubmitFault.TheVariants as submits
 use Rattle.sporc_client.specs.declared.submitted.Submitted.{Submitted}
 use Rattle.sporc_client.specs.declared.submitted.Submitted.TheVariants as submitted
-use Rattle.sporc_shared.specs.Acts.{Act, Ask, Greet, Look, Pull, Take, Submit, Send, Check, Ordered, Rejected}
+use Rattle.sporc_shared.specs.Acts.{Act, Ask, Greet, Look, Pull, Take, Submit, Send, Check, Ordered}
+use Rattle.sporc_shared.specs.Acts.{Rejected}
 
--- what follows once all entries that came are accepted: a submission, or, if this entry was rejected, a further pull
+-- what follows once all entries that came are accepted: a submission, or, if this entry was
+-- rejected, a further pull
 pub data Then : Type 0 where
   Submits : Then
   Drains : List ℕ → Refusal → Then
@@ -49,22 +52,36 @@ IsQuiet (Err (submits.Exhausted next)) = ⊥
 IsQuiet (Err submits.LeafFault) = ⊥
 IsQuiet (Err submits.Memory) = ⊥
 
--- One act leads from what was next to what is next. A round begins where `ready` holds of the history's length and the
--- number pending
+-- One act leads from what was next to what is next. A round begins where `ready` holds of the
+-- history's length and the number pending
 pub data Goes (ready : ℕ → ℕ → Bool) : Mode → Act → Mode → Type 0 where
-  asks : {document : List ℕ} {member : ℕ} → Goes ready Asking (Ask document member) (Greeting document member)
-  greets : {document : List ℕ} {member : ℕ} → Goes ready (Greeting document member) (Greet document member) (Between 0)
-  looks : {n point at pending : ℕ} → ready at pending ≡ true → Goes ready (Between n) (Look point at pending) (Pulling n at)
-  pulls : {n at : ℕ} {came : List (List ℕ)} → Goes ready (Pulling n at) (Pull at came) (Taking n at came Submits)
-  takes : {n at : ℕ} {e : List ℕ} {es : List (List ℕ)} {next : Then} → Goes ready (Taking n at (e ∷ es) next) (Take (at + 1) e) (Taking n (at + 1) es next)
-  submits_entry : {n at point : ℕ} {first second e : List ℕ} → Goes ready (Taking n at [] Submits) (Submit point first second (Ok (submitted.Entry e))) (Sending n at e)
-  submits_none : {n at point : ℕ} {first second : List ℕ} {answer : Result Submitted SubmitFault} → IsQuiet answer → Goes ready (Taking n at [] Submits) (Submit point first second answer) (Between (n + 1))
-  sends : {n at position : ℕ} {e : List ℕ} → Goes ready (Sending n at e) (Send e (Ordered position)) (Between (n + 1))
-  rejected : {n at : ℕ} {e : List ℕ} {r : Refusal} → Goes ready (Sending n at e) (Send e (Rejected r)) (Taking n at [] (Drains e r))
-  drains : {n at : ℕ} {e c : List ℕ} {cs : List (List ℕ)} {r : Refusal} → Goes ready (Taking n at [] (Drains e r)) (Pull at (c ∷ cs)) (Taking n at (c ∷ cs) (Drains e r))
-  drained : {n at : ℕ} {e : List ℕ} {r : Refusal} → Goes ready (Taking n at [] (Drains e r)) (Pull at []) (Checking n e r)
-  is_gone : {n point : ℕ} {e : List ℕ} {r : Refusal} → Goes ready (Checking n e r) (Check point e false) (Between (n + 1))
-  is_there : {n point : ℕ} {e : List ℕ} {r : Refusal} → Goes ready (Checking n e r) (Check point e true) (Stuck n r)
+  asks : {document : List ℕ} {member : ℕ}
+      → Goes ready Asking (Ask document member) (Greeting document member)
+  greets : {document : List ℕ} {member : ℕ}
+      → Goes ready (Greeting document member) (Greet document member) (Between 0)
+  looks : {n point at pending : ℕ} → ready at pending ≡ true
+      → Goes ready (Between n) (Look point at pending) (Pulling n at)
+  pulls : {n at : ℕ} {came : List (List ℕ)}
+      → Goes ready (Pulling n at) (Pull at came) (Taking n at came Submits)
+  takes : {n at : ℕ} {e : List ℕ} {es : List (List ℕ)} {next : Then}
+      → Goes ready (Taking n at (e ∷ es) next) (Take (at + 1) e) (Taking n (at + 1) es next)
+  submits_entry : {n at point : ℕ} {first second e : List ℕ} → Goes ready (Taking n at [] Submits)
+      (Submit point first second (Ok (submitted.Entry e))) (Sending n at e)
+  submits_none : {n at point : ℕ} {first second : List ℕ} {answer : Result Submitted SubmitFault}
+      → IsQuiet answer
+      → Goes ready (Taking n at [] Submits) (Submit point first second answer) (Between (n + 1))
+  sends : {n at position : ℕ} {e : List ℕ}
+      → Goes ready (Sending n at e) (Send e (Ordered position)) (Between (n + 1))
+  rejected : {n at : ℕ} {e : List ℕ} {r : Refusal}
+      → Goes ready (Sending n at e) (Send e (Rejected r)) (Taking n at [] (Drains e r))
+  drains : {n at : ℕ} {e c : List ℕ} {cs : List (List ℕ)} {r : Refusal} → Goes ready
+      (Taking n at [] (Drains e r)) (Pull at (c ∷ cs)) (Taking n at (c ∷ cs) (Drains e r))
+  drained : {n at : ℕ} {e : List ℕ} {r : Refusal}
+      → Goes ready (Taking n at [] (Drains e r)) (Pull at []) (Checking n e r)
+  is_gone : {n point : ℕ} {e : List ℕ} {r : Refusal}
+      → Goes ready (Checking n e r) (Check point e false) (Between (n + 1))
+  is_there : {n point : ℕ} {e : List ℕ} {r : Refusal}
+      → Goes ready (Checking n e r) (Check point e true) (Stuck n r)
 
 -- acts in order lead from the one to the other
 abbrev pub Leads : (ℕ → ℕ → Bool) → Mode → List Act → Mode → Type 0

@@ -65,10 +65,14 @@ abbrev pub edited_of : ℕ → ℕ → Result (Result ℕ EditFault) ℕ → Res
 edited_of editor line (Ok (Ok n)) = Ok tt
 edited_of editor line (Ok (Err edits.Removed)) = Err (faults.EditRefused editor line edits.Removed)
 edited_of editor line (Ok (Err edits.NoRight)) = Err (faults.EditRefused editor line edits.NoRight)
-edited_of editor line (Ok (Err (edits.SeenAhead len))) = Err (faults.EditRefused editor line (edits.SeenAhead len))
-edited_of editor line (Ok (Err edits.WrongLength)) = Err (faults.EditRefused editor line edits.WrongLength)
-edited_of editor line (Ok (Err (edits.TooLong len))) = Err (faults.EditRefused editor line (edits.TooLong len))
-edited_of editor line (Ok (Err edits.PendingFull)) = Err (faults.EditRefused editor line edits.PendingFull)
+edited_of editor line (Ok (Err (edits.SeenAhead len))) =
+    Err (faults.EditRefused editor line (edits.SeenAhead len))
+edited_of editor line (Ok (Err edits.WrongLength)) =
+    Err (faults.EditRefused editor line edits.WrongLength)
+edited_of editor line (Ok (Err (edits.TooLong len))) =
+    Err (faults.EditRefused editor line (edits.TooLong len))
+edited_of editor line (Ok (Err edits.PendingFull)) =
+    Err (faults.EditRefused editor line edits.PendingFull)
 edited_of editor line (Ok (Err edits.JournalFull)) = Err faults.JournalFull
 edited_of editor line (Ok (Err edits.Memory)) = Err faults.Memory
 edited_of editor line (Err ticket) = Err (faults.Worn ticket)

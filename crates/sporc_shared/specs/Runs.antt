@@ -20,7 +20,8 @@ device_of (Restart who k) = who
 abbrev pub moves_of : Device → List Move → List Move
 moves_of who moves = filter (λ move. same_device (device_of move) who) moves
 
--- the moves are that a device of the setup opens a client, and then its events, each of which its calls make there
+-- the moves are that a device of the setup opens a client, and then its events, each of which its
+-- calls make there
 pub record IsJournal (s : Setup) (who : Device) (moves : List Move) : Type 0 where
   pub past : Past
   pub is_device : Contains s.devices who

@@ -1,5 +1,6 @@
 -- What a session is.
-use Rattle.std.specs.Prelude.{◌≡◌, ◌⊎◌, ℕ, ◌+◌, ◌≤◌, List, [], ◌∷◌, ◌++◌, length, drop, All, Option, None, Some, Result, Ok, Err, ⊤, true, false}
+use Rattle.std.specs.Prelude.{◌≡◌, ◌⊎◌, ℕ, ◌+◌, ◌≤◌, List, [], ◌∷◌, ◌++◌, length, drop, All, Option}
+use Rattle.std.specs.Prelude.{None, Some, Result, Ok, Err, ⊤, true, false}
 use Rattle.sporc_base.specs.FirstFault.{first_of}
 use Rattle.sporc_script.specs.declared.editor_line.EditorLine.{EditorLine}
 use Rattle.sporc_turn.specs.Log.{own}
@@ -24,25 +25,35 @@ pub record Rounds (a b : Stand) (until done at pending : ℕ) : Type 0 where
   pub did : Did (is_unsettled until) a between (Between 0) (Between done)
   pub last : Trace between b (Look (length b.known.seen) at pending ∷ []) [] [] []
 
--- The second phase. It ends when the client is settled, if it isn't after all rounds, or with a fault in a round
+-- The second phase. It ends when the client is settled, if it isn't after all rounds, or with a
+-- fault in a round
 pub data SecondPhase (a b : Stand) (rounds until : ℕ) : Result ⊤ SessionFault → Type 0 where
-  settles : {done at pending : ℕ} → done ≤ rounds → Rounds a b until done at pending → is_unsettled until at pending ≡ false → SecondPhase a b rounds until (Ok tt)
-  doesnt_settle : {at pending : ℕ} → Rounds a b until rounds at pending → is_unsettled until at pending ≡ true → SecondPhase a b rounds until (Err (faults.NotSettled pending at))
-  stops : {fault : SessionFault} → Stopped (is_unsettled until) a b (Between 0) rounds fault → SecondPhase a b rounds until (Err fault)
+  settles : {done at pending : ℕ} → done ≤ rounds → Rounds a b until done at pending
+      → is_unsettled until at pending ≡ false → SecondPhase a b rounds until (Ok tt)
+  doesnt_settle : {at pending : ℕ} → Rounds a b until rounds at pending
+      → is_unsettled until at pending ≡ true
+      → SecondPhase a b rounds until (Err (faults.NotSettled pending at))
+  stops : {fault : SessionFault} → Stopped (is_unsettled until) a b (Between 0) rounds fault
+      → SecondPhase a b rounds until (Err fault)
 
 -- what each editor did, from this number on; those beyond the list of faults weren't started
-abbrev pub EditorsDid : List Item → ℕ → ℕ → List (List EditorLine) → List (Option SessionFault) → Type 0
+abbrev pub EditorsDid : List Item → ℕ → ℕ → List (List EditorLine)
+    → List (Option SessionFault) → Type 0
 EditorsDid log start number [] ends = ⊤
-EditorsDid log start number (script ∷ scripts) [] = (own by_of number start log ≡ []) × EditorsDid log start (number + 1) scripts []
-EditorsDid log start number (script ∷ scripts) (end ∷ ends) = EditorDid log start number script end × EditorsDid log start (number + 1) scripts ends
+EditorsDid log start number (script ∷ scripts) [] =
+    (own by_of number start log ≡ []) × EditorsDid log start (number + 1) scripts []
+EditorsDid log start number (script ∷ scripts) (end ∷ ends) =
+    EditorDid log start number script end × EditorsDid log start (number + 1) scripts ends
 
 -- the receiver's fault goes before an editor's, and the lower editor's first
-abbrev pub SessionEnds : Stand → Stand → ℕ → ℕ → Option SessionFault → Result ⊤ SessionFault → Type 0
+abbrev pub SessionEnds : Stand → Stand → ℕ → ℕ → Option SessionFault
+    → Result ⊤ SessionFault → Type 0
 SessionEnds middle b rounds until (Some fault) result = (result ≡ Err fault) × (b ≡ middle)
 SessionEnds middle b rounds until None result = SecondPhase middle b rounds until result
 
 -- A session over a client that a pass with number 0 knew at a, and knows at b
-pub record IsSession (a b : Stand) (rounds until : ℕ) (scripts : List (List EditorLine)) (result : Result ⊤ SessionFault) : Type 0 where
+pub record IsSession (a b : Stand) (rounds until : ℕ) (scripts : List (List EditorLine))
+    (result : Result ⊤ SessionFault) : Type 0 where
   -- the moment at which all editors were joined
   pub middle : Stand
   pub receiver : Option SessionFault
@@ -52,9 +63,11 @@ pub record IsSession (a b : Stand) (rounds until : ℕ) (scripts : List (List Ed
   -- an editor wasn't started only if memory ran out
   pub started : (length editors ≡ length scripts) ⊎ (receiver ≡ Some faults.Memory)
   pub ends : SessionEnds middle b rounds until (first_of (receiver ∷ editors)) result
-  -- the log is legal, and has no other items than those of the receiver and of the editors; after the first phase, only the receiver's
+  -- the log is legal, and has no other items than those of the receiver and of the editors; after
+  -- the first phase, only the receiver's
   pub past : Past
   pub log_is : b.known.seen ≡ items_of past
   pub legal : IsLegal past a.known.start a.known.seen 0 b.known.mine
   pub others : All (λ item. by_of item ≤ length scripts) (drop a.known.start b.known.seen)
-  pub alone : (more : List Item) × (b.known.seen ≡ middle.known.seen ++ more) × All (λ item. by_of item ≡ 0) more
+  pub alone : (more : List Item) × (b.known.seen ≡ middle.known.seen ++ more)
+      × All (λ item. by_of item ≡ 0) more

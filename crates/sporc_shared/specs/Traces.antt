@@ -6,11 +6,13 @@ use Rattle.sporc_outside.specs.Streams.{StreamTold}
 use Rattle.sporc_turn.specs.declared.known.Known.{Known}
 use Rattle.sporc_turn.specs.Log.{StartsWith, Agrees}
 use Rattle.sporc_wire.specs.declared.to_client.ToClient.{ToClient}
-use Rattle.sporc_shared.specs.Acts.{Act, items_by, messages_by, answers_by, words_by, all_of, AreInOrder, FitAll}
+use Rattle.sporc_shared.specs.Acts.{Act, items_by, messages_by, answers_by, words_by, all_of}
+use Rattle.sporc_shared.specs.Acts.{AreInOrder, FitAll}
 use Rattle.sporc_shared.specs.Items.{Item, Past, IsAllowed, by_of, items_of}
 use Rattle.sporc_shared.specs.Wires.{InboxModel, LinkStand, Exchanged, link_at, spelled}
 
--- the receiver's pass and what it knows, what the link tells, and the words that the chance gave, with its count of faults
+-- the receiver's pass and what it knows, what the link tells, and the words that the chance gave,
+-- with its count of faults
 pub record Stand : Type 0 where
   pub known : Known Item
   pub link : LinkStand
@@ -18,7 +20,8 @@ pub record Stand : Type 0 where
   pub chance_faults : ℕ
 
 abbrev pub stand : Known Item → LinkStand → Option (List (List ℕ)) → ℕ → Stand
-stand known link words chance_faults = record { known = known; link = link; words = words; chance_faults = chance_faults }
+stand known link words chance_faults =
+    record { known = known; link = link; words = words; chance_faults = chance_faults }
 
 -- by what the link and the chance tell
 abbrev pub stand_at : Known Item → StreamTold → InboxModel → ChanceTold → Stand
@@ -46,10 +49,12 @@ pub record CountsSame (k k' : Known Item) : Type 0 where
   pub joined : k'.joined ≡ k.joined
 
 -- It did these acts, and beside them wrote, received and drew no more than this
-pub record Trace (a b : Stand) (acts : List Act) (written : List ℕ) (answers : List ToClient) (words : List (List ℕ)) : Type 0 where
+pub record Trace (a b : Stand) (acts : List Act) (written : List ℕ) (answers : List ToClient)
+    (words : List (List ℕ)) : Type 0 where
   pub knows : KnowsMore a.known b.known (all_of items_by acts)
   pub fits : FitAll b.known.seen a.known.start a.known.mine acts
   pub in_order : AreInOrder (length a.known.seen) acts
-  pub link : Exchanged a.link b.link (spelled (all_of messages_by acts) ++ written) (all_of answers_by acts ++ answers)
+  pub link : Exchanged a.link b.link (spelled (all_of messages_by acts) ++ written)
+      (all_of answers_by acts ++ answers)
   pub words_are : AppendsItems a.words b.words (all_of words_by acts ++ words)
   pub chance : a.chance_faults ≤ b.chance_faults

@@ -58,7 +58,8 @@ pub(crate) fn crowd<
         (stand_at (known_of result.1) (L.told link.new) inbox.new (C.told chance.new))
         rounds scripts.now (result_err result.0.receiver) (result_err result.0.editors) }
     ensures shut { (L.told link.new).is_shut ≡ (L.told link.old).is_shut }
-    ensures worn { IfErr result.0.receiver (IsWornFor result.1) × IfErr result.0.editors (IsWornFor result.1) }
+    ensures worn { IfErr result.0.receiver (IsWornFor result.1)
+        × IfErr result.0.editors (IsWornFor result.1) }
 {
     let Some((script, others)) = scripts.split_first() else {
         let (receiver, first) = first_phase(
@@ -85,14 +86,17 @@ pub(crate) fn crowd<
     let ((ends, first), (editor, second)) = join_mut(
         rt,
         &mut || -> (Ends, Pass)
-            requires { IsSync R.row × IsSync G.row × IsSend D.row × IsSend L.row × IsSend C.row × IsFirst shared.now first (length others.now) }
-            ensures { IfSome first.entry (λ p. IsPassOf shared.entry.now result.1 × ((known_of result.1).number ≡ 0)
-                × IsCrowd
-                (stand_at (known_of p) (L.told link.entry.now) inbox.entry.now (C.told chance.entry.now))
-                (stand_at (known_of result.1) (L.told link.exit.now) inbox.exit.now (C.told chance.exit.now))
+            requires { IsSync R.row × IsSync G.row × IsSend D.row × IsSend L.row × IsSend C.row
+                × IsFirst shared.now first (length others.now) }
+            ensures { IfSome first.entry
+                (λ p. IsPassOf shared.entry.now result.1 × ((known_of result.1).number ≡ 0)
+                × IsCrowd (stand_at (known_of p) (L.told link.entry.now) inbox.entry.now
+                (C.told chance.entry.now)) (stand_at (known_of result.1)
+                (L.told link.exit.now) inbox.exit.now (C.told chance.exit.now))
                 rounds others.entry.now (result_err result.0.receiver) (result_err result.0.editors)
                 × ((L.told link.exit.now).is_shut ≡ (L.told link.entry.now).is_shut)
-                × IfErr result.0.receiver (IsWornFor result.1) × IfErr result.0.editors (IsWornFor result.1)) }
+                × IfErr result.0.receiver (IsWornFor result.1)
+                × IfErr result.0.editors (IsWornFor result.1)) }
         {
             crowd(
                 rt,
@@ -109,7 +113,9 @@ pub(crate) fn crowd<
         },
         &mut || -> WithPass<()>
             requires { IsOther shared.now second }
-            ensures { IfSome second.entry (λ p. IsPassOf shared.entry.now result.1 × CountsSame (known_of p) (known_of result.1) × LinesDid (known_of p) (known_of result.1) script.entry.now (result_err result.0)
+            ensures { IfSome second.entry (λ p. IsPassOf shared.entry.now result.1
+                × CountsSame (known_of p) (known_of result.1)
+                × LinesDid (known_of p) (known_of result.1) script.entry.now (result_err result.0)
                 × IfErr result.0 (IsWornFor result.1)) }
         {
             do_lines(

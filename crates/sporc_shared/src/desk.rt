@@ -6,8 +6,8 @@ use sporc_client::Client;
 use sporc_outside::LeafDisk;
 use sporc_turn::Kept;
 
-// The client under the lock, in a box, so that each turn moves a pointer alone. Its log begins with what the client was opened
-// with, and goes on with its events.
+// The client under the lock, in a box, so that each turn moves a pointer alone. Its log begins with
+// what the client was opened with, and goes on with its events.
 #[derive(Drop)]
 pub struct Desk<D: LeafDisk> {
     pub client: Box<Client<D>>,

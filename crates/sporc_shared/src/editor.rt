@@ -2,12 +2,14 @@
 
 ghost use Rattle.std.specs.Prelude.{◌≡◌, ◌-◌, ◌≤◌, ◌^◌, min, [], IfErr, IfOk};
 ghost use Rattle.std.specs.Result.{result_err};
-ghost use Rattle.sporc_member.specs.declared.change.Change.TheVariants.{Add, SetRole, AddDevice, DropDevice};
+ghost use Rattle.sporc_member.specs.declared.change.Change.TheVariants.{Add, SetRole, AddDevice};
+ghost use Rattle.sporc_member.specs.declared.change.Change.TheVariants.{DropDevice};
 ghost use Rattle.sporc_script.specs.declared.editor_line.EditorCommand.TheVariants as commands;
 ghost use Rattle.sporc_turn.specs.Passes.{known_of};
 ghost use Rattle.sporc_delta.specs.Marks.{base_len, insertion, removal};
 ghost use Rattle.sporc_shared.specs.Traces.{CountsSame, KnowsMore};
-ghost use Rattle.sporc_shared.specs.Editing.{AskedDid, IsAtFront, IsWornFault, LineDid, LinesDid, StatedDid, seen_of};
+ghost use Rattle.sporc_shared.specs.Editing.{AskedDid, IsAtFront, IsWornFault, LineDid, LinesDid};
+ghost use Rattle.sporc_shared.specs.Editing.{StatedDid, seen_of};
 ghost use Rattle.sporc_shared.specs.Lines.{Changes, asked_by};
 ghost use Rattle.sporc_shared.specs.Passes.{IsPassOf, IsWornFor};
 ghost use Rattle.sporc_shared.specs.Replies.{edited_of};
@@ -100,7 +102,8 @@ fn edit_at<R: Wait, D: LeafDisk>(
     requires stated { base_len delta.now ≡ seen.len }
     ensures lock { IsPassOf shared.now result.1 }
     ensures counts { CountsSame (known_of pass) (known_of result.1) }
-    ensures did { StatedDid (known_of pass) (known_of result.1) line seen.front.events delta.now result.0 }
+    ensures did { StatedDid (known_of pass)
+        (known_of result.1) line seen.front.events delta.now result.0 }
     ensures worn { IfErr result.0 (IsWornFor result.1) }
 {
     let number = pass.number();
@@ -108,10 +111,12 @@ fn edit_at<R: Wait, D: LeafDisk>(
     (edited(number, line, answer), pass)
 }
 
-// The delta of an insertion into a text of this length. No memory holds one of more than MAX_COUNT bytes.
+// The delta of an insertion into a text of this length. No memory holds one of more than MAX_COUNT
+// bytes.
 fn inserted(alloc: Global, len: u64, asked: &Insertion) -> Result<Delta, Memory>
     requires { len ≤ 2 ^ 36 }
-    ensures ok { IfOk result (λ delta. delta ≡ insertion len (min asked.now.at len) asked.now.text) }
+    ensures ok { IfOk result
+        (λ delta. delta ≡ insertion len (min asked.now.at len) asked.now.text) }
 {
     let text = asked.text.as_str();
     if text.len() as u64 > MAX_COUNT {
@@ -125,7 +130,8 @@ fn inserted(alloc: Global, len: u64, asked: &Insertion) -> Result<Delta, Memory>
 // The delta of a removal from a text of this length.
 fn removed(alloc: Global, len: u64, asked: &Removal) -> Result<Delta, Memory>
     requires { len ≤ 2 ^ 36 }
-    ensures ok { IfOk result (λ delta. delta ≡ removal len (min asked.now.at len) (min asked.now.count (len - min asked.now.at len))) }
+    ensures ok { IfOk result (λ delta. delta
+        ≡ removal len (min asked.now.at len) (min asked.now.count (len - min asked.now.at len))) }
 {
     let at = asked.at.min(len);
     let count = asked.count.min(len - at);
@@ -145,7 +151,8 @@ fn insert<R: Wait, D: LeafDisk>(
     requires lock { IsPassOf shared.now pass }
     ensures lock { IsPassOf shared.now result.1 }
     ensures counts { CountsSame (known_of pass) (known_of result.1) }
-    ensures did { AskedDid (known_of pass) (known_of result.1) line (asked_by (commands.Insert asked.now)) result.0 }
+    ensures did { AskedDid (known_of pass) (known_of result.1) line
+        (asked_by (commands.Insert asked.now)) result.0 }
     ensures worn { IfErr result.0 (IsWornFor result.1) }
 {
     let (found, pass) = see(rt, shared, pass);
@@ -171,7 +178,8 @@ fn remove<R: Wait, D: LeafDisk>(
     requires lock { IsPassOf shared.now pass }
     ensures lock { IsPassOf shared.now result.1 }
     ensures counts { CountsSame (known_of pass) (known_of result.1) }
-    ensures did { AskedDid (known_of pass) (known_of result.1) line (asked_by (commands.Remove asked.now)) result.0 }
+    ensures did { AskedDid (known_of pass) (known_of result.1) line
+        (asked_by (commands.Remove asked.now)) result.0 }
     ensures worn { IfErr result.0 (IsWornFor result.1) }
 {
     let (found, pass) = see(rt, shared, pass);

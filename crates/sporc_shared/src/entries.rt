@@ -61,7 +61,8 @@ impl Entries {
 
 // Appends byte strings to others.
 fn append_all(entries: &mut Vec<Vec<u8>>, more: Vec<Bytes>) -> Result<(), Memory>
-    ensures ok { OnOk result (map (λ v. v.items) entries.new.items ≡ map (λ v. v.items) entries.old.items ++ more.items) }
+    ensures ok { OnOk result (map (λ v. v.items) entries.new.items
+        ≡ map (λ v. v.items) entries.old.items ++ more.items) }
 {
     for entry in more {
         entries.push(entry.into_vec())?;

@@ -1,6 +1,7 @@
 //! Messages and their answers.
 
-ghost use Rattle.std.specs.Prelude.{◌≡◌, ◌≢◌, ◌≤◌, ◌<◌, ◌^◌, List, ℕ, [], ◌∷◌, length, IfErr, IfNone, IfOk, IfSome, OnOk};
+ghost use Rattle.std.specs.Prelude.{◌≡◌, ◌≢◌, ◌≤◌, ◌<◌, ◌^◌, List, ℕ, [], ◌∷◌, length, IfErr};
+ghost use Rattle.std.specs.Prelude.{IfNone, IfOk, IfSome, OnOk};
 ghost use Rattle.sporc_base.specs.Outcome.{GivesUnless};
 ghost use Rattle.sporc_wire.specs.declared.cutter.TheConstants.{MAX_BODY};
 ghost use Rattle.sporc_wire.specs.declared.to_server.ToServer.{ToServer};
@@ -27,7 +28,8 @@ pub(crate) trait Sent {
 
     // The message's frame.
     fn frame(&self, alloc: Global) -> Result<Vec<u8>, FrameFault>
-        ensures value { GivesUnless FrameFault.Memory (λ v. v.items) result (framed (to_server_bytes (message self.now))) };
+        ensures value { GivesUnless FrameFault.Memory (λ v. v.items) result
+            (framed (to_server_bytes (message self.now))) };
 }
 
 impl Sent for ToServer {
@@ -75,7 +77,8 @@ pub(crate) fn send<L: Link, M: Sent>(
     }
 }
 
-// The fault of a session in which the next frame is no message. A frame that is too long is one from its start on.
+// The fault of a session in which the next frame is no message. A frame that is too long is one
+// from its start on.
 fn unread(place: u64, fault: FrameFault) -> SessionFault
     ensures { result ≡ unread_fault place fault }
 {

@@ -26,7 +26,8 @@ pub enum SessionFault {
     /// A submission found the history with as many entries as it has at most.
     #[error("the history is full")]
     HistoryFull,
-    /// The server rejected an entry for this cause, and it was still on its way after all other entries came.
+    /// The server rejected an entry for this cause, and it was still on its way after all other
+    /// entries came.
     #[error("the server rejected an entry: {0}")]
     ServerRejected(Refusal),
     /// An event found the journal with as many events as it has at most.

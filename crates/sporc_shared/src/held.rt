@@ -1,4 +1,5 @@
-//! What calls do to the client while it is out with a pass. Each answers, beside the call's answer, how many events the journal then has.
+//! What calls do to the client while it is out with a pass. Each answers, beside the call's answer,
+//! how many events the journal then has.
 
 ghost use Rattle.std.specs.Prelude.{◌≡◌, ◌≤◌, length, IfOk};
 ghost use Rattle.sporc_base.specs.FirstFault.{AnswersUnless};
@@ -34,9 +35,11 @@ pub(crate) fn edit<D: LeafDisk>(
     delta: &Delta,
 ) -> (Result<u64, EditFault>, u64)
     ensures turn { IsSameTurn held.old held.new }
-    ensures fault { AnswersUnless EditFault.Memory result.0 (edit_fault (client_of (past_of (value_of held.old).client.value)) seen delta.now) }
+    ensures fault { AnswersUnless EditFault.Memory result.0
+        (edit_fault (client_of (past_of (value_of held.old).client.value)) seen delta.now) }
     ensures ok { IfOk result.0 (λ n. n ≡ result.1) }
-    ensures past { past_of (value_of held.new).client.value ≡ with_events (past_of (value_of held.old).client.value) (added result.0 (Edited by seen delta.now)) }
+    ensures past { past_of (value_of held.new).client.value ≡ with_events
+        (past_of (value_of held.old).client.value) (added result.0 (Edited by seen delta.now)) }
     ensures allowed { IsAllowed (past_of (value_of held.new).client.value) }
     ensures events { result.1 ≡ length (past_of (value_of held.new).client.value).log }
 {
@@ -54,9 +57,11 @@ pub(crate) fn change<D: LeafDisk>(
     change: Change,
 ) -> (Result<u64, EditFault>, u64)
     ensures turn { IsSameTurn held.old held.new }
-    ensures fault { AnswersUnless EditFault.Memory result.0 (change_fault (client_of (past_of (value_of held.old).client.value))) }
+    ensures fault { AnswersUnless EditFault.Memory result.0
+        (change_fault (client_of (past_of (value_of held.old).client.value))) }
     ensures ok { IfOk result.0 (λ n. n ≡ result.1) }
-    ensures past { past_of (value_of held.new).client.value ≡ with_events (past_of (value_of held.old).client.value) (added result.0 (Changed by change)) }
+    ensures past { past_of (value_of held.new).client.value ≡ with_events
+        (past_of (value_of held.old).client.value) (added result.0 (Changed by change)) }
     ensures allowed { IsAllowed (past_of (value_of held.new).client.value) }
     ensures events { result.1 ≡ length (past_of (value_of held.new).client.value).log }
 {
@@ -75,7 +80,8 @@ pub(crate) fn submit<D: LeafDisk>(
 ) -> (Result<Submitted, SubmitFault>, u64)
     ensures turn { IsSameTurn held.old held.new }
     ensures answer { SubmitsAt (past_of (value_of held.old).client.value) random.now result.0 }
-    ensures past { past_of (value_of held.new).client.value ≡ with_events (past_of (value_of held.old).client.value) (submission_added by result.0) }
+    ensures past { past_of (value_of held.new).client.value
+        ≡ with_events (past_of (value_of held.old).client.value) (submission_added by result.0) }
     ensures allowed { IsAllowed (past_of (value_of held.new).client.value) }
     ensures events { result.1 ≡ length (past_of (value_of held.new).client.value).log }
 {
@@ -94,9 +100,11 @@ pub(crate) fn accept<D: LeafDisk>(
     bytes: &[u8],
 ) -> (Result<u64, AcceptFault>, u64)
     ensures turn { IsSameTurn held.old held.new }
-    ensures fault { AnswersUnless AcceptFault.Memory result.0 (accept_fault (client_of (past_of (value_of held.old).client.value)) pos bytes.now) }
+    ensures fault { AnswersUnless AcceptFault.Memory result.0
+        (accept_fault (client_of (past_of (value_of held.old).client.value)) pos bytes.now) }
     ensures ok { IfOk result.0 (λ n. n ≡ result.1) }
-    ensures past { past_of (value_of held.new).client.value ≡ with_events (past_of (value_of held.old).client.value) (added result.0 (Accepted by bytes.now)) }
+    ensures past { past_of (value_of held.new).client.value ≡ with_events
+        (past_of (value_of held.old).client.value) (added result.0 (Accepted by bytes.now)) }
     ensures allowed { IsAllowed (past_of (value_of held.new).client.value) }
     ensures events { result.1 ≡ length (past_of (value_of held.new).client.value).log }
 {
@@ -115,9 +123,12 @@ pub(crate) fn accept_examined<D: LeafDisk>(
     examined: &Examined,
 ) -> (Result<u64, AcceptFault>, u64)
     ensures turn { IsSameTurn held.old held.new }
-    ensures fault { AnswersUnless AcceptFault.Memory result.0 (accept_fault (client_of (past_of (value_of held.old).client.value)) pos examined.now.entry) }
+    ensures fault { AnswersUnless AcceptFault.Memory result.0 (accept_fault
+        (client_of (past_of (value_of held.old).client.value)) pos examined.now.entry) }
     ensures ok { IfOk result.0 (λ n. n ≡ result.1) }
-    ensures past { past_of (value_of held.new).client.value ≡ with_events (past_of (value_of held.old).client.value) (added result.0 (Accepted by examined.now.entry)) }
+    ensures past { past_of (value_of held.new).client.value
+        ≡ with_events (past_of (value_of held.old).client.value)
+        (added result.0 (Accepted by examined.now.entry)) }
     ensures allowed { IsAllowed (past_of (value_of held.new).client.value) }
     ensures events { result.1 ≡ length (past_of (value_of held.new).client.value).log }
 {
@@ -159,7 +170,8 @@ pub(crate) fn key_for<D: LeafDisk>(
 // Whether an entry is the one on its way.
 pub(crate) fn is_flight<D: LeafDisk>(held: &mut Held<Desk<D>>, entry: &[u8]) -> (bool, u64)
     ensures unchanged { held.new ≡ held.old }
-    ensures is { result.0 ≡ is_flight (client_of (past_of (value_of held.old).client.value)) entry.now }
+    ensures is { result.0
+        ≡ is_flight (client_of (past_of (value_of held.old).client.value)) entry.now }
     ensures allowed { IsAllowed (past_of (value_of held.old).client.value) }
     ensures events { result.1 ≡ length (past_of (value_of held.old).client.value).log }
 {
@@ -181,7 +193,8 @@ fn has_on_its_way<D: LeafDisk>(client: &Client<D>, entry: &[u8]) -> bool
 // The Hello of the client's member, for its document.
 pub(crate) fn hello<D: LeafDisk>(held: &mut Held<Desk<D>>) -> (ToServer, u64)
     ensures unchanged { held.new ≡ held.old }
-    ensures hello { let opening = (past_of (value_of held.old).client.value).opening in result.0 ≡ ToServer.Hello opening.genesis.document opening.kit.me.member }
+    ensures hello { let opening = (past_of (value_of held.old).client.value).opening in
+        result.0 ≡ ToServer.Hello opening.genesis.document opening.kit.me.member }
     ensures within { length (to_server_bytes result.0) ≤ MAX_BODY }
     ensures allowed { IsAllowed (past_of (value_of held.old).client.value) }
     ensures events { result.1 ≡ length (past_of (value_of held.old).client.value).log }

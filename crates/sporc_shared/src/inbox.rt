@@ -1,6 +1,7 @@
 //! What comes over a link.
 
-ghost use Rattle.std.specs.Prelude.{◌≡◌, ◌<◌, ℕ, List, [], length, None, Ok, IfErr, IsOkUnless, OnErr, OnOk};
+ghost use Rattle.std.specs.Prelude.{◌≡◌, ◌<◌, ℕ, List, [], length, None, Ok, IfErr, IsOkUnless};
+ghost use Rattle.std.specs.Prelude.{OnErr, OnOk};
 ghost use Rattle.sporc_base.specs.Outcome.{GivesUnless};
 ghost use Rattle.sporc_wire.specs.Messages.{next};
 ghost use Rattle.sporc_wire.specs.ToClient.{to_client_of};
@@ -16,10 +17,11 @@ use std::marker::Model;
 /// The most bytes that one read asks for.
 pub(crate) const PIECE: usize = 4096;
 
-// The bytes that were taken off a link and not handed out. The last piece is held until it is cut into frames, so that
-// nothing is lost where memory runs out.
+// The bytes that were taken off a link and not handed out. The last piece is held until it is cut
+// into frames, so that nothing is lost where memory runs out.
 //
-// Contracts see them, with the place of the first of them in the stream and how many were taken in all.
+// Contracts see them, with the place of the first of them in the stream and how many were taken in
+// all.
 #[derive(Drop)]
 pub(crate) struct Inbox {
     frames: Frames,
@@ -36,7 +38,12 @@ impl Model for Inbox {
 
     ghost use Rattle.sporc_shared.specs.Wires.{InboxInvariant};
 
-    ghost view = { λ i. record { at = i.frames.at; rest = i.frames.rest; held = take i.len i.piece; taken = i.taken } };
+    ghost view = { λ i. record {
+      at = i.frames.at;
+      rest = i.frames.rest;
+      held = take i.len i.piece;
+      taken = i.taken;
+    } };
 
     ghost invariant = { λ i. InboxInvariant i.frames i.len };
 }
@@ -102,8 +109,10 @@ impl Inbox {
 
     // The next message. None exactly if no whole frame is there.
     pub(crate) fn next(&mut self) -> Result<Option<ToClient>, FrameFault>
-        ensures value { GivesUnless FrameFault.Memory (λ found. found) result (next to_client_of (unread_of self.old)).answer }
-        ensures after { OnOk result (unread_of self.new ≡ (next to_client_of (unread_of self.old)).after) }
+        ensures value { GivesUnless FrameFault.Memory (λ found. found) result
+            (next to_client_of (unread_of self.old)).answer }
+        ensures after { OnOk result
+            (unread_of self.new ≡ (next to_client_of (unread_of self.old)).after) }
         ensures held { OnOk result (self.new.held ≡ []) }
         ensures taken { self.new.taken ≡ self.old.taken }
         ensures unread { OnErr result (unread_of self.new ≡ unread_of self.old) }
@@ -115,8 +124,10 @@ impl Inbox {
     // The next message, where nothing is held.
     fn next_fed(&mut self) -> Result<Option<ToClient>, FrameFault>
         requires { self.old.held ≡ [] }
-        ensures value { GivesUnless FrameFault.Memory (λ found. found) result (next to_client_of (unread_of self.old)).answer }
-        ensures after { OnOk result (unread_of self.new ≡ (next to_client_of (unread_of self.old)).after) }
+        ensures value { GivesUnless FrameFault.Memory (λ found. found) result
+            (next to_client_of (unread_of self.old)).answer }
+        ensures after { OnOk result
+            (unread_of self.new ≡ (next to_client_of (unread_of self.old)).after) }
         ensures held { self.new.held ≡ [] }
         ensures taken { self.new.taken ≡ self.old.taken }
         ensures unread { OnErr result (unread_of self.new ≡ unread_of self.old) }

@@ -16,7 +16,8 @@ pub(crate) fn count_events<D: LeafDisk>(client: &Client<D>) -> u64
     ensures within { result ≤ MAX_EVENTS }
     ensures allowed { is_allowed client.now.opening client.now.log ≡ true }
     ensures sound { IsSound (state_of client.now) }
-    ensures leaves { Rise (first_leaf_of client.now) client.now.leaves.next (leaves_of client.now.log) }
+    ensures leaves { Rise (first_leaf_of client.now) client.now.leaves.next
+        (leaves_of client.now.log) }
 {
     client.journal().len() as u64
 }

@@ -1,8 +1,9 @@
 //! A client that threads share, and its session with a server.
 //!
-//! A [`SharedClient`] is a client under a lock whose holders take turns (`sporc_turn`). Who wants the client has a [`Pass`];
-//! a call takes a turn, makes one event of the client or none, and gives the turn back. Each answer comes with the [`Front`]
-//! at which the call left the journal, and an edit names the front on whose text it is stated.
+//! A [`SharedClient`] is a client under a lock whose holders take turns (`sporc_turn`). Who wants
+//! the client has a [`Pass`]; a call takes a turn, makes one event of the client or none, and gives
+//! the turn back. Each answer comes with the [`Front`] at which the call left the journal, and an
+//! edit names the front on whose text it is stated.
 //!
 //! ```text
 //! let (shared, first) = SharedClient::open(alloc, client)?;
@@ -14,8 +15,8 @@
 //! let client = shared.close(first)?;
 //! ```
 //!
-//! Verifying an entry's signature is what accepting it takes longest for, and it can be done before the turn, under the key
-//! that the author's device has then:
+//! Verifying an entry's signature is what accepting it takes longest for, and it can be done before
+//! the turn, under the key that the author's device has then:
 //!
 //! ```text
 //! let Answered { answer: key, pass, .. } = shared.key_for(&rt, pass, &entry)?;
@@ -23,30 +24,33 @@
 //! let Answered { answer, front, pass } = shared.accept_examined(&rt, pass, 1, &examined)?;
 //! ```
 //!
-//! [`session`] has the client work with a server over a link: up to eight editors, each in a thread of its own, do the lines of
-//! their scripts, while a receiver pulls, accepts and submits in rounds; then the receiver goes on alone until nothing is
-//! pending and the history is long enough.
+//! [`session`] has the client work with a server over a link: up to eight editors, each in a thread
+//! of its own, do the lines of their scripts, while a receiver pulls, accepts and submits in
+//! rounds; then the receiver goes on alone until nothing is pending and the history is long enough.
 //!
 //! ```text
 //! let (result, first) = session(&rt, alloc, &shared, first, &mut link, &mut chance, &scripts, 64, 0, &OpenGate);
 //! ```
 //!
-//! [`fetch`] needs no client: it takes all entries that a server has, unchecked, for a member who joins and reads its keys off
-//! them.
+//! [`fetch`] needs no client: it takes all entries that a server has, unchecked, for a member who
+//! joins and reads its keys off them.
 //!
 //! ```text
 //! let entries = fetch(alloc, &mut link, &document, member)?;
 //! ```
 //!
-//! Proved, whatever the threads do between: each call answers what the plain client answers at one moment of one journal,
-//! which begins with all that the pass had seen and has the pass's own events, in order, and no others with its number; the
-//! call's event, if it made one, ends that journal, and the pass has seen it all. What `close` gives back is the client with
-//! the journal that its pass has seen, whose entries were signed by leaves from the opening's next one on, each once. Of a
-//! session, over any link, chance and editors: the messages, random words and events of the receiver, in the order of the
-//! table of its modes (`specs/Protocol.antt`); that each editor's events are its lines, in order, each once; why it ended; that
-//! its events are moves of a run of all clients of the document ([`laws`]). Of a fetch: its messages, that it gives all entries
-//! that came, and why it ended (`specs/Fetches.antt`). Only tested: that calls of two passes, sessions and fetches succeed
-//! with ample memory (`sporc_thread_tests`). Neither: that a turn comes, and whose turn comes first.
+//! Proved, whatever the threads do between: each call answers what the plain client answers at one
+//! moment of one journal, which begins with all that the pass had seen and has the pass's own
+//! events, in order, and no others with its number; the call's event, if it made one, ends that
+//! journal, and the pass has seen it all. What `close` gives back is the client with the journal
+//! that its pass has seen, whose entries were signed by leaves from the opening's next one on, each
+//! once. Of a session, over any link, chance and editors: the messages, random words and events of
+//! the receiver, in the order of the table of its modes (`specs/Protocol.antt`); that each editor's
+//! events are its lines, in order, each once; why it ended; that its events are moves of a run of
+//! all clients of the document ([`laws`]). Of a fetch: its messages, that it gives all entries that
+//! came, and why it ended (`specs/Fetches.antt`). Only tested: that calls of two passes, sessions
+//! and fetches succeed with ample memory (`sporc_thread_tests`). Neither: that a turn comes, and
+//! whose turn comes first.
 #![tactic(auto)]
 
 mod answered;

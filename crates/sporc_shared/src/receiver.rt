@@ -95,8 +95,9 @@ fn made(answer: Result<Result<Submitted, SubmitFault>, u64>) -> Result<Option<By
     }
 }
 
-// Accepts an entry that is to stand at a position. If a key for it is known, its signature is examined under that one before
-// the turn. If there is no memory for that, it is accepted as it came.
+// Accepts an entry that is to stand at a position. If a key for it is known, its signature is
+// examined under that one before the turn. If there is no memory for that, it is accepted as it
+// came.
 fn accept_under<R: Wait, D: LeafDisk>(
     rt: &R,
     shared: &SharedClient<D>,
@@ -107,8 +108,8 @@ fn accept_under<R: Wait, D: LeafDisk>(
 ) -> Reply<Result<u64, AcceptFault>>
     requires lock { IsPassOf shared.now pass }
     ensures lock { IsReplyOf shared.now result }
-    ensures call { IfOk result (λ r. (before : Past)
-        × IsCall (known_of pass) (known_of r.pass) before (added r.answer (Accepted (known_of pass).number entry))
+    ensures call { IfOk result (λ r. (before : Past) × IsCall (known_of pass)
+        (known_of r.pass) before (added r.answer (Accepted (known_of pass).number entry))
         × AnswersUnless AcceptFault.Memory r.answer (accept_fault (client_of before) pos entry)) }
     ensures worn { IsWornOnErr pass result }
 {
@@ -148,8 +149,8 @@ fn take_under<R: Wait, D: LeafDisk, G: Gate>(
     (took, pass)
 }
 
-// Accepts an entry after so many others: asks for its key in one turn, and accepts it in another one. Its signature is
-// examined between the two.
+// Accepts an entry after so many others: asks for its key in one turn, and accepts it in another
+// one. Its signature is examined between the two.
 fn take_one<R: Wait, D: LeafDisk, G: Gate>(
     rt: &R,
     shared: &SharedClient<D>,
@@ -187,7 +188,8 @@ pub(crate) fn take_all<R: Wait, D: LeafDisk, G: Gate>(
     requires limit { at ≤ MAX_ENTRIES }
     ensures lock { IsPassOf shared.now result.1 }
     ensures counts { CountsSame (known_of pass) (known_of result.1) }
-    ensures took { TookAll (known_of pass) (known_of result.1) at (into_iter_items entries) result.0 }
+    ensures took { TookAll (known_of pass) (known_of result.1) at
+        (into_iter_items entries) result.0 }
     ensures worn { IfErr result.0 (IsWornFor result.1) }
 {
     let Some(entry) = entries.next() else {
@@ -237,7 +239,8 @@ pub(crate) fn submit<R: Wait, D: LeafDisk, C: Chance>(
     ensures lock { IsPassOf shared.now result.1 }
     ensures counts { CountsSame (known_of pass) (known_of result.1) }
     ensures kept { (C.told chance.old).faults ≤ (C.told chance.new).faults }
-    ensures submitted { SubmittedOne (known_of pass) (known_of result.1) (C.told chance.old).given (C.told chance.new).given (C.told chance.old).faults (C.told chance.new).faults result.0 }
+    ensures submitted { SubmittedOne (known_of pass) (known_of result.1) (C.told chance.old).given
+        (C.told chance.new).given (C.told chance.old).faults (C.told chance.new).faults result.0 }
     ensures within { IfOk result.0 (λ made. IfSome made (λ entry. length entry < MAX_BODY)) }
     ensures worn { IfErr result.0 (IsWornFor result.1) }
 {

@@ -8,7 +8,8 @@ ghost use Rattle.sporc_wire.specs.declared.cutter.TheConstants.{MAX_BODY};
 ghost use Rattle.sporc_shared.specs.Traces.{CountsSame, stand, stand_at};
 ghost use Rattle.sporc_shared.specs.Outcomes.{DidOrStopped, GatheredAll};
 ghost use Rattle.sporc_shared.specs.Passes.{IsPassOf, IsWornFor};
-ghost use Rattle.sporc_shared.specs.Protocol.{Between, Pulling, Taking, Sending, Checking, Submits, Drains};
+ghost use Rattle.sporc_shared.specs.Protocol.{Between, Pulling, Taking, Sending, Checking, Submits};
+ghost use Rattle.sporc_shared.specs.Protocol.{Drains};
 ghost use Rattle.sporc_shared.specs.Replies.{checked_of};
 ghost use Rattle.sporc_shared.specs.Wires.{LinkStand, link_at};
 
@@ -77,7 +78,8 @@ fn drain<R: Wait, D: LeafDisk, L: Link, G: Gate>(
     requires limit { at ≤ MAX_ENTRIES }
     ensures lock { IsPassOf shared.now result.1 }
     ensures counts { CountsSame (known_of pass) (known_of result.1) }
-    ensures did { (ready : ℕ → ℕ → Bool) (n : ℕ) (words : Option (List (List ℕ))) (count : ℕ) (entry : List ℕ) (refusal : Refusal)
+    ensures did { (ready : ℕ → ℕ → Bool) (n : ℕ) (words : Option (List (List ℕ))) (count : ℕ)
+        (entry : List ℕ) (refusal : Refusal)
         → DidOrStopped ready
         (stand (known_of pass) (link_at (L.told link.old) inbox.old) words count)
         (stand (known_of result.1) (link_at (L.told link.new) inbox.new) words count)
@@ -125,9 +127,9 @@ fn check<R: Wait, D: LeafDisk>(
     requires first { (known_of pass).number ≡ 0 }
     ensures lock { IsPassOf shared.now result.1 }
     ensures counts { CountsSame (known_of pass) (known_of result.1) }
-    ensures did { (ready : ℕ → ℕ → Bool) (n : ℕ) (link : LinkStand) (words : Option (List (List ℕ))) (count : ℕ)
-        → DidOrStopped ready
-        (stand (known_of pass) link words count)
+    ensures did { (ready : ℕ → ℕ → Bool) (n : ℕ) (link : LinkStand) (words : Option (List (List ℕ)))
+        (count : ℕ)
+        → DidOrStopped ready (stand (known_of pass) link words count)
         (stand (known_of result.1) link words count)
         (Checking n entry.now refusal) (Between (n + 1)) result.0 }
     ensures worn { IfErr result.0 (IsWornFor result.1) }
@@ -136,7 +138,8 @@ fn check<R: Wait, D: LeafDisk>(
     (checked(refusal, answer), pass)
 }
 
-// Takes all entries that there are, and sees whether an entry that was rejected is still on its way.
+// Takes all entries that there are, and sees whether an entry that was rejected is still on its
+// way.
 fn settle<R: Wait, D: LeafDisk, L: Link, G: Gate>(
     rt: &R,
     alloc: Global,

@@ -22,21 +22,24 @@ use std::alloc::Global;
 use std::sync::Wait;
 use std::thread::Threads;
 
-/// A session of the client with a server over a link: at most eight editors in threads of their own beside a receiver, and
-/// then the receiver alone, which goes on until nothing is pending and the history has `until` entries, for at most as many
-/// rounds again.
+/// A session of the client with a server over a link: at most eight editors in threads of their own
+/// beside a receiver, and then the receiver alone, which goes on until nothing is pending and the
+/// history has `until` entries, for at most as many rounds again.
 ///
-/// A round is a pull of the entries that the client lacks, their acceptance, and a submission, whose entry is sent and
-/// answered. After an entry was rejected the receiver pulls until no entries come.
+/// A round is a pull of the entries that the client lacks, their acceptance, and a submission,
+/// whose entry is sent and answered. After an entry was rejected the receiver pulls until no
+/// entries come.
 ///
-/// The pass is number 0, of which none was split, and is handed back as such. The editors have the numbers from 1 on, in the
-/// order of their scripts.
+/// The pass is number 0, of which none was split, and is handed back as such. The editors have the
+/// numbers from 1 on, in the order of their scripts.
 ///
-/// The fault is that of the receiver's first rounds, else that of the editor with the lowest number, else that of the rounds
-/// after them; an editor's fault ends its own script alone. In a round these may come, each with its cause
-/// (`specs/Endings.antt`): LinkFault, LinkEnded, BadMessage, Refused, JournalFull, ChanceFault, HistoryFull, Leaf,
-/// ServerRejected, Worn and Memory. An editor's line ends with EditRefused, JournalFull, Worn or Memory. NotSettled comes only
-/// after all rounds. A submission that is refused for another cause sends nothing, and its round ends.
+/// The fault is that of the receiver's first rounds, else that of the editor with the lowest
+/// number, else that of the rounds after them; an editor's fault ends its own script alone. In a
+/// round these may come, each with its cause (`specs/Endings.antt`): LinkFault, LinkEnded,
+/// BadMessage, Refused, JournalFull, ChanceFault, HistoryFull, Leaf, ServerRejected, Worn and
+/// Memory. An editor's line ends with EditRefused, JournalFull, Worn or Memory. NotSettled comes
+/// only after all rounds. A submission that is refused for another cause sends nothing, and its
+/// round ends.
 pub fn session<
     R: Threads + Wait + Sync,
     D: LeafDisk + Send,

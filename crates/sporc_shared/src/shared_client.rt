@@ -9,7 +9,8 @@ ghost use Rattle.sporc_client.specs.Step.{is_flight};
 ghost use Rattle.sporc_client.specs.Submissions.{submission_added};
 ghost use Rattle.sporc_turn.specs.Knowing.{adding, copied, first_known, joined_with, splitting};
 ghost use Rattle.sporc_turn.specs.Log.{Agrees, Extends, StartsWith};
-ghost use Rattle.sporc_turn.specs.Passes.{known_held, known_of, out_of, read_of, value_of, IsHeldOf};
+ghost use Rattle.sporc_turn.specs.Passes.{known_held, known_of, out_of, read_of, value_of};
+ghost use Rattle.sporc_turn.specs.Passes.{IsHeldOf};
 ghost use Rattle.sporc_wire.specs.declared.cutter.TheConstants.{MAX_BODY};
 ghost use Rattle.sporc_wire.specs.ToServer.{to_server_bytes};
 ghost use Rattle.sporc_shared.specs.Calls.{IsCall, SubmitsAt};
@@ -37,14 +38,16 @@ use std::sync::Wait;
 
 /// A client that threads share. Each of its passes is one of this client alone (`IsPassOf`).
 ///
-/// Contracts see of a pass what it knows of the client's log: what the client was opened with, and then its events.
+/// Contracts see of a pass what it knows of the client's log: what the client was opened with, and
+/// then its events.
 #[derive(Drop)]
 pub struct SharedClient<D: LeafDisk> {
     pub(crate) turn: Turn<Desk<D>>,
 }
 
 impl<D: LeafDisk> SharedClient<D> {
-    /// The client, to be shared, with the pass whose number is 0. It has seen the client's journal so far.
+    /// The client, to be shared, with the pass whose number is 0. It has seen the client's journal
+    /// so far.
     pub fn open(
         alloc: Global,
         client: Client<D>,
@@ -79,9 +82,10 @@ impl<D: LeafDisk> SharedClient<D> {
     ) -> Reply<Result<u64, EditFault>>
         requires lock { IsPassOf self.now pass }
         ensures lock { IsReplyOf self.now result }
-        ensures call { IfOk result (λ r. (before : Past)
-            × IsCall (known_of pass) (known_of r.pass) before (added r.answer (Edited (known_of pass).number seen.events delta.now))
-            × AnswersUnless EditFault.Memory r.answer (edit_fault (client_of before) seen.events delta.now)) }
+        ensures call { IfOk result (λ r. (before : Past) × IsCall (known_of pass) (known_of r.pass)
+            before (added r.answer (Edited (known_of pass).number seen.events delta.now))
+            × AnswersUnless EditFault.Memory r.answer
+            (edit_fault (client_of before) seen.events delta.now)) }
         ensures ok { IfOk result (λ r. IfOk r.answer (λ n. n ≡ r.front.events)) }
         ensures front { HasFront result }
         ensures worn { IsWornOnErr pass result }
@@ -101,8 +105,8 @@ impl<D: LeafDisk> SharedClient<D> {
     ) -> Reply<Result<u64, EditFault>>
         requires lock { IsPassOf self.now pass }
         ensures lock { IsReplyOf self.now result }
-        ensures call { IfOk result (λ r. (before : Past)
-            × IsCall (known_of pass) (known_of r.pass) before (added r.answer (Changed (known_of pass).number change))
+        ensures call { IfOk result (λ r. (before : Past) × IsCall (known_of pass)
+            (known_of r.pass) before (added r.answer (Changed (known_of pass).number change))
             × AnswersUnless EditFault.Memory r.answer (change_fault (client_of before))) }
         ensures ok { IfOk result (λ r. IfOk r.answer (λ n. n ≡ r.front.events)) }
         ensures front { HasFront result }
@@ -114,8 +118,8 @@ impl<D: LeafDisk> SharedClient<D> {
         Ok(self.give(answer, events, held))
     }
 
-    /// Makes an entry of the first pending item, by 64 random bytes: 32 for its signature, and 32 that are the key of the
-    /// next epoch if it is a change of the members.
+    /// Makes an entry of the first pending item, by 64 random bytes: 32 for its signature, and 32
+    /// that are the key of the next epoch if it is a change of the members.
     pub fn submit<R: Wait>(
         &self,
         rt: &R,
@@ -124,8 +128,8 @@ impl<D: LeafDisk> SharedClient<D> {
     ) -> Reply<Result<Submitted, SubmitFault>>
         requires lock { IsPassOf self.now pass }
         ensures lock { IsReplyOf self.now result }
-        ensures call { IfOk result (λ r. (before : Past)
-            × IsCall (known_of pass) (known_of r.pass) before (submission_added (known_of pass).number r.answer)
+        ensures call { IfOk result (λ r. (before : Past) × IsCall (known_of pass)
+            (known_of r.pass) before (submission_added (known_of pass).number r.answer)
             × SubmitsAt before random.now r.answer) }
         ensures front { HasFront result }
         ensures worn { IsWornOnErr pass result }
@@ -146,9 +150,10 @@ impl<D: LeafDisk> SharedClient<D> {
     ) -> Reply<Result<u64, AcceptFault>>
         requires lock { IsPassOf self.now pass }
         ensures lock { IsReplyOf self.now result }
-        ensures call { IfOk result (λ r. (before : Past)
-            × IsCall (known_of pass) (known_of r.pass) before (added r.answer (Accepted (known_of pass).number bytes.now))
-            × AnswersUnless AcceptFault.Memory r.answer (accept_fault (client_of before) pos bytes.now)) }
+        ensures call { IfOk result (λ r. (before : Past) × IsCall (known_of pass)
+            (known_of r.pass) before (added r.answer (Accepted (known_of pass).number bytes.now))
+            × AnswersUnless AcceptFault.Memory r.answer
+            (accept_fault (client_of before) pos bytes.now)) }
         ensures ok { IfOk result (λ r. IfOk r.answer (λ n. n ≡ r.front.events)) }
         ensures front { HasFront result }
         ensures worn { IsWornOnErr pass result }
@@ -159,9 +164,9 @@ impl<D: LeafDisk> SharedClient<D> {
         Ok(self.give(answer, events, held))
     }
 
-    /// Accepts an entry that was examined before the turn. It answers what [`SharedClient::accept`] answers on its bytes,
-    /// and the signature is verified in the turn only if the key of the author's device is by then another one than that under
-    /// which it was examined.
+    /// Accepts an entry that was examined before the turn. It answers what [`SharedClient::accept`]
+    /// answers on its bytes, and the signature is verified in the turn only if the key of the
+    /// author's device is by then another one than that under which it was examined.
     pub fn accept_examined<R: Wait>(
         &self,
         rt: &R,
@@ -171,9 +176,10 @@ impl<D: LeafDisk> SharedClient<D> {
     ) -> Reply<Result<u64, AcceptFault>>
         requires lock { IsPassOf self.now pass }
         ensures lock { IsReplyOf self.now result }
-        ensures call { IfOk result (λ r. (before : Past)
-            × IsCall (known_of pass) (known_of r.pass) before (added r.answer (Accepted (known_of pass).number examined.now.entry))
-            × AnswersUnless AcceptFault.Memory r.answer (accept_fault (client_of before) pos examined.now.entry)) }
+        ensures call { IfOk result (λ r. (before : Past) × IsCall (known_of pass) (known_of r.pass)
+            before (added r.answer (Accepted (known_of pass).number examined.now.entry))
+            × AnswersUnless AcceptFault.Memory r.answer
+            (accept_fault (client_of before) pos examined.now.entry)) }
         ensures ok { IfOk result (λ r. IfOk r.answer (λ n. n ≡ r.front.events)) }
         ensures front { HasFront result }
         ensures worn { IsWornOnErr pass result }
@@ -184,8 +190,9 @@ impl<D: LeafDisk> SharedClient<D> {
         Ok(self.give(answer, events, held))
     }
 
-    /// The key under which the signature of an entry is checked: that of its author's device. None exactly if the bytes are
-    /// no entry, or its author has no such live device. It takes no memory.
+    /// The key under which the signature of an entry is checked: that of its author's device. None
+    /// exactly if the bytes are no entry, or its author has no such live device. It takes no
+    /// memory.
     pub fn key_for<R: Wait>(&self, rt: &R, pass: Pass, entry: &[u8]) -> Reply<Option<[u8; 56]>>
         requires lock { IsPassOf self.now pass }
         ensures lock { IsReplyOf self.now result }
@@ -233,9 +240,9 @@ impl<D: LeafDisk> SharedClient<D> {
     pub(crate) fn hello<R: Wait>(&self, rt: &R, pass: Pass) -> Reply<ToServer>
         requires lock { IsPassOf self.now pass }
         ensures lock { IsReplyOf self.now result }
-        ensures call { IfOk result (λ r. (before : Past)
-            × IsCall (known_of pass) (known_of r.pass) before []
-            × (r.answer ≡ ToServer.Hello before.opening.genesis.document before.opening.kit.me.member)) }
+        ensures call { IfOk result
+            (λ r. (before : Past) × IsCall (known_of pass) (known_of r.pass) before [] × (r.answer
+            ≡ ToServer.Hello before.opening.genesis.document before.opening.kit.me.member)) }
         ensures within { IfOk result (λ r. length (to_server_bytes r.answer) ≤ MAX_BODY) }
         ensures worn { IsWornOnErr pass result }
     {
@@ -247,12 +254,15 @@ impl<D: LeafDisk> SharedClient<D> {
     // Gives the client back after a call.
     fn give<A>(&self, answer: A, events: u64, held: Held<Desk<D>>) -> Answered<A>
         requires lock { IsHeldOf self.now.turn held }
-        requires log { Extends by_of (known_held held) (items_of (past_of (value_of held).client.value)) }
+        requires log { Extends by_of (known_held held)
+            (items_of (past_of (value_of held).client.value)) }
         ensures lock { IsPassOf self.now result.pass }
         ensures answer { result.answer ≡ answer }
         ensures front { result.front.events ≡ events }
-        ensures known { known_of result.pass ≡ adding (known_held held) (items_of (past_of (value_of held).client.value)) }
-        ensures agrees { Agrees by_of (known_of result.pass) (items_of (past_of (value_of held).client.value)) }
+        ensures known { known_of result.pass
+            ≡ adding (known_held held) (items_of (past_of (value_of held).client.value)) }
+        ensures agrees { Agrees by_of (known_of result.pass)
+            (items_of (past_of (value_of held).client.value)) }
     {
         Answered {
             answer,
@@ -261,8 +271,8 @@ impl<D: LeafDisk> SharedClient<D> {
         }
     }
 
-    /// Number 0 and a new pass, whose number is one more than the last one's. It has seen as much, and has no events of its
-    /// own.
+    /// Number 0 and a new pass, whose number is one more than the last one's. It has seen as much,
+    /// and has no events of its own.
     pub fn split(&self, pass: Pass) -> Result<(Pass, Pass), (Pass, Memory)>
         requires lock { IsPassOf self.now pass }
         requires first { (known_of pass).number ≡ 0 }
@@ -275,8 +285,9 @@ impl<D: LeafDisk> SharedClient<D> {
         self.turn.split(pass)
     }
 
-    /// Joins a pass back to number 0, which keeps its items. It has seen the longer of both logs, and each of them is a prefix
-    /// of that one. Of the next tickets that both read it keeps the larger.
+    /// Joins a pass back to number 0, which keeps its items. It has seen the longer of both logs,
+    /// and each of them is a prefix of that one. Of the next tickets that both read it keeps the
+    /// larger.
     pub fn join(&self, a: Pass, b: Pass) -> Pass
         requires lock { IsPassOf self.now a × IsPassOf self.now b }
         requires first { (known_of a).number ≡ 0 }
@@ -291,9 +302,9 @@ impl<D: LeafDisk> SharedClient<D> {
         self.turn.join(a, b)
     }
 
-    /// The client, if each pass that was split was joined back. Its log is what number 0 has seen, and the leaves of its
-    /// submissions rise from the first that it could draw, each once. Otherwise the shared client and the pass come back,
-    /// with the number of passes that are out.
+    /// The client, if each pass that was split was joined back. Its log is what number 0 has seen,
+    /// and the leaves of its submissions rise from the first that it could draw, each once.
+    /// Otherwise the shared client and the pass come back, with the number of passes that are out.
     pub fn close(self, pass: Pass) -> Result<Client<D>, (SharedClient<D>, Pass, Away)>
         requires lock { IsPassOf self pass }
         requires first { (known_of pass).number ≡ 0 }
@@ -301,7 +312,8 @@ impl<D: LeafDisk> SharedClient<D> {
         ensures log { IfOk result (λ c. items_of (past_of c) ≡ (known_of pass).seen) }
         ensures agrees { IfOk result (λ c. Agrees by_of (known_of pass) (items_of (past_of c))) }
         ensures allowed { IfOk result (λ c. IsAllowed (past_of c)) }
-        ensures leaves { IfOk result (λ c. Rise (past_of c).first_leaf c.leaves.next (leaves_of c.log)) }
+        ensures leaves { IfOk result
+            (λ c. Rise (past_of c).first_leaf c.leaves.next (leaves_of c.log)) }
         ensures away { IfErr result (λ e. (e.2.out ≡ out_of pass) × (e.2.out ≢ 0)) }
         ensures returned { IfErr result (λ e. (e.0 ≡ self) × (e.1 ≡ pass)) }
     {

@@ -1,5 +1,6 @@
 -- What is loaded of a saved history: its entries, one after another, until one is refused.
-use Rattle.std.specs.Prelude.{◌≡◌, ◌≢◌, ℕ, ◌+◌, List, [], ◌∷◌, ◌++◌, length, take, Option, None, Some, IfNone, IfSome, slice_get}
+use Rattle.std.specs.Prelude.{◌≡◌, ◌≢◌, ℕ, ◌+◌, List, [], ◌∷◌, ◌++◌, length, take, Option, None}
+use Rattle.std.specs.Prelude.{Some, IfNone, IfSome, slice_get}
 use Rattle.sporc_entry.specs.declared.genesis.Genesis.{Genesis}
 use Rattle.sporc_head.specs.declared.refusal.Refusal.{Refusal}
 use Rattle.sporc_head.specs.declared.refusal.Refusal.TheVariants.{Memory}
@@ -19,12 +20,15 @@ pub data Checker : Type 0 where
 -- the first check that an entry fails behind these
 unfoldable pub fault_behind : Checker → List (List ℕ) → List ℕ → Option Refusal
 fault_behind nobody entries bytes = None
-fault_behind (an_order genesis) entries bytes = head_fault genesis None entries (length entries + 1) bytes
-fault_behind (a_member genesis kit) entries bytes = first_fault genesis kit entries (length entries + 1) bytes
+fault_behind (an_order genesis) entries bytes =
+    head_fault genesis None entries (length entries + 1) bytes
+fault_behind (a_member genesis kit) entries bytes =
+    first_fault genesis kit entries (length entries + 1) bytes
 
 -- each of these entries fails no check of an order where it stands
 abbrev pub AreAccepted : Genesis → List (List ℕ) → Type 0
-AreAccepted genesis entries = (i : ℕ) (e : List ℕ) → slice_get entries i ≡ Some e → head_fault genesis None (take i entries) (i + 1) e ≡ None
+AreAccepted genesis entries = (i : ℕ) (e : List ℕ) → slice_get entries i ≡ Some e
+    → head_fault genesis None (take i entries) (i + 1) e ≡ None
 
 -- entries, and one more unless it is refused
 abbrev pub appended : Option Refusal → List ℕ → List (List ℕ) → List (List ℕ)
@@ -39,8 +43,8 @@ unless_refused (Some refusal) position taken = read_to [] (Refused position refu
 -- of entries that follow those before, up to a stop, the ones that are accepted
 unfoldable pub accepted_behind : Checker → List (List ℕ) → List (List ℕ) → Stop → Taken
 accepted_behind checker before [] stop = read_to [] stop
-accepted_behind checker before (e ∷ es) stop =
-    unless_refused (fault_behind checker before e) (length before + 1) (first_and e (accepted_behind checker (before ++ e ∷ []) es stop))
+accepted_behind checker before (e ∷ es) stop = unless_refused (fault_behind checker before e)
+    (length before + 1) (first_and e (accepted_behind checker (before ++ e ∷ []) es stop))
 
 -- entries that were taken, and those that are accepted of the ones that follow, up to a stop
 abbrev pub accepted_from : Checker → List (List ℕ) → List (List ℕ) → Stop → Taken
@@ -63,17 +67,22 @@ NamesCheck Foreign = Unit {0}
 NamesCheck (Cut at) = Unit {0}
 NamesCheck (Refused position refusal) = refusal ≢ Memory
 
--- what is taken in all once a part of the entries was appended: those behind it go on, unless one of the part was refused
+-- what is taken in all once a part of the entries was appended: those behind it go on, unless one
+-- of the part was refused
 abbrev pub taken_on : Option Stop → Checker → List (List ℕ) → List (List ℕ) → Stop → Taken
 taken_on None checker taken rest stop = accepted_from checker taken rest stop
 taken_on (Some refused) checker taken rest stop = read_to taken refused
 
--- a part of the entries of a file was appended to these, up to the first that is refused, whatever follows the part
-pub record AppendsPart (checker : Checker) (before part : List (List ℕ)) (refused : Option Stop) (after : List (List ℕ)) : Type 0 where
-  pub taken : (rest : List (List ℕ)) (stop : Stop) → accepted_from checker before (part ++ rest) stop ≡ taken_on refused checker after rest stop
+-- a part of the entries of a file was appended to these, up to the first that is refused, whatever
+-- follows the part
+pub record AppendsPart (checker : Checker) (before part : List (List ℕ)) (refused : Option Stop)
+    (after : List (List ℕ)) : Type 0 where
+  pub taken : (rest : List (List ℕ)) (stop : Stop)
+      → accepted_from checker before (part ++ rest) stop ≡ taken_on refused checker after rest stop
   pub count : IfNone refused (length after ≡ length before + length part)
   pub named : IfSome refused NamesCheck
 
 -- the first few of them were, whatever follows
 abbrev pub AppendsSome : Checker → List (List ℕ) → List (List ℕ) → List (List ℕ) → Type 0
-AppendsSome checker before part after = (rest : List (List ℕ)) (stop : Stop) → IsPrefix after (accepted_from checker before (part ++ rest) stop).entries
+AppendsSome checker before part after = (rest : List (List ℕ)) (stop : Stop)
+    → IsPrefix after (accepted_from checker before (part ++ rest) stop).entries

@@ -7,11 +7,13 @@
 -- | entries | each counted | as many as the count says, oldest first |
 --
 -- Nothing follows.
-use Rattle.std.specs.Prelude.{◌≡◌, ℕ, zero, suc, ◌-◌, ◌^◌, nat_eq, nat_le, nat_lt, List, [], ◌∷◌, ◌++◌, length, take, drop, codes, Result, Ok, Err, if◌then◌else◌}
+use Rattle.std.specs.Prelude.{◌≡◌, ℕ, zero, suc, ◌-◌, ◌^◌, nat_eq, nat_le, nat_lt, List, [], ◌∷◌}
+use Rattle.std.specs.Prelude.{◌++◌, length, take, drop, codes, Result, Ok, Err, if◌then◌else◌}
 use Rattle.std.specs.List.{flat_map, starts_with}
 use Rattle.std.specs.Int.{w32, to_be_bytes}
 use Rattle.sporc_outside.specs.declared.file_fault.TheConstants.{MAX_FILE}
-use Rattle.sporc_bytes.specs.Fields.{Reading, ◌>>=◌, fault_as, number_at, only_if, counted_at, counted, end_at}
+use Rattle.sporc_bytes.specs.Fields.{Reading, ◌>>=◌, fault_as, number_at, only_if, counted_at}
+use Rattle.sporc_bytes.specs.Fields.{counted, end_at}
 use Rattle.sporc_head.specs.declared.limits.TheConstants.{MAX_ENTRIES}
 use Rattle.sporc_wire.specs.Messages.{counted_to_end}
 use Rattle.sporc_store.specs.declared.fault.SaveFault.{SaveFault}
@@ -28,13 +30,15 @@ head_bytes document = codes "SPH1" ++ document
 
 -- the file of a history of a document
 unfoldable pub saved_bytes : List ℕ → List (List ℕ) → List ℕ
-saved_bytes document entries = head_bytes document ++ (to_be_bytes w32 (length entries) ++ flat_map counted entries)
+saved_bytes document entries =
+    head_bytes document ++ (to_be_bytes w32 (length entries) ++ flat_map counted entries)
 
 -- that file, if it is not too long
 abbrev pub saved_file : List ℕ → List (List ℕ) → Result (List ℕ) SaveFault
 saved_file document entries =
     let bytes = saved_bytes document entries in
-    if nat_lt MAX_FILE (length bytes) then Err (TooLong (counted_to_end (length bytes))) else Ok bytes
+    if nat_lt MAX_FILE (length bytes) then Err (TooLong (counted_to_end (length bytes)))
+    else Ok bytes
 
 -- ---- reading
 
@@ -82,7 +86,8 @@ count_at r = do
 -- how many entries a file of a document has, and its bytes from the first of them on
 unfoldable pub opened : List ℕ → List ℕ → Result (ℕ × Reading) Stop
 opened document bytes =
-    if starts_with nat_eq bytes (head_bytes document) then fault_as Cut (count_at (record { rest = drop HEAD_LEN bytes; at = HEAD_LEN }))
+    if starts_with nat_eq bytes (head_bytes document)
+    then fault_as Cut (count_at (record { rest = drop HEAD_LEN bytes; at = HEAD_LEN }))
     else Err Foreign
 
 abbrev pub listed : Result (ℕ × Reading) Stop → Taken

@@ -9,13 +9,16 @@
 -- | position | 4 | one more than that of the record before |
 -- | entry | counted | at most MAX_ENTRY |
 --
--- It is read behind a log. Bytes that end before a record does are the record that was being written as the server was
--- stopped, and count as none; so does a head that is cut.
-use Rattle.std.specs.Prelude.{◌≡◌, ◌&&◌, Bool, true, false, ◌+◌, ◌-◌, ◌<◌, ◌≤◌, ◌^◌, ℕ, zero, suc, nat_eq, nat_le, List, [], ◌∷◌, ◌++◌, length, take, drop, codes, Result, Ok, Err, if◌then◌else◌}
+-- It is read behind a log. Bytes that end before a record does are the record that was being
+-- written as the server was stopped, and count as none; so does a head that is cut.
+use Rattle.std.specs.Prelude.{◌≡◌, ◌&&◌, Bool, true, false, ◌+◌, ◌-◌, ◌<◌, ◌≤◌, ◌^◌, ℕ, zero, suc}
+use Rattle.std.specs.Prelude.{nat_eq, nat_le, List, [], ◌∷◌, ◌++◌, length, take, drop, codes}
+use Rattle.std.specs.Prelude.{Result, Ok, Err, if◌then◌else◌}
 use Rattle.std.specs.List.{All, starts_with}
 use Rattle.std.specs.Int.{w32, to_be_bytes}
 use Rattle.std.specs.Str.{bytes_eq}
-use Rattle.sporc_bytes.specs.Fields.{Reading, ◌>>=◌, fault_as, number_at, bytes_at, only_if, counted}
+use Rattle.sporc_bytes.specs.Fields.{Reading, ◌>>=◌, fault_as, number_at, bytes_at, only_if}
+use Rattle.sporc_bytes.specs.Fields.{counted}
 use Rattle.sporc_entry.specs.declared.limits.TheConstants.{MAX_ENTRY}
 use Rattle.sporc_store.specs.declared.tail_fault.TailFault.{TailFault}
 use Rattle.sporc_store.specs.declared.tail_fault.TailFault.TheVariants.{Malformed, Memory}
@@ -68,21 +71,24 @@ entry_and_tail e (Ok others) = Ok (taken_to (e ∷ others.entries) others.whole)
 entry_and_tail e (Err fault) = Err fault
 
 -- an entry that the log lacks, or one that it has: then it is the log's, or its place is at fault
-abbrev pub kept_and : List (List ℕ) → List ℕ → ℕ → (List (List ℕ) → Result TailTaken TailFault) → Result TailTaken TailFault
+abbrev pub kept_and : List (List ℕ) → List ℕ → ℕ → (List (List ℕ) → Result TailTaken TailFault)
+    → Result TailTaken TailFault
 kept_and [] e place others = entry_and_tail e (others [])
 kept_and (a ∷ ahead) e place others = if bytes_eq a e then others ahead else Err (Malformed place)
 
 -- a record that begins at a place, and those behind it
-abbrev pub record_and : ℕ → Result (List ℕ × Reading) RecordEnd → List (List ℕ) → (List (List ℕ) → Reading → Result TailTaken TailFault)
-    → Result TailTaken TailFault
-record_and at (Ok found) ahead others = kept_and ahead found.0 (at + 8) (λ rest. others rest found.1)
+abbrev pub record_and : ℕ → Result (List ℕ × Reading) RecordEnd → List (List ℕ)
+    → (List (List ℕ) → Reading → Result TailTaken TailFault) → Result TailTaken TailFault
+record_and at (Ok found) ahead others =
+    kept_and ahead found.0 (at + 8) (λ rest. others rest found.1)
 record_and at (Err Cut) ahead others = Ok (taken_to [] at)
 record_and at (Err (Misfit place)) ahead others = Err (Malformed place)
 
 -- at most so many records from a position on, behind a log that has these entries from there on
 unfoldable pub records_behind : ℕ → List (List ℕ) → ℕ → Reading → Result TailTaken TailFault
 records_behind zero ahead position r = Ok (taken_to [] r.at)
-records_behind (suc n) ahead position r = record_and r.at (record_at position r) ahead (λ rest others. records_behind n rest (position + 1) others)
+records_behind (suc n) ahead position r = record_and r.at (record_at position r) ahead
+    (λ rest others. records_behind n rest (position + 1) others)
 
 -- entries that were taken, and what is taken behind them
 abbrev pub behind_taken : List (List ℕ) → Result TailTaken TailFault → Result TailTaken TailFault
@@ -95,17 +101,22 @@ IsUnread tail (Malformed at) = tail ≡ Err (Malformed at)
 IsUnread tail Memory = Unit {0}
 IsUnread tail fault = ⊥
 
--- the next record was read: what is taken is what is taken behind it, or these entries, or it was at fault, or memory ran out
-abbrev pub GoesOn : Result TailTaken TailFault → Result TailTaken TailFault → TailTaken → Result Bool TailFault → Type 0
+-- the next record was read: what is taken is what is taken behind it, or these entries, or it was
+-- at fault, or memory ran out
+abbrev pub GoesOn : Result TailTaken TailFault → Result TailTaken TailFault → TailTaken
+    → Result Bool TailFault → Type 0
 GoesOn before after taken (Ok true) = before ≡ after
 GoesOn before after taken (Ok false) = before ≡ Ok taken
 GoesOn before after taken (Err fault) = IsUnread before fault
 
--- the records behind a head, of which there are fewer than bytes: the first of them has a position of the log, or the one behind it
-abbrev pub records_of : List (List ℕ) → Reading → Result (ℕ × Reading) ℕ → Result TailTaken TailFault
+-- the records behind a head, of which there are fewer than bytes: the first of them has a position
+-- of the log, or the one behind it
+abbrev pub records_of : List (List ℕ) → Reading → Result (ℕ × Reading) ℕ
+    → Result TailTaken TailFault
 records_of log r (Err at) = Ok (taken_to [] r.at)
 records_of log r (Ok first) =
-    if nat_le 1 first.0 && nat_le first.0 (length log + 1) then records_behind (length r.rest) (drop (first.0 - 1) log) first.0 r
+    if nat_le 1 first.0 && nat_le first.0 (length log + 1)
+    then records_behind (length r.rest) (drop (first.0 - 1) log) first.0 r
     else Err (Malformed r.at)
 
 abbrev pub behind_head : List ℕ → Reading
@@ -114,7 +125,8 @@ behind_head bytes = record { rest = drop TAIL_HEAD_LEN bytes; at = TAIL_HEAD_LEN
 -- what a document's tail of these bytes has behind a log
 unfoldable pub tail_behind : List (List ℕ) → List ℕ → List ℕ → Result TailTaken TailFault
 tail_behind log document bytes =
-    if starts_with nat_eq bytes (tail_head document) then records_of log (behind_head bytes) (number_at w32 (behind_head bytes))
+    if starts_with nat_eq bytes (tail_head document)
+    then records_of log (behind_head bytes) (number_at w32 (behind_head bytes))
     else if starts_with nat_eq (tail_head document) bytes then Ok (taken_to [] 0)
     else Err (Malformed 0)
 
@@ -130,25 +142,31 @@ Agree (a ∷ ahead) (e ∷ es) = (a ≡ e) × Agree ahead es
 abbrev pub FitsRecord : List ℕ → Type 0
 FitsRecord entry = length entry ≤ MAX_ENTRY
 
--- the tail of these entries, and behind it a prefix of the next record, which is all of it at the most
-pub record IsTail (document : List ℕ) (from : ℕ) (entries : List (List ℕ)) (next : List ℕ) (kept : ℕ) (bytes : List ℕ) : Type 0 where
-  pub bytes_are : bytes ≡ tail_bytes document from entries ++ take kept (record_bytes (from + length entries + 1) next)
+-- the tail of these entries, and behind it a prefix of the next record, which is all of it at the
+-- most
+pub record IsTail (document : List ℕ) (from : ℕ) (entries : List (List ℕ)) (next : List ℕ)
+    (kept : ℕ) (bytes : List ℕ) : Type 0 where
+  pub bytes_are : bytes ≡ tail_bytes document from entries
+      ++ take kept (record_bytes (from + length entries + 1) next)
   pub fit : All FitsRecord entries
   pub next_fits : FitsRecord next
   pub positions : from + length entries < 2 ^ 31
 
 -- behind a log it gives these entries, the log's first
-pub record Gives (log : List (List ℕ)) (document bytes : List ℕ) (entries : List (List ℕ)) : Type 0 where
+pub record Gives (log : List (List ℕ)) (document bytes : List ℕ)
+    (entries : List (List ℕ)) : Type 0 where
   pub taken : TailTaken
   pub reads : tail_behind log document bytes ≡ Ok taken
   pub all : log ++ taken.entries ≡ entries
 
 -- what bytes give behind a log, others give
 abbrev pub GivesSame : List (List ℕ) → List ℕ → List ℕ → List ℕ → Type 0
-GivesSame log document old new = (entries : List (List ℕ)) → Gives log document old entries → Gives log document new entries
+GivesSame log document old new =
+    (entries : List (List ℕ)) → Gives log document old entries → Gives log document new entries
 
 -- behind a log it gives at least these entries, the log's first
-pub record Recovers (log : List (List ℕ)) (document bytes : List ℕ) (entries : List (List ℕ)) : Type 0 where
+pub record Recovers (log : List (List ℕ)) (document bytes : List ℕ)
+    (entries : List (List ℕ)) : Type 0 where
   pub taken : TailTaken
   pub reads : tail_behind log document bytes ≡ Ok taken
   pub all : IsPrefix entries (log ++ taken.entries)

@@ -6,7 +6,8 @@ use Rattle.sporc_outside.specs.Told.{IfBoth, IfTold}
 use Rattle.sporc_outside.specs.declared.file_fault.TheConstants.{MAX_FILE}
 use Rattle.sporc_store.specs.declared.stop.Stop.TheVariants.{End, Refused as RefusedAt}
 use Rattle.sporc_store.specs.declared.tail_fault.TailFault.{TailFault}
-use Rattle.sporc_store.specs.declared.tail_fault.TailFault.TheVariants.{Failed, TooLong, Malformed, Refused, Memory}
+use Rattle.sporc_store.specs.declared.tail_fault.TailFault.TheVariants.{Failed, TooLong, Malformed}
+use Rattle.sporc_store.specs.declared.tail_fault.TailFault.TheVariants.{Refused, Memory}
 use Rattle.sporc_store.specs.Loading.{an_order, accepted_from}
 use Rattle.sporc_store.specs.TailBytes.{GivesSame, TailTaken, tail_behind}
 use Rattle.sporc_store.specs.TailFiles.{TakesTail}
@@ -16,7 +17,8 @@ abbrev pub AreTold : Option (List ℕ) → List ℕ → Type 0
 AreTold stored bytes = IfTold stored (λ told. told ≡ bytes)
 
 -- an order's entries, once it took those that its log lacks of the bytes that were read
-pub record TakesRead (genesis : Genesis) (log : List (List ℕ)) (stored : Option (List ℕ)) (entries : List (List ℕ)) : Type 0 where
+pub record TakesRead (genesis : Genesis) (log : List (List ℕ)) (stored : Option (List ℕ))
+    (entries : List (List ℕ)) : Type 0 where
   pub bytes : List ℕ
   pub told : AreTold stored bytes
   pub within : length bytes ≤ MAX_FILE
@@ -25,19 +27,24 @@ pub record TakesRead (genesis : Genesis) (log : List (List ℕ)) (stored : Optio
 -- why no bytes were read, where the file's count of faults went from `before` to `after`
 abbrev pub IsReadingFault : Option (List ℕ) → ℕ → ℕ → TailFault → Type 0
 IsReadingFault stored before after Failed = Rose before after
-IsReadingFault stored before after (TooLong len) = (bytes : List ℕ) × AreTold stored bytes × (MAX_FILE < length bytes)
+IsReadingFault stored before after (TooLong len) =
+    (bytes : List ℕ) × AreTold stored bytes × (MAX_FILE < length bytes)
 IsReadingFault stored before after Memory = Unit {0}
 IsReadingFault stored before after fault = ⊥
 
--- why it took none of the bytes that were read, or why none were read, where the file's count of faults went from `before` to `after`
+-- why it took none of the bytes that were read, or why none were read, where the file's count of
+-- faults went from `before` to `after`
 abbrev pub IsFaultOfRead : Genesis → List (List ℕ) → Option (List ℕ) → ℕ → ℕ → TailFault → Type 0
 IsFaultOfRead genesis log stored before after Failed = Rose before after
-IsFaultOfRead genesis log stored before after (TooLong len) = (bytes : List ℕ) × AreTold stored bytes × (MAX_FILE < length bytes)
+IsFaultOfRead genesis log stored before after (TooLong len) =
+    (bytes : List ℕ) × AreTold stored bytes × (MAX_FILE < length bytes)
 IsFaultOfRead genesis log stored before after (Malformed at) =
-    (bytes : List ℕ) × AreTold stored bytes × (length bytes ≤ MAX_FILE) × (tail_behind log genesis.document bytes ≡ Err (Malformed at))
+    (bytes : List ℕ) × AreTold stored bytes × (length bytes ≤ MAX_FILE)
+    × (tail_behind log genesis.document bytes ≡ Err (Malformed at))
 IsFaultOfRead genesis log stored before after (Refused position refusal) =
     (bytes : List ℕ) × AreTold stored bytes × (length bytes ≤ MAX_FILE)
-    × (taken : TailTaken) × (tail_behind log genesis.document bytes ≡ Ok taken) × ((accepted_from (an_order genesis) log taken.entries End).stop ≡ RefusedAt position refusal)
+    × (taken : TailTaken) × (tail_behind log genesis.document bytes ≡ Ok taken)
+    × ((accepted_from (an_order genesis) log taken.entries End).stop ≡ RefusedAt position refusal)
 IsFaultOfRead genesis log stored before after Memory = Unit {0}
 
 -- what told bytes gave behind a log is given by those that are told afterwards

@@ -1,15 +1,18 @@
--- Runs of a server over one log and its tail: openings, entries that are put, logs that are saved, and stops at any moment.
-use Rattle.std.specs.Prelude.{◌≡◌, ◌+◌, ◌≤◌, ℕ, false, List, [], ◌∷◌, ◌++◌, length, Option, Some, None, Result, Ok, Err}
+-- Runs of a server over one log and its tail: openings, entries that are put, logs that are saved,
+-- and stops at any moment.
+use Rattle.std.specs.Prelude.{◌≡◌, ◌+◌, ◌≤◌, ℕ, false, List, [], ◌∷◌, ◌++◌, length, Option, Some}
+use Rattle.std.specs.Prelude.{None, Result, Ok, Err}
 use Rattle.sporc_entry.specs.declared.genesis.Genesis.{Genesis}
 use Rattle.sporc_head.specs.HeadChecks.{head_fault}
 use Rattle.sporc_order.specs.declared.tail.Unkept.{Unkept}
 use Rattle.sporc_outside.specs.AppendFile.{AppendTold, IsFileFound, file_images}
 use Rattle.sporc_store.specs.Loading.{AreAccepted}
 use Rattle.sporc_store.specs.SavedFile.{IsPrefix}
-use Rattle.sporc_store.specs.TailFiles.{OpensBehind, Puts, RecoversAt, StaysFound, TailFileModel, TakesTail}
+use Rattle.sporc_store.specs.TailFiles.{OpensBehind, Puts, RecoversAt, StaysFound, TailFileModel}
+use Rattle.sporc_store.specs.TailFiles.{TakesTail}
 
--- One thing that happens. A call that a stop cuts off never answers: its move has what the call would have left, the moment, and the file that is
--- found afterwards
+-- One thing that happens. A call that a stop cuts off never answers: its move has what the call
+-- would have left, the moment, and the file that is found afterwards
 pub data TailMove (D : Type 0) : Type 0 where
   -- an opening, and the entries of the order then
   Open : TailFileModel D → List (List ℕ) → TailMove D
@@ -62,8 +65,10 @@ after_moves s [] = s
 after_moves s (move ∷ moves) = after_moves (after_move s move) moves
 
 module _ {D : Type 0} (file_told : D → AppendTold) (genesis : Genesis) where
-  -- it is opened behind the saved log, takes what that lacks of what the file holds, and loses nothing that was found there
-  pub record MayOpen (s : TailState D) (t : TailFileModel D) (entries : List (List ℕ)) : Type 0 where
+  -- it is opened behind the saved log, takes what that lacks of what the file holds, and loses
+  -- nothing that was found there
+  pub record MayOpen (s : TailState D) (t : TailFileModel D)
+      (entries : List (List ℕ)) : Type 0 where
     pub rests : s.tail ≡ None
     pub bytes : List ℕ
     pub told : (file_told s.file).stored ≡ Some bytes
@@ -87,12 +92,14 @@ module _ {D : Type 0} (file_told : D → AppendTold) (genesis : Genesis) where
   -- what may happen next
   abbrev pub MayMove : TailState D → TailMove D → Type 0
   MayMove s (Open t entries) = MayOpen s t entries
-  MayMove s (OpenFailed file) = (s.tail ≡ None) × StaysFound file_told s.log genesis.document s.file file
-  MayMove s (OpenCut file at found) =
-      (s.tail ≡ None) × StaysFound file_told s.log genesis.document s.file file × StopsIn s.file file at found
-  MayMove s (Put entry result t) = (old : TailFileModel D) × (s.tail ≡ Some old) × Puts file_told old (length s.held + 1) entry result t
-  MayMove s (PutCut entry result t at found) =
-      (old : TailFileModel D) × (s.tail ≡ Some old) × Puts file_told old (length s.held + 1) entry result t × StopsIn old.file t.file at found
+  MayMove s (OpenFailed file) =
+      (s.tail ≡ None) × StaysFound file_told s.log genesis.document s.file file
+  MayMove s (OpenCut file at found) = (s.tail ≡ None)
+      × StaysFound file_told s.log genesis.document s.file file × StopsIn s.file file at found
+  MayMove s (Put entry result t) = (old : TailFileModel D) × (s.tail ≡ Some old)
+      × Puts file_told old (length s.held + 1) entry result t
+  MayMove s (PutCut entry result t at found) = (old : TailFileModel D) × (s.tail ≡ Some old)
+      × Puts file_told old (length s.held + 1) entry result t × StopsIn old.file t.file at found
   MayMove s Save = (t : TailFileModel D) × (s.tail ≡ Some t)
   MayMove s End = Unit {0}
   MayMove s (Remake file) = (s.log ≡ s.held) × IsNew file
@@ -102,22 +109,24 @@ module _ {D : Type 0} (file_told : D → AppendTold) (genesis : Genesis) where
   IsTailRun s [] = Unit {0}
   IsTailRun s (move ∷ moves) = MayMove s move × IsTailRun (after_move s move) moves
 
-  -- an entry that is put has failed no check of the order, behind all that it has: its `submit_kept` checks before it puts
+  -- an entry that is put has failed no check of the order, behind all that it has: its
+  -- `submit_kept` checks before it puts
   abbrev pub IsChecked : TailState D → TailMove D → Type 0
   IsChecked s (Put entry result t) = head_fault genesis None s.held (length s.held + 1) entry ≡ None
-  IsChecked s (PutCut entry result t at found) = head_fault genesis None s.held (length s.held + 1) entry ≡ None
+  IsChecked s (PutCut entry result t at found) =
+      head_fault genesis None s.held (length s.held + 1) entry ≡ None
   IsChecked s move = Unit {0}
 
   abbrev pub IsCheckedRun : TailState D → List (TailMove D) → Type 0
   IsCheckedRun s [] = Unit {0}
   IsCheckedRun s (move ∷ moves) = IsChecked s move × IsCheckedRun (after_move s move) moves
 
-  -- An order can begin again, whatever a stop leaves of the file now: its checks accept the saved log, and all that is read behind it, and it has all that
-  -- any order had
+  -- An order can begin again, whatever a stop leaves of the file now: its checks accept the saved
+  -- log, and all that is read behind it, and it has all that any order had
   pub record CanBegin (s : TailState D) : Type 0 where
     pub log : AreAccepted genesis s.log
-    pub tail : (image : List ℕ) → file_images (file_told s.file) image
-        → (entries : List (List ℕ)) × TakesTail genesis s.log image entries × IsPrefix s.held entries
+    pub tail : (image : List ℕ) → file_images (file_told s.file) image → (entries : List (List ℕ))
+        × TakesTail genesis s.log image entries × IsPrefix s.held entries
 
   -- a server that was never started: no tail, and a log that is all that anybody saw
   pub record Begins (s : TailState D) : Type 0 where
@@ -125,20 +134,23 @@ module _ {D : Type 0} (file_told : D → AppendTold) (genesis : Genesis) where
     pub saved : s.held ≡ s.log
     pub is_new : IsNew s.file
 
-  -- whatever happened before, each order begins with all that any order had: nothing that was answered or handed out is lost, and it stays where it was
+  -- whatever happened before, each order begins with all that any order had: nothing that was
+  -- answered or handed out is lost, and it stays where it was
   abbrev pub NothingIsLost : Type 0
-  NothingIsLost =
-      (s : TailState D) (before after : List (TailMove D)) → length genesis.document ≡ 16 → Begins s → IsTailRun s (before ++ after)
+  NothingIsLost = (s : TailState D) (before after : List (TailMove D))
+      → length genesis.document ≡ 16 → Begins s → IsTailRun s (before ++ after)
       → IsPrefix (after_moves s before).held (after_moves s (before ++ after)).held
 
-  -- and whatever a stop then leaves of the file is read behind the saved log as a tail that has all of this
+  -- and whatever a stop then leaves of the file is read behind the saved log as a tail that has all
+  -- of this
   abbrev pub IsFoundAgain : Type 0
-  IsFoundAgain =
-      (s : TailState D) (run : List (TailMove D)) → length genesis.document ≡ 16 → Begins s → IsTailRun s run
-      → RecoversAt file_told (after_moves s run).log genesis.document (after_moves s run).file (file_told (after_moves s run).file).moment (after_moves s run).held
+  IsFoundAgain = (s : TailState D) (run : List (TailMove D)) → length genesis.document ≡ 16
+      → Begins s → IsTailRun s run → RecoversAt file_told (after_moves s run).log genesis.document
+      (after_moves s run).file (file_told (after_moves s run).file).moment (after_moves s run).held
 
-  -- and if all that was put was checked, and the first log was accepted, an order can always begin again
+  -- and if all that was put was checked, and the first log was accepted, an order can always begin
+  -- again
   abbrev pub BeginsAgain : Type 0
-  BeginsAgain =
-      (s : TailState D) (run : List (TailMove D)) → length genesis.document ≡ 16 → Begins s → AreAccepted genesis s.log → IsTailRun s run → IsCheckedRun s run
+  BeginsAgain = (s : TailState D) (run : List (TailMove D)) → length genesis.document ≡ 16
+      → Begins s → AreAccepted genesis s.log → IsTailRun s run → IsCheckedRun s run
       → CanBegin (after_moves s run)

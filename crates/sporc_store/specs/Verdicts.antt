@@ -8,4 +8,5 @@ abbrev pub AreExact : List (Option Verdict) → List (List ℕ) → Type 0
 AreExact [] [] = Unit {0}
 AreExact [] (e ∷ es) = ⊥
 AreExact (found ∷ others) [] = ⊥
-AreExact (found ∷ others) (e ∷ es) = IfSome found (λ verdict. IsExact verdict e) × AreExact others es
+AreExact (found ∷ others) (e ∷ es) =
+    IfSome found (λ verdict. IsExact verdict e) × AreExact others es

@@ -1,11 +1,13 @@
 //! The entries of a saved history, appended one after another.
 
-ghost use Rattle.std.specs.Prelude.{◌≡◌, ◌+◌, ◌≤◌, ◌<◌, ◌^◌, [], length, vec_len, IfOk, IfNone, IfSome, OnErr};
+ghost use Rattle.std.specs.Prelude.{◌≡◌, ◌+◌, ◌≤◌, ◌<◌, ◌^◌, [], length, vec_len, IfOk, IfNone};
+ghost use Rattle.std.specs.Prelude.{IfSome, OnErr};
 ghost use Rattle.std.specs.Thread.{IsSync};
 ghost use Rattle.sporc_entry.specs.Genesis.{IsGenesis};
 ghost use Rattle.sporc_store.specs.declared.limits.TheConstants.{MAX_WORKERS};
 ghost use Rattle.sporc_store.specs.SavedFile.{read_to, saved_in, IsPrefix};
-ghost use Rattle.sporc_store.specs.Loading.{accepted, accepted_from, loaded, AppendsPart, AppendsSome, NamesCheck};
+ghost use Rattle.sporc_store.specs.Loading.{accepted, accepted_from, loaded, AppendsPart};
+ghost use Rattle.sporc_store.specs.Loading.{AppendsSome, NamesCheck};
 ghost use Rattle.sporc_store.specs.TailFiles.{IsRefused};
 ghost use Rattle.sporc_store.specs.Verdicts.{AreExact};
 
@@ -25,7 +27,8 @@ use std::alloc::Global;
 use std::sync::Wait;
 use std::thread::{Threads, join_mut};
 
-// Appends the entries of a document's saved history to an empty one, up to the first that is cut short or refused.
+// Appends the entries of a document's saved history to an empty one, up to the first that is cut
+// short or refused.
 pub(crate) fn append_saved<H: History>(
     alloc: Global,
     history: &mut H,
@@ -33,17 +36,19 @@ pub(crate) fn append_saved<H: History>(
     bytes: &[u8],
 ) -> Result<Stop, Memory>
     requires { H.entries history.old ≡ [] }
-    ensures ok { IfOk result (λ stop. read_to (H.entries history.new) stop ≡ loaded (H.checker history.old) document.now bytes.now) }
+    ensures ok { IfOk result (λ stop. read_to (H.entries history.new) stop
+        ≡ loaded (H.checker history.old) document.now bytes.now) }
     ensures named { IfOk result NamesCheck }
-    ensures memory { OnErr result (IsPrefix (H.entries history.new) (loaded (H.checker history.old) document.now bytes.now).entries) }
+    ensures memory { OnErr result (IsPrefix (H.entries history.new)
+        (loaded (H.checker history.old) document.now bytes.now).entries) }
     ensures checker { H.checker history.new ≡ H.checker history.old }
 {
     let (entries, stop) = saved_entries(alloc, document, bytes)?;
     append_entries(alloc, history, entries.as_slice(), stop)
 }
 
-// Appends such entries with their signatures examined by so many workers: while entries are appended, they examine
-// those behind.
+// Appends such entries with their signatures examined by so many workers: while entries are
+// appended, they examine those behind.
 pub(crate) fn append_examined<R: Threads + Wait + Sync, G: Gate + Sync, H: DocumentHistory>(
     rt: &R,
     alloc: Global,
@@ -55,9 +60,11 @@ pub(crate) fn append_examined<R: Threads + Wait + Sync, G: Gate + Sync, H: Docum
     requires empty { H.entries history.old ≡ [] }
     requires positive { 1 ≤ workers }
     requires limit { workers ≤ MAX_WORKERS }
-    ensures ok { IfOk result (λ stop. read_to (H.entries history.new) stop ≡ loaded (H.checker history.old) (H.genesis history.old).document bytes.now) }
+    ensures ok { IfOk result (λ stop. read_to (H.entries history.new) stop
+        ≡ loaded (H.checker history.old) (H.genesis history.old).document bytes.now) }
     ensures named { IfOk result NamesCheck }
-    ensures memory { OnErr result (IsPrefix (H.entries history.new) (loaded (H.checker history.old) (H.genesis history.old).document bytes.now).entries) }
+    ensures memory { OnErr result (IsPrefix (H.entries history.new)
+        (loaded (H.checker history.old) (H.genesis history.old).document bytes.now).entries) }
     ensures checker { H.checker history.new ≡ H.checker history.old }
 {
     let (mut entries, stop) = foretold_entries(alloc, history.genesis(), bytes)?;
@@ -74,14 +81,16 @@ pub(crate) fn append_examined<R: Threads + Wait + Sync, G: Gate + Sync, H: Docum
     )
 }
 
-// The entries of a saved history, where they stand, each with the key that its author is foretold to have.
+// The entries of a saved history, where they stand, each with the key that its author is foretold
+// to have.
 fn foretold_entries<'a>(
     alloc: Global,
     genesis: &Genesis,
     bytes: &'a [u8],
 ) -> Result<(Vec<SavedEntry<'a>>, Stop), Memory>
     requires is_genesis { IsGenesis genesis.now }
-    ensures ok { IfOk result (λ read. read_to read.0.items read.1 ≡ saved_in genesis.now.document bytes.entry.now) }
+    ensures ok { IfOk result
+        (λ read. read_to read.0.items read.1 ≡ saved_in genesis.now.document bytes.entry.now) }
     ensures within { IfOk result (λ read. vec_len read.0 < 2 ^ 32) }
     ensures named { IfOk result (λ read. NamesCheck read.1) }
 {
@@ -91,8 +100,9 @@ fn foretold_entries<'a>(
     Ok((entries, stop))
 }
 
-// Appends entries behind so many others, up to the first that is refused, or where their reading stopped. The first `known`
-// of them were examined. While they are appended, the workers examine the next block, and so on.
+// Appends entries behind so many others, up to the first that is refused, or where their reading
+// stopped. The first `known` of them were examined. While they are appended, the workers examine
+// the next block, and so on.
 fn append_blocks<R: Threads + Wait + Sync, G: Gate + Sync, H: History>(
     rt: &R,
     alloc: Global,
@@ -110,9 +120,11 @@ fn append_blocks<R: Threads + Wait + Sync, G: Gate + Sync, H: History>(
     requires positive { 1 ≤ workers }
     requires limit { workers ≤ MAX_WORKERS }
     requires named { NamesCheck stop }
-    ensures ok { IfOk result (λ end. read_to (H.entries history.new) end ≡ accepted_from (H.checker history.old) (H.entries history.old) entries.old stop) }
+    ensures ok { IfOk result (λ end. read_to (H.entries history.new) end
+        ≡ accepted_from (H.checker history.old) (H.entries history.old) entries.old stop) }
     ensures named { IfOk result NamesCheck }
-    ensures memory { OnErr result (IsPrefix (H.entries history.new) (accepted_from (H.checker history.old) (H.entries history.old) entries.old stop).entries) }
+    ensures memory { OnErr result (IsPrefix (H.entries history.new)
+        (accepted_from (H.checker history.old) (H.entries history.old) entries.old stop).entries) }
     ensures checker { H.checker history.new ≡ H.checker history.old }
 {
     if entries.is_empty() {
@@ -130,8 +142,9 @@ fn append_blocks<R: Threads + Wait + Sync, G: Gate + Sync, H: History>(
     }
 }
 
-// Appends examined entries behind so many others, up to the first that is refused, while the workers examine the first few of
-// the rest. The first worker does both, so its part of these is the smaller.
+// Appends examined entries behind so many others, up to the first that is refused, while the
+// workers examine the first few of the rest. The first worker does both, so its part of these is
+// the smaller.
 fn append_beside<R: Threads + Wait + Sync, G: Gate + Sync, H: History>(
     rt: &R,
     alloc: Global,
@@ -148,8 +161,10 @@ fn append_beside<R: Threads + Wait + Sync, G: Gate + Sync, H: History>(
     requires in_bounds { count ≤ length rest.old }
     requires positive { 1 ≤ workers }
     requires limit { workers ≤ MAX_WORKERS }
-    ensures ok { IfOk result (λ refused. AppendsPart (H.checker history.old) (H.entries history.old) block.now refused (H.entries history.new)) }
-    ensures memory { OnErr result (AppendsSome (H.checker history.old) (H.entries history.old) block.now (H.entries history.new)) }
+    ensures ok { IfOk result (λ refused. AppendsPart (H.checker history.old)
+        (H.entries history.old) block.now refused (H.entries history.new)) }
+    ensures memory { OnErr result (AppendsSome (H.checker history.old)
+        (H.entries history.old) block.now (H.entries history.new)) }
     ensures checker { H.checker history.new ≡ H.checker history.old }
     ensures rest { rest.new ≡ rest.old }
 {
@@ -159,7 +174,8 @@ fn append_beside<R: Threads + Wait + Sync, G: Gate + Sync, H: History>(
     let (found, appended) = join_mut(
         rt,
         &mut || -> Result<Vec<Option<Verdict>>, Memory>
-            requires { IsSync R.row × IsSync G.row × (1 ≤ workers) × (workers ≤ MAX_WORKERS) × (behind + share + length others.now < 2 ^ 32) }
+            requires { IsSync R.row × IsSync G.row × (1 ≤ workers) × (workers ≤ MAX_WORKERS)
+                × (behind + share + length others.now < 2 ^ 32) }
             ensures { IfOk result (λ verdicts. AreExact verdicts.items others.entry.now) }
         {
             examine_by(
@@ -173,10 +189,15 @@ fn append_beside<R: Threads + Wait + Sync, G: Gate + Sync, H: History>(
             )
         },
         &mut || -> Result<Appended, Memory>
-            requires { IsSync R.row × IsSync G.row × (length (H.entries history.now) ≡ before) × (before + length block.now + length own.now < 2 ^ 32) }
-            ensures ok { IfOk result (λ appended. AppendsPart (H.checker history.entry.now) (H.entries history.entry.now) block.entry.now appended.refused (H.entries history.exit.now)) }
-            ensures exact { IfOk result (λ appended. IfNone appended.refused (AreExact appended.verdicts.items own.entry.now)) }
-            ensures memory { OnErr result (AppendsSome (H.checker history.entry.now) (H.entries history.entry.now) block.entry.now (H.entries history.exit.now)) }
+            requires { IsSync R.row × IsSync G.row × (length (H.entries history.now) ≡ before)
+                × (before + length block.now + length own.now < 2 ^ 32) }
+            ensures ok { IfOk result
+                (λ appended. AppendsPart (H.checker history.entry.now) (H.entries history.entry.now)
+                block.entry.now appended.refused (H.entries history.exit.now)) }
+            ensures exact { IfOk result (λ appended. IfNone appended.refused
+                (AreExact appended.verdicts.items own.entry.now)) }
+            ensures memory { OnErr result (AppendsSome (H.checker history.entry.now)
+                (H.entries history.entry.now) block.entry.now (H.entries history.exit.now)) }
             ensures checker { H.checker history.exit.now ≡ H.checker history.entry.now }
         { append_and_examine(rt, alloc, gate, history, before, block, own) },
     );
@@ -189,7 +210,8 @@ fn append_beside<R: Threads + Wait + Sync, G: Gate + Sync, H: History>(
     Ok(appended.refused)
 }
 
-// How many of the entries to examine the first worker takes, while it appends so many: its part of all that is to be done.
+// How many of the entries to examine the first worker takes, while it appends so many: its part of
+// all that is to be done.
 fn first_share(appended: usize, count: usize, workers: u32) -> usize
     requires positive { 1 ≤ workers }
     requires limit { appended + count < 2 ^ 32 }
@@ -201,14 +223,16 @@ fn first_share(appended: usize, count: usize, workers: u32) -> usize
         .min(count)
 }
 
-// The first worker's work on a block: what came of the entries that it appended, and what it found of those that it examined.
+// The first worker's work on a block: what came of the entries that it appended, and what it found
+// of those that it examined.
 #[derive(Drop)]
 struct Appended {
     refused: Option<Stop>,
     verdicts: Vec<Option<Verdict>>,
 }
 
-// Appends examined entries behind so many others, and unless one is refused, examines some of those behind them.
+// Appends examined entries behind so many others, and unless one is refused, examines some of those
+// behind them.
 fn append_and_examine<R: Wait, G: Gate, H: History>(
     rt: &R,
     alloc: Global,
@@ -220,9 +244,12 @@ fn append_and_examine<R: Wait, G: Gate, H: History>(
 ) -> Result<Appended, Memory>
     requires before { length (H.entries history.old) ≡ before }
     requires limit { before + length block.now + length next.now < 2 ^ 32 }
-    ensures ok { IfOk result (λ appended. AppendsPart (H.checker history.old) (H.entries history.old) block.now appended.refused (H.entries history.new)) }
-    ensures exact { IfOk result (λ appended. IfNone appended.refused (AreExact appended.verdicts.items next.now)) }
-    ensures memory { OnErr result (AppendsSome (H.checker history.old) (H.entries history.old) block.now (H.entries history.new)) }
+    ensures ok { IfOk result (λ appended. AppendsPart (H.checker history.old)
+        (H.entries history.old) block.now appended.refused (H.entries history.new)) }
+    ensures exact { IfOk result
+        (λ appended. IfNone appended.refused (AreExact appended.verdicts.items next.now)) }
+    ensures memory { OnErr result (AppendsSome (H.checker history.old)
+        (H.entries history.old) block.now (H.entries history.new)) }
     ensures checker { H.checker history.new ≡ H.checker history.old }
 {
     let refused = append_part(alloc, history, before, block)?;
@@ -236,7 +263,8 @@ fn append_and_examine<R: Wait, G: Gate, H: History>(
     Ok(Appended { refused, verdicts })
 }
 
-// Appends entries to an empty history, up to the first that is refused, or where their reading stopped.
+// Appends entries to an empty history, up to the first that is refused, or where their reading
+// stopped.
 fn append_entries<H: History>(
     alloc: Global,
     history: &mut H,
@@ -246,9 +274,11 @@ fn append_entries<H: History>(
     requires empty { H.entries history.old ≡ [] }
     requires limit { length entries.now < 2 ^ 32 }
     requires named { NamesCheck stop }
-    ensures ok { IfOk result (λ end. read_to (H.entries history.new) end ≡ accepted (H.checker history.old) (read_to entries.now stop)) }
+    ensures ok { IfOk result (λ end. read_to (H.entries history.new) end
+        ≡ accepted (H.checker history.old) (read_to entries.now stop)) }
     ensures named { IfOk result NamesCheck }
-    ensures memory { OnErr result (IsPrefix (H.entries history.new) (accepted (H.checker history.old) (read_to entries.now stop)).entries) }
+    ensures memory { OnErr result (IsPrefix (H.entries history.new)
+        (accepted (H.checker history.old) (read_to entries.now stop)).entries) }
     ensures checker { H.checker history.new ≡ H.checker history.old }
 {
     match append_part(alloc, history, 0, entries) {
@@ -267,9 +297,11 @@ pub(crate) fn append_part<H: History>(
 ) -> Result<Option<Stop>, Memory>
     requires before { length (H.entries history.old) ≡ before }
     requires limit { before + length entries.now < 2 ^ 32 }
-    ensures ok { IfOk result (λ refused. AppendsPart (H.checker history.old) (H.entries history.old) entries.now refused (H.entries history.new)) }
+    ensures ok { IfOk result (λ refused. AppendsPart (H.checker history.old)
+        (H.entries history.old) entries.now refused (H.entries history.new)) }
     ensures refused { IfOk result (λ refused. IfSome refused IsRefused) }
-    ensures memory { OnErr result (AppendsSome (H.checker history.old) (H.entries history.old) entries.now (H.entries history.new)) }
+    ensures memory { OnErr result (AppendsSome (H.checker history.old)
+        (H.entries history.old) entries.now (H.entries history.new)) }
     ensures checker { H.checker history.new ≡ H.checker history.old }
 {
     for (taken, entry) in entries.iter().enumerate() {

@@ -8,8 +8,8 @@ use sporc_entry::{EntryFault, EntryView};
 use sporc_member::{Change, Roster};
 use std::alloc::{AllocError, Global};
 
-// Foretells the key of each entry's author: that which it has once the changes before are made at this roster, of which
-// nothing is checked but that the members may be changed so.
+// Foretells the key of each entry's author: that which it has once the changes before are made at
+// this roster, of which nothing is checked but that the members may be changed so.
 pub(crate) fn foretell(
     alloc: Global,
     roster: Roster,
@@ -25,7 +25,8 @@ pub(crate) fn foretell(
     Ok(())
 }
 
-// The key of the device of an entry's author, if it is a live one; the roster is then as the entry changes it.
+// The key of the device of an entry's author, if it is a live one; the roster is then as the entry
+// changes it.
 fn key_at(alloc: Global, roster: &mut Roster, bytes: &[u8]) -> Result<Option<[u8; 56]>, Memory> {
     let view = match EntryView::read(alloc, bytes) {
         Ok(view) => view,

@@ -3,7 +3,8 @@
 ghost use Rattle.std.specs.Prelude.{◌≡◌, ◌≢◌, ℕ, List, map, Some, IfOk, OnErr};
 ghost use Rattle.sporc_entry.specs.declared.genesis.Genesis.{Genesis};
 ghost use Rattle.sporc_entry.specs.Genesis.{IsGenesis};
-ghost use Rattle.sporc_store.specs.Loading.{Checker, nobody, an_order, a_member, fault_behind, appended};
+ghost use Rattle.sporc_store.specs.Loading.{Checker, nobody, an_order, a_member, fault_behind};
+ghost use Rattle.sporc_store.specs.Loading.{appended};
 
 use crate::saved_entry::SavedEntry;
 use sporc_base::Memory;
@@ -23,8 +24,10 @@ pub(crate) trait History {
 
     // Appends an entry, or answers the first check that it fails.
     fn append(&mut self, alloc: Global, entry: &SavedEntry<'_>) -> Result<Option<Refusal>, Memory>
-        ensures refusal { IfOk result (λ refusal. refusal ≡ fault_behind (checker self.old) (entries self.old) entry.now) }
-        ensures taken { IfOk result (λ refusal. entries self.new ≡ appended refusal entry.now (entries self.old)) }
+        ensures refusal { IfOk result
+            (λ refusal. refusal ≡ fault_behind (checker self.old) (entries self.old) entry.now) }
+        ensures taken { IfOk result
+            (λ refusal. entries self.new ≡ appended refusal entry.now (entries self.old)) }
         ensures named { IfOk result (λ refusal. refusal ≢ Some Refusal.Memory) }
         ensures memory { OnErr result (entries self.new ≡ entries self.old) }
         ensures checker { checker self.new ≡ checker self.old };

@@ -16,14 +16,16 @@ use std::alloc::Global;
 use std::sync::Wait;
 use std::thread::Threads;
 
-/// The entries of a document's saved history, unchecked, up to where its reading stops: at its end, or at the first place
-/// that is cut short or forbidden. No check is made, so the stop is never `Refused`.
+/// The entries of a document's saved history, unchecked, up to where its reading stops: at its end,
+/// or at the first place that is cut short or forbidden. No check is made, so the stop is never
+/// `Refused`.
 pub fn read_saved(
     alloc: Global,
     document: &[u8; 16],
     bytes: &[u8],
 ) -> Result<(Vec<Vec<u8>>, Stop), Memory>
-    ensures ok { IfOk result (λ read. read_to (map (λ entry. entry.items) read.0.items) read.1 ≡ saved_in document.now bytes.now) }
+    ensures ok { IfOk result (λ read. read_to (map (λ entry. entry.items) read.0.items) read.1
+        ≡ saved_in document.now bytes.now) }
     ensures unchecked { IfOk result (λ read. IsUnchecked read.1) }
 {
     let mut entries = Vec::new(alloc);
@@ -31,8 +33,8 @@ pub fn read_saved(
     Ok((entries, stop))
 }
 
-/// Where the reading of a document's saved history stops, whoever checks its entries: at its end, or at the first place that is
-/// cut short or forbidden.
+/// Where the reading of a document's saved history stops, whoever checks its entries: at its end,
+/// or at the first place that is cut short or forbidden.
 pub fn saved_stop(document: &[u8; 16], bytes: &[u8]) -> Stop
     ensures value { result ≡ (saved_in document.now bytes.now).stop }
     ensures unchecked { IsUnchecked result }
@@ -43,8 +45,9 @@ pub fn saved_stop(document: &[u8; 16], bytes: &[u8]) -> Stop
     }
 }
 
-/// Appends the entries of a saved history to the empty line of its document, up to the first that is cut short or that
-/// the line refuses. If memory runs out, the line has the entries taken so far.
+/// Appends the entries of a saved history to the empty line of its document, up to the first that
+/// is cut short or that the line refuses. If memory runs out, the line has the entries taken so
+/// far.
 pub fn load(alloc: Global, bytes: &[u8], line: Line) -> Result<(Line, Stop), (Line, Memory)>
     requires empty { line.entries ≡ [] }
     ensures ok { IfOk result (λ done. read_to done.0.entries done.1
@@ -54,7 +57,8 @@ pub fn load(alloc: Global, bytes: &[u8], line: Line) -> Result<(Line, Stop), (Li
         (loaded (a_member line.genesis line.kit) line.genesis.document bytes.now).entries) }
     ensures genesis { IfOk result (λ done. done.0.genesis ≡ line.genesis) }
     ensures kit { IfOk result (λ done. done.0.kit ≡ line.kit) }
-    ensures returned { IfErr result (λ failed. (failed.0.genesis ≡ line.genesis) × (failed.0.kit ≡ line.kit)) }
+    ensures returned { IfErr result
+        (λ failed. (failed.0.genesis ≡ line.genesis) × (failed.0.kit ≡ line.kit)) }
 {
     let mut line = line;
     let document = *line.document();
@@ -64,9 +68,9 @@ pub fn load(alloc: Global, bytes: &[u8], line: Line) -> Result<(Line, Stop), (Li
     }
 }
 
-/// [`load`], with the signatures of the file's entries examined by so many workers: those of a block while the line takes
-/// the entries of the block before. Each worker calls the gate's `before_line` with its number, from 1, and an entry's
-/// position before it examines that entry.
+/// [`load`], with the signatures of the file's entries examined by so many workers: those of a
+/// block while the line takes the entries of the block before. Each worker calls the gate's
+/// `before_line` with its number, from 1, and an entry's position before it examines that entry.
 pub fn load_many<R: Threads + Wait + Sync, G: Gate + Sync>(
     rt: &R,
     alloc: Global,
@@ -85,7 +89,8 @@ pub fn load_many<R: Threads + Wait + Sync, G: Gate + Sync>(
         (loaded (a_member line.genesis line.kit) line.genesis.document bytes.now).entries) }
     ensures genesis { IfOk result (λ done. done.0.genesis ≡ line.genesis) }
     ensures kit { IfOk result (λ done. done.0.kit ≡ line.kit) }
-    ensures returned { IfErr result (λ failed. (failed.0.genesis ≡ line.genesis) × (failed.0.kit ≡ line.kit)) }
+    ensures returned { IfErr result
+        (λ failed. (failed.0.genesis ≡ line.genesis) × (failed.0.kit ≡ line.kit)) }
 {
     let mut line = line;
     match append_examined(rt, alloc, &mut line, bytes, workers, gate) {
@@ -94,7 +99,8 @@ pub fn load_many<R: Threads + Wait + Sync, G: Gate + Sync>(
     }
 }
 
-/// Loads a saved history into the empty order of the document, which makes the checks that need no key.
+/// Loads a saved history into the empty order of the document, which makes the checks that need no
+/// key.
 pub fn load_order(
     alloc: Global,
     bytes: &[u8],

@@ -3,7 +3,8 @@
 ghost use Rattle.std.specs.Prelude.{◌≡◌, ◌<◌, ◌^◌, IfOk, IfErr, vec_len};
 ghost use Rattle.sporc_base.specs.Outcome.{Gives};
 ghost use Rattle.sporc_bytes.specs.Fields.{Reads, end_at};
-ghost use Rattle.sporc_store.specs.SavedFile.{IsUnchecked, count_at, entries_at, opened, read_to, saved_in, stop_behind};
+ghost use Rattle.sporc_store.specs.SavedFile.{IsUnchecked, count_at, entries_at, opened, read_to};
+ghost use Rattle.sporc_store.specs.SavedFile.{saved_in, stop_behind};
 ghost use Rattle.sporc_store.specs.Loading.{NamesCheck};
 
 use crate::head::{HEAD_LEN, head_of};
@@ -17,7 +18,8 @@ use std::alloc::Global;
 // How many entries a document's saved history has, and its bytes from the first of them on.
 #[tactic(auto, unfolding(crate::specs::SavedFile::opened))]
 pub(crate) fn open<'a>(document: &[u8; 16], bytes: &'a [u8]) -> Result<(u32, Cursor<'a>), Stop>
-    ensures value { Gives (λ found. (found.0, found.1)) result (opened document.now bytes.entry.now) }
+    ensures value { Gives (λ found. (found.0, found.1)) result
+        (opened document.now bytes.entry.now) }
     ensures named { IfErr result NamesCheck }
 {
     if !bytes.starts_with(&head_of(document)) {
@@ -49,7 +51,8 @@ pub(crate) fn saved_entries<'a>(
     document: &[u8; 16],
     bytes: &'a [u8],
 ) -> Result<(Vec<SavedEntry<'a>>, Stop), Memory>
-    ensures ok { IfOk result (λ read. read_to read.0.items read.1 ≡ saved_in document.now bytes.entry.now) }
+    ensures ok { IfOk result
+        (λ read. read_to read.0.items read.1 ≡ saved_in document.now bytes.entry.now) }
     ensures within { IfOk result (λ read. vec_len read.0 < 2 ^ 32) }
     ensures named { IfOk result (λ read. NamesCheck read.1) }
 {

@@ -8,8 +8,9 @@ use sporc_head::Verdict;
 use std::alloc::Global;
 use std::marker::Model;
 
-// An entry where it stands in a file, with the key that its author is foretold to have, and what the examination of its
-// signature found, if there was one. A key that is foretold wrongly does no harm: a verdict names its key.
+// An entry where it stands in a file, with the key that its author is foretold to have, and what
+// the examination of its signature found, if there was one. A key that is foretold wrongly does no
+// harm: a verdict names its key.
 //
 // Contracts see the entry's bytes.
 #[derive(Drop)]

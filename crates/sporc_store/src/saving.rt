@@ -15,8 +15,9 @@ use sporc_bytes::Out;
 use sporc_outside::MAX_FILE;
 use std::alloc::Global;
 
-/// The file of a document's history: its entries, oldest first. `TooLong` exactly if the file would have more bytes
-/// than a file may have, 1,073,741,824. Its memory is taken before anything is written.
+/// The file of a document's history: its entries, oldest first. `TooLong` exactly if the file would
+/// have more bytes than a file may have, 1,073,741,824. Its memory is taken before anything is
+/// written.
 pub fn save(alloc: Global, document: &[u8; 16], entries: &[Vec<u8>]) -> Result<Vec<u8>, SaveFault>
     requires limit { length entries.now ≤ MAX_ENTRIES }
     ensures value { GivesUnless SaveFault.Memory (λ file. file.items) result
@@ -35,7 +36,8 @@ pub fn save(alloc: Global, document: &[u8; 16], entries: &[Vec<u8>]) -> Result<V
 
 // How many bytes the file of these entries has.
 fn saved_len(entries: &[Vec<u8>]) -> u64
-    ensures { result ≡ counted_to_end (24 + length (flat_map (λ entry. counted entry.items) entries.now)) }
+    ensures { result
+        ≡ counted_to_end (24 + length (flat_map (λ entry. counted entry.items) entries.now)) }
 {
     let mut len = HEAD_LEN as u64 + 4;
     for entry in entries {
@@ -47,7 +49,8 @@ fn saved_len(entries: &[Vec<u8>]) -> u64
 // Appends counted entries.
 fn put_entries(file: &mut Out, entries: &[Vec<u8>]) -> Result<(), Memory>
     requires { length (flat_map (λ entry. counted entry.items) entries.now) < 2 ^ 32 }
-    ensures { OnOk result (file.new ≡ file.old ++ flat_map (λ entry. counted entry.items) entries.now) }
+    ensures { OnOk result
+        (file.new ≡ file.old ++ flat_map (λ entry. counted entry.items) entries.now) }
 {
     for entry in entries {
         file.put_counted(entry.as_slice())?;

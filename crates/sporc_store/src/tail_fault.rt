@@ -14,8 +14,8 @@ pub enum TailFault {
     /// It has so many bytes, which is more than a file may have, 1,073,741,824.
     #[error("the file has {0} bytes, which is too long")]
     TooLong(u64),
-    /// At this place of the file: it is the tail of another document, or of no log that begins as this one does, or what stands
-    /// there is no record of the position that is next.
+    /// At this place of the file: it is the tail of another document, or of no log that begins as
+    /// this one does, or what stands there is no record of the position that is next.
     #[error("no record of the next position begins at {0}")]
     Malformed(usize),
     /// The entry at this position, which the log lacks, fails this check.

@@ -1,6 +1,7 @@
 //! The tail of a log, on its file.
 
-ghost use Rattle.std.specs.Prelude.{◌≡◌, ◌+◌, ◌++◌, ◌∷◌, [], ◌^◌, ◌<◌, ◌≤◌, ℕ, List, Ok, Some, IfErr, IfOk, IfSome, OnErr, OnOk, length};
+ghost use Rattle.std.specs.Prelude.{◌≡◌, ◌+◌, ◌++◌, ◌∷◌, [], ◌^◌, ◌<◌, ◌≤◌, ℕ, List, Ok, Some};
+ghost use Rattle.std.specs.Prelude.{IfErr, IfOk, IfSome, OnErr, OnOk, length};
 ghost use Rattle.sporc_base.specs.Bytes.{IsBytes};
 ghost use Rattle.sporc_head.specs.declared.limits.TheConstants.{MAX_ENTRIES};
 ghost use Rattle.sporc_entry.specs.declared.limits.TheConstants.{MAX_ENTRY};
@@ -12,8 +13,12 @@ ghost use Rattle.sporc_outside.specs.Uses.{use_of};
 ghost use Rattle.sporc_store.specs.Loading.{accepted_from, an_order};
 ghost use Rattle.sporc_store.specs.SavedFile.{read_to};
 ghost use Rattle.sporc_store.specs.TailBytes.{record_bytes, tail_behind, taken_to};
-ghost use Rattle.sporc_store.specs.TailFiles.{AreSynced, Cuts, IsFaultOf, IsRefusal, IsRefused, IsTakingFault, KeepsEntries, OpensBehind, Puts, Settles, StaysFound, TellsStill, Writes, counting, head_behind, tail_on};
-ghost use Rattle.sporc_store.specs.TailReadings.{AreTold, IsFaultOfRead, IsReadingFault, StaysTold, TakesRead};
+ghost use Rattle.sporc_store.specs.TailFiles.{AreSynced, Cuts, IsFaultOf, IsRefusal, IsRefused};
+ghost use Rattle.sporc_store.specs.TailFiles.{IsTakingFault, KeepsEntries, OpensBehind, Puts};
+ghost use Rattle.sporc_store.specs.TailFiles.{Settles, StaysFound, TellsStill, Writes, counting};
+ghost use Rattle.sporc_store.specs.TailFiles.{head_behind, tail_on};
+ghost use Rattle.sporc_store.specs.TailReadings.{AreTold, IsFaultOfRead, IsReadingFault, StaysTold};
+ghost use Rattle.sporc_store.specs.TailReadings.{TakesRead};
 
 use crate::appending::append_part;
 use crate::stop::Stop;
@@ -29,8 +34,8 @@ use sporc_outside::{AppendFile, Failed, FileFault};
 use std::alloc::Global;
 use std::marker::Model;
 
-/// The tail of a log, on the file that holds it: the entries that were ordered since the log was saved. Each of them is on the
-/// disk before the order takes it.
+/// The tail of a log, on the file that holds it: the entries that were ordered since the log was
+/// saved. Each of them is on the disk before the order takes it.
 ///
 /// Contracts see the file, the document, and whether a call of the file failed.
 #[derive(Drop)]
@@ -52,17 +57,26 @@ impl<A: AppendFile> Model for TailFile<A> {
 impl<A: AppendFile> TailFile<A> {
     ghost use Rattle.std.specs.Prelude.{false};
 
-    /// Opens the tail of an order's log, which the order has whole: syncs its file, and takes the entries that the log lacks through
-    /// the order's checks. What a stop left of one more is cut off, and so is all that the log has, if it has all. If that fails,
-    /// the file comes back, and the order may have taken some of the entries.
+    /// Opens the tail of an order's log, which the order has whole: syncs its file, and takes the
+    /// entries that the log lacks through the order's checks. What a stop left of one more is cut
+    /// off, and so is all that the log has, if it has all. If that fails, the file comes back, and
+    /// the order may have taken some of the entries.
     pub fn open(alloc: Global, file: A, order: &mut Order) -> Result<TailFile<A>, (TailFault, A)>
-        ensures read { IfOk result (λ tail. TakesRead order.old.genesis order.old.entries (A.told file).stored order.new.entries) }
-        ensures keeps { IfOk result (λ tail. OpensBehind A.told order.old.entries tail order.new.entries) }
-        ensures fresh { IfOk result (λ tail. (tail.document ≡ order.old.genesis.document) × (tail.is_faulty ≡ false)) }
-        ensures found { IfOk result (λ tail. StaysFound A.told order.old.entries order.old.genesis.document file tail.file) }
-        ensures still_found { IfErr result (λ e. StaysFound A.told order.old.entries order.old.genesis.document file e.1) }
-        ensures why { IfErr result (λ e. IsFaultOfRead order.old.genesis order.old.entries (A.told file).stored (A.told file).faults (A.told e.1).faults e.0) }
-        ensures still_told { IfErr result (λ e. StaysTold order.old.entries order.old.genesis.document (A.told file).stored (A.told e.1).stored) }
+        ensures read { IfOk result (λ tail. TakesRead order.old.genesis order.old.entries
+            (A.told file).stored order.new.entries) }
+        ensures keeps { IfOk result
+            (λ tail. OpensBehind A.told order.old.entries tail order.new.entries) }
+        ensures fresh { IfOk result
+            (λ tail. (tail.document ≡ order.old.genesis.document) × (tail.is_faulty ≡ false)) }
+        ensures found { IfOk result (λ tail.
+            StaysFound A.told order.old.entries order.old.genesis.document file tail.file) }
+        ensures still_found { IfErr result
+            (λ e. StaysFound A.told order.old.entries order.old.genesis.document file e.1) }
+        ensures why { IfErr result (λ e. IsFaultOfRead order.old.genesis order.old.entries
+            (A.told file).stored (A.told file).faults (A.told e.1).faults e.0) }
+        ensures still_told { IfErr result
+            (λ e. StaysTold order.old.entries order.old.genesis.document (A.told file).stored
+            (A.told e.1).stored) }
         ensures genesis { order.new.genesis ≡ order.old.genesis }
         ensures kept { IfOk result (λ tail. (A.told file).faults ≤ (A.told tail.file).faults) }
         ensures returned_kept { IfErr result (λ e. (A.told file).faults ≤ (A.told e.1).faults) }
@@ -95,10 +109,11 @@ impl<A: AppendFile> Tail for TailFile<A> {
 
     fn put(&mut self, position: u32, entry: &[u8]) -> Result<(), Unkept>
         ensures puts { Puts A.told self.old position entry.now result self.new }
-        ensures ok { OnOk result ((entries : List (List ℕ)) → KeepsEntries A.told self.old entries → position ≡ length entries + 1
+        ensures ok { OnOk result ((entries : List (List ℕ)) → KeepsEntries A.told self.old entries
+            → position ≡ length entries + 1
             → KeepsEntries A.told self.new (entries ++ entry.now ∷ [])) }
-        ensures err { OnErr result ((entries : List (List ℕ)) → KeepsEntries A.told self.old entries → position ≡ length entries + 1
-            → KeepsEntries A.told self.new entries) }
+        ensures err { OnErr result ((entries : List (List ℕ)) → KeepsEntries A.told self.old entries
+            → position ≡ length entries + 1 → KeepsEntries A.told self.new entries) }
         ensures failed { OnErr result (Unit {0}) }
     {
         if self.is_faulty || position > MAX_ENTRIES || entry.len() > MAX_ENTRY as usize {
@@ -130,11 +145,16 @@ fn record_of(alloc: Global, position: u32, entry: &[u8]) -> Result<Vec<u8>, Memo
 
 // Takes what an order's log lacks of a tail, and makes the file one that is appended to.
 fn begin<A: AppendFile>(alloc: Global, file: &mut A, order: &mut Order) -> Result<(), TailFault>
-    ensures read { OnOk result (TakesRead order.old.genesis order.old.entries (A.told file.old).stored order.new.entries) }
-    ensures opens { OnOk result (OpensBehind A.told order.old.entries (tail_on file.new order.old.genesis.document) order.new.entries) }
-    ensures found { StaysFound A.told order.old.entries order.old.genesis.document file.old file.new }
-    ensures why { IfErr result (IsFaultOfRead order.old.genesis order.old.entries (A.told file.old).stored (A.told file.old).faults (A.told file.new).faults) }
-    ensures still_told { OnErr result (StaysTold order.old.entries order.old.genesis.document (A.told file.old).stored (A.told file.new).stored) }
+    ensures read { OnOk result
+        (TakesRead order.old.genesis order.old.entries (A.told file.old).stored order.new.entries) }
+    ensures opens { OnOk result (OpensBehind A.told order.old.entries
+        (tail_on file.new order.old.genesis.document) order.new.entries) }
+    ensures found { StaysFound A.told order.old.entries order.old.genesis.document file.old
+        file.new }
+    ensures why { IfErr result (IsFaultOfRead order.old.genesis order.old.entries
+        (A.told file.old).stored (A.told file.old).faults (A.told file.new).faults) }
+    ensures still_told { OnErr result (StaysTold order.old.entries order.old.genesis.document
+        (A.told file.old).stored (A.told file.new).stored) }
     ensures genesis { order.new.genesis ≡ order.old.genesis }
     ensures kept { (A.told file.old).faults ≤ (A.told file.new).faults }
 {
@@ -149,7 +169,8 @@ fn read_synced<A: AppendFile>(alloc: Global, file: &mut A) -> Result<Vec<u8>, Ta
     ensures bytes { IfOk result (λ bytes. AreTold (A.told file.old).stored bytes.items) }
     ensures synced { IfOk result (λ bytes. AreSynced A.told file.new bytes.items) }
     ensures within { IfOk result (λ bytes. length bytes.items ≤ MAX_FILE) }
-    ensures err { IfErr result (IsReadingFault (A.told file.old).stored (A.told file.old).faults (A.told file.new).faults) }
+    ensures err { IfErr result (IsReadingFault (A.told file.old).stored (A.told file.old).faults
+        (A.told file.new).faults) }
     ensures stored { (A.told file.new).stored ≡ (A.told file.old).stored }
     ensures images { FileSteps (use_of A.told file.old file.new) IsSame }
     ensures kept { (A.told file.old).faults ≤ (A.told file.new).faults }
@@ -163,7 +184,8 @@ fn read_synced<A: AppendFile>(alloc: Global, file: &mut A) -> Result<Vec<u8>, Ta
 fn read_file<A: AppendFile>(alloc: Global, file: &mut A) -> Result<Vec<u8>, TailFault>
     ensures bytes { IfOk result (λ bytes. AreTold (A.told file.old).stored bytes.items) }
     ensures within { IfOk result (λ bytes. length bytes.items ≤ MAX_FILE) }
-    ensures err { IfErr result (IsReadingFault (A.told file.old).stored (A.told file.old).faults (A.told file.new).faults) }
+    ensures err { IfErr result (IsReadingFault (A.told file.old).stored (A.told file.old).faults
+        (A.told file.new).faults) }
     ensures stored { (A.told file.new).stored ≡ (A.told file.old).stored }
     ensures images { FileSteps (use_of A.told file.old file.new) IsSame }
     ensures kept { (A.told file.old).faults ≤ (A.told file.new).faults }
@@ -184,13 +206,18 @@ fn take_tail<'a>(
     bytes: &'a [u8],
 ) -> Result<TailEntries<'a>, TailFault>
     requires limit { length bytes.now ≤ MAX_FILE }
-    ensures reads { IfOk result (λ tail. tail_behind order.old.entries order.old.genesis.document bytes.entry.now ≡ Ok (taken_to tail.entries.items tail.whole)) }
-    ensures accepted { IfOk result (λ tail. accepted_from (an_order order.old.genesis) order.old.entries tail.entries.items Stop.End ≡ read_to order.new.entries Stop.End) }
-    ensures all { IfOk result (λ tail. order.new.entries ≡ order.old.entries ++ tail.entries.items) }
+    ensures reads { IfOk result
+        (λ tail. tail_behind order.old.entries order.old.genesis.document bytes.entry.now
+        ≡ Ok (taken_to tail.entries.items tail.whole)) }
+    ensures accepted { IfOk result (λ tail. accepted_from (an_order order.old.genesis)
+        order.old.entries tail.entries.items Stop.End ≡ read_to order.new.entries Stop.End) }
+    ensures all { IfOk result
+        (λ tail. order.new.entries ≡ order.old.entries ++ tail.entries.items) }
     ensures within { IfOk result (λ tail. tail.whole ≤ length bytes.entry.now) }
     ensures fits { IfOk result (λ _. IsBytes bytes.entry.now) }
     ensures entries_within { IfOk result (λ _. length order.old.entries ≤ MAX_ENTRIES) }
-    ensures err { IfErr result (IsTakingFault order.old.genesis order.old.entries (tail_behind order.old.entries order.old.genesis.document bytes.entry.now)) }
+    ensures err { IfErr result (IsTakingFault order.old.genesis order.old.entries
+        (tail_behind order.old.entries order.old.genesis.document bytes.entry.now)) }
     ensures genesis { order.new.genesis ≡ order.old.genesis }
 {
     let document = *order.document();
@@ -202,9 +229,11 @@ fn take_tail<'a>(
 // Takes the entries of a tail through the checks of an order.
 fn take_entries(alloc: Global, order: &mut Order, tail: &TailEntries<'_>) -> Result<(), TailFault>
     requires limit { length order.old.entries + length tail.now.entries.items < 2 ^ 32 }
-    ensures ok { OnOk result (accepted_from (an_order order.old.genesis) order.old.entries tail.now.entries.items Stop.End ≡ read_to order.new.entries Stop.End) }
+    ensures ok { OnOk result (accepted_from (an_order order.old.genesis) order.old.entries
+        tail.now.entries.items Stop.End ≡ read_to order.new.entries Stop.End) }
     ensures all { OnOk result (order.new.entries ≡ order.old.entries ++ tail.now.entries.items) }
-    ensures err { IfErr result (IsRefusal (accepted_from (an_order order.old.genesis) order.old.entries tail.now.entries.items Stop.End)) }
+    ensures err { IfErr result (IsRefusal (accepted_from
+        (an_order order.old.genesis) order.old.entries tail.now.entries.items Stop.End)) }
     ensures genesis { order.new.genesis ≡ order.old.genesis }
 {
     let before = order.len() as usize;
@@ -233,9 +262,11 @@ fn settle<A: AppendFile>(
     tail: &TailEntries<'_>,
 ) -> Result<(), Failed>
     requires { IfSome (A.told file.old).stored (λ bytes. tail.now.whole ≤ length bytes) }
-    ensures settles { (log : List (List ℕ)) (bytes : List ℕ) → IsBytes bytes → length bytes ≤ MAX_FILE → length log ≤ MAX_ENTRIES
-        → AreSynced A.told file.old bytes → tail_behind log document.now bytes ≡ Ok (taken_to tail.now.entries.items tail.now.whole)
-        → Settles A.told log document.now (taken_to tail.now.entries.items tail.now.whole) file.old file.new result }
+    ensures settles { (log : List (List ℕ)) (bytes : List ℕ) → IsBytes bytes
+        → length bytes ≤ MAX_FILE → length log ≤ MAX_ENTRIES → AreSynced A.told file.old bytes
+        → tail_behind log document.now bytes ≡ Ok (taken_to tail.now.entries.items tail.now.whole)
+        → Settles A.told log document.now
+        (taken_to tail.now.entries.items tail.now.whole) file.old file.new result }
     ensures told { TellsStill (A.told file.old).stored (A.told file.new).stored }
     ensures count { CountsFaults (A.told file.old).faults (A.told file.new).faults result }
 {
@@ -246,7 +277,8 @@ fn settle<A: AppendFile>(
     }
 }
 
-// How many bytes of a tail's file count: up to the last whole record, or those of the head if the log has all records.
+// How many bytes of a tail's file count: up to the last whole record, or those of the head if the
+// log has all records.
 fn counting(tail: &TailEntries<'_>) -> usize
     ensures { result ≡ counting (taken_to tail.now.entries.items tail.now.whole) }
 {

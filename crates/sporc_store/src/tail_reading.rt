@@ -1,12 +1,15 @@
 //! The tail of a log that is read, unchecked.
 
-ghost use Rattle.std.specs.Prelude.{◌≡◌, ◌+◌, ◌≤◌, ℕ, suc, length, map, Ok, Err, IfOk, IfErr, OnOk, IsTrue};
+ghost use Rattle.std.specs.Prelude.{◌≡◌, ◌+◌, ◌≤◌, ℕ, suc, length, map, Ok, Err, IfOk, IfErr, OnOk};
+ghost use Rattle.std.specs.Prelude.{IsTrue};
 ghost use Rattle.std.specs.Int.{w32};
 ghost use Rattle.sporc_bytes.specs.Fields.{number_at};
 ghost use Rattle.sporc_head.specs.declared.limits.TheConstants.{MAX_ENTRIES};
 ghost use Rattle.sporc_outside.specs.declared.file_fault.TheConstants.{MAX_FILE};
 ghost use Rattle.sporc_store.specs.declared.tail_head.TheConstants.{TAIL_HEAD_LEN};
-ghost use Rattle.sporc_store.specs.TailBytes.{GoesOn, IsUnread, behind_head, behind_taken, record_at, records_behind, records_of, tail_behind, taken_to};
+ghost use Rattle.sporc_store.specs.TailBytes.{GoesOn, IsUnread, behind_head, behind_taken};
+ghost use Rattle.sporc_store.specs.TailBytes.{record_at, records_behind, records_of, tail_behind};
+ghost use Rattle.sporc_store.specs.TailBytes.{taken_to};
 
 use crate::saved_entry::SavedEntry;
 use crate::tail_fault::TailFault;
@@ -42,10 +45,14 @@ pub(crate) fn read_tail<'a>(
 ) -> Result<TailEntries<'a>, TailFault>
     requires log_limit { length log.now ≤ MAX_ENTRIES }
     requires bytes_limit { length bytes.now ≤ MAX_FILE }
-    ensures ok { IfOk result (λ tail. tail_behind (map (λ e. e.items) log.now) document.now bytes.entry.now ≡ Ok (taken_to tail.entries.items tail.whole)) }
-    ensures err { IfErr result (IsUnread (tail_behind (map (λ e. e.items) log.now) document.now bytes.entry.now)) }
+    ensures ok { IfOk result
+        (λ tail. tail_behind (map (λ e. e.items) log.now) document.now bytes.entry.now
+        ≡ Ok (taken_to tail.entries.items tail.whole)) }
+    ensures err { IfErr result
+        (IsUnread (tail_behind (map (λ e. e.items) log.now) document.now bytes.entry.now)) }
     ensures within { IfOk result (λ tail. tail.whole ≤ length bytes.entry.now) }
-    ensures entries_within { IfOk result (λ tail. length tail.entries.items ≤ length bytes.entry.now) }
+    ensures entries_within { IfOk result
+        (λ tail. length tail.entries.items ≤ length bytes.entry.now) }
 {
     let head = tail_head_of(document);
     if bytes.starts_with(&head) {
@@ -69,10 +76,14 @@ fn read_records<'a>(
     requires log_limit { length log.now ≤ MAX_ENTRIES }
     requires head { TAIL_HEAD_LEN ≤ length bytes.now }
     requires bytes_limit { length bytes.now ≤ MAX_FILE }
-    ensures ok { IfOk result (λ tail. records_of (map (λ e. e.items) log.now) (behind_head bytes.entry.now) (number_at w32 (behind_head bytes.entry.now)) ≡ Ok (taken_to tail.entries.items tail.whole)) }
-    ensures err { IfErr result (IsUnread (records_of (map (λ e. e.items) log.now) (behind_head bytes.entry.now) (number_at w32 (behind_head bytes.entry.now)))) }
+    ensures ok { IfOk result (λ tail. records_of (map (λ e. e.items) log.now)
+        (behind_head bytes.entry.now) (number_at w32 (behind_head bytes.entry.now))
+        ≡ Ok (taken_to tail.entries.items tail.whole)) }
+    ensures err { IfErr result (IsUnread (records_of (map (λ e. e.items) log.now)
+        (behind_head bytes.entry.now) (number_at w32 (behind_head bytes.entry.now)))) }
     ensures within { IfOk result (λ tail. tail.whole ≤ length bytes.entry.now) }
-    ensures entries_within { IfOk result (λ tail. length tail.entries.items ≤ length bytes.entry.now) }
+    ensures entries_within { IfOk result
+        (λ tail. length tail.entries.items ≤ length bytes.entry.now) }
 {
     let records = &bytes[TAIL_HEAD_LEN..];
     let mut start = Cursor::within(records, TAIL_HEAD_LEN);
@@ -100,10 +111,13 @@ fn records_from<'a>(
 ) -> Result<TailEntries<'a>, TailFault>
     requires first_limit { first ≤ MAX_ENTRIES + 1 }
     requires bytes_limit { length cursor.rest ≤ MAX_FILE }
-    ensures ok { IfOk result (λ tail. records_behind (length cursor.entry.rest) (map (λ e. e.items) ahead.now) first cursor.entry ≡ Ok (taken_to tail.entries.items tail.whole)) }
-    ensures err { IfErr result (IsUnread (records_behind (length cursor.entry.rest) (map (λ e. e.items) ahead.now) first cursor.entry)) }
+    ensures ok { IfOk result (λ tail. records_behind (length cursor.entry.rest) (map (λ e. e.items)
+        ahead.now) first cursor.entry ≡ Ok (taken_to tail.entries.items tail.whole)) }
+    ensures err { IfErr result (IsUnread (records_behind (length cursor.entry.rest)
+        (map (λ e. e.items) ahead.now) first cursor.entry)) }
     ensures within { IfOk result (λ tail. tail.whole ≤ cursor.entry.at + length cursor.entry.rest) }
-    ensures entries_within { IfOk result (λ tail. length tail.entries.items ≤ length cursor.entry.rest) }
+    ensures entries_within { IfOk result
+        (λ tail. length tail.entries.items ≤ length cursor.entry.rest) }
 {
     let mut cursor = cursor;
     let mut ahead = ahead;
@@ -132,12 +146,17 @@ fn take_record<'a, 'b>(
     cursor: &mut Cursor<'a>,
 ) -> Result<bool, TailFault>
     requires whole { tail.old.whole ≡ cursor.old.at }
-    ensures goes { (n : ℕ) → GoesOn (behind_taken tail.old.entries.items (records_behind (suc n) (map (λ e. e.items) ahead.old.now) position cursor.old))
-        (behind_taken tail.new.entries.items (records_behind n (map (λ e. e.items) ahead.new.now) (position + 1) cursor.new)) (taken_to tail.new.entries.items tail.new.whole) result }
+    ensures goes { (n : ℕ) → GoesOn (behind_taken tail.old.entries.items
+        (records_behind (suc n) (map (λ e. e.items) ahead.old.now) position cursor.old))
+        (behind_taken tail.new.entries.items
+        (records_behind n (map (λ e. e.items) ahead.new.now) (position + 1) cursor.new))
+        (taken_to tail.new.entries.items tail.new.whole) result }
     ensures whole { IfOk result (λ goes. IsTrue goes → tail.new.whole ≡ cursor.new.at) }
-    ensures end { IfOk result (λ goes. IsTrue goes → cursor.new.at + length cursor.new.rest ≡ cursor.old.at + length cursor.old.rest) }
+    ensures end { IfOk result (λ goes. IsTrue goes
+        → cursor.new.at + length cursor.new.rest ≡ cursor.old.at + length cursor.old.rest) }
     ensures within { OnOk result (tail.new.whole ≤ cursor.old.at + length cursor.old.rest) }
-    ensures entries_within { OnOk result (length tail.new.entries.items ≤ length tail.old.entries.items + 1) }
+    ensures entries_within { OnOk result
+        (length tail.new.entries.items ≤ length tail.old.entries.items + 1) }
 {
     let entry = match read_record(cursor, position) {
         Ok(entry) => entry,
@@ -163,7 +182,9 @@ fn take_record<'a, 'b>(
 fn read_record<'a>(cursor: &mut Cursor<'a>, position: u32) -> Result<&'a [u8], RecordEnd>
     ensures ok { IfOk result (λ entry. record_at position cursor.old ≡ Ok (entry.now, cursor.new)) }
     ensures err { IfErr result (λ end. record_at position cursor.old ≡ Err end) }
-    ensures within { IfOk result (λ _. (cursor.new.at + length cursor.new.rest ≡ cursor.old.at + length cursor.old.rest) × (cursor.old.at + 8 ≤ cursor.new.at)) }
+    ensures within { IfOk result
+        (λ _. (cursor.new.at + length cursor.new.rest ≡ cursor.old.at + length cursor.old.rest)
+        × (cursor.old.at + 8 ≤ cursor.new.at)) }
 {
     let at = cursor.at();
     let Ok(found) = cursor.u32() else {

@@ -12,9 +12,9 @@ use std::alloc::Global;
 use std::sync::Wait;
 use std::thread::{Threads, join_mut};
 
-// Examines the signatures of entries, the first of which stands behind so many others, by so many workers, numbered from
-// `worker` on. Each takes entries that stand together, in a thread of its own where one can be made. If there is none, the
-// first takes them.
+// Examines the signatures of entries, the first of which stands behind so many others, by so many
+// workers, numbered from `worker` on. Each takes entries that stand together, in a thread of its
+// own where one can be made. If there is none, the first takes them.
 pub(crate) fn examine_by<R: Threads + Wait + Sync, G: Gate + Sync>(
     rt: &R,
     alloc: Global,
@@ -43,7 +43,8 @@ pub(crate) fn examine_by<R: Threads + Wait + Sync, G: Gate + Sync>(
             ensures { IfOk result (λ verdicts. AreExact verdicts.items part.entry.now) }
         { examine_part(rt, alloc, gate, worker, before, part) },
         &mut || -> Result<Vec<Option<Verdict>>, Memory>
-            requires { IsSync R.row × IsSync G.row × (1 ≤ others) × (next + others < 2 ^ 32) × (behind + length rest.now < 2 ^ 32) }
+            requires { IsSync R.row × IsSync G.row × (1 ≤ others) × (next + others < 2 ^ 32)
+                × (behind + length rest.now < 2 ^ 32) }
             ensures { IfOk result (λ verdicts. AreExact verdicts.items rest.entry.now) }
         { examine_by(rt, alloc, gate, next, others, behind, rest) },
     );

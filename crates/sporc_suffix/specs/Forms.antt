@@ -35,6 +35,7 @@ pub record Fits (q : List Mark) (forms : List (List Mark)) : Type 0 where
   pub follow : Follow (base_len q) forms
   pub limit : base_len q + inserted_len q + all_inserted forms ≤ MAX_TEXT_LEN
 
--- from so many steps to so many, at most two are taken for each of b binary digits, if n has no more
+-- from so many steps to so many, at most two are taken for each of b binary digits, if n has no
+-- more
 abbrev pub TwoADigit : ℕ → ℕ → ℕ → Type 0
 TwoADigit before after n = (b : ℕ) → n < 2 ^ b → after ≤ before + 2 * b

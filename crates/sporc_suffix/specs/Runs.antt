@@ -1,5 +1,6 @@
 -- Runs of forms, each composed to one delta.
-use Rattle.std.specs.Prelude.{◌≡◌, ℕ, zero, suc, ◌+◌, ◌^◌, ◌<◌, List, [], ◌∷◌, ◌++◌, map, length, slice_get, Some, ⊤}
+use Rattle.std.specs.Prelude.{◌≡◌, ℕ, zero, suc, ◌+◌, ◌^◌, ◌<◌, List, [], ◌∷◌, ◌++◌, map, length}
+use Rattle.std.specs.Prelude.{slice_get, Some, ⊤}
 use Rattle.sporc_delta.specs.Marks.{Mark, base_len, out_len}
 use Rattle.sporc_delta.specs.Transforms.{compose}
 use Rattle.sporc_suffix.specs.Forms.{Follow, reached}
@@ -46,7 +47,8 @@ forms_in items = map (λ item. item.form) items
 
 -- each form stands with the runs that end with it
 abbrev pub KeepRuns : List ReadyModel → Type 0
-KeepRuns items = (i : ℕ) (item : ReadyModel) → slice_get items i ≡ Some item → EndWith (forms_in items) i item.runs
+KeepRuns items = (i : ℕ) (item : ReadyModel) → slice_get items i ≡ Some item
+    → EndWith (forms_in items) i item.runs
 
 -- what holds of blocks at every moment
 pub record BlocksInvariant (base : ℕ) (items : List ReadyModel) : Type 0 where

@@ -1,6 +1,7 @@
 //! Forms in their order.
 
-ghost use Rattle.std.specs.Prelude.{◌≡◌, ◌+◌, ◌-◌, ◌≤◌, ◌<◌, ◌^◌, ◌∷◌, ◌++◌, ◌==◌, [], drop, take, length, slice_get, Some, IfOk, IfErr, OnOk, OnErr};
+ghost use Rattle.std.specs.Prelude.{◌≡◌, ◌+◌, ◌-◌, ◌≤◌, ◌<◌, ◌^◌, ◌∷◌, ◌++◌, ◌==◌, [], drop, take};
+ghost use Rattle.std.specs.Prelude.{length, slice_get, Some, IfOk, IfErr, OnOk, OnErr};
 ghost use Rattle.sporc_delta.specs.declared.limits.TheConstants.{MAX_TEXT_LEN};
 ghost use Rattle.sporc_delta.specs.Marks.{base_len, inserted_len};
 ghost use Rattle.std.specs.Vec.{vec_capacity, vec_len};
@@ -16,9 +17,10 @@ use std::alloc::Global;
 use std::marker::Model;
 use std::sync::ledger::Ledger;
 
-/// Forms in their order, each stated on the text after those before it, seen as their list, with the
-/// length of the text before the first and the number of forms that can be put without memory. Beside each form stand the
-/// compositions of the whole aligned runs of two forms, of four, and so on, that end with it.
+/// Forms in their order, each stated on the text after those before it, seen as their list, with
+/// the length of the text before the first and the number of forms that can be put without memory.
+/// Beside each form stand the compositions of the whole aligned runs of two forms, of four, and so
+/// on, that end with it.
 #[derive(Drop)]
 pub struct Blocks {
     forms: Vec<ReadyForm>,
@@ -33,7 +35,11 @@ impl Model for Blocks {
 
     ghost Value = { BlocksModel };
 
-    ghost view = { λ b. record { base = b.base; forms = forms_in b.forms.items; spare = vec_capacity b.forms - vec_len b.forms } };
+    ghost view = { λ b. record {
+      base = b.base;
+      forms = forms_in b.forms.items;
+      spare = vec_capacity b.forms - vec_len b.forms;
+    } };
 
     ghost invariant = { λ b. BlocksInvariant b.base b.forms.items };
 }
@@ -72,8 +78,8 @@ impl Blocks {
         self.forms[place as usize].form()
     }
 
-    /// Takes the memory of one more form, and composes the runs that become whole with it. The form is handed back where
-    /// there is no memory.
+    /// Takes the memory of one more form, and composes the runs that become whole with it. The form
+    /// is handed back where there is no memory.
     pub fn ready(&mut self, form: Delta) -> Result<ReadyForm, (Delta, Memory)>
         requires base { base_len form ≡ reached self.old.base self.old.forms }
         requires limit { length self.old.forms < 2 ^ 32 - 1 }
@@ -119,8 +125,9 @@ impl Blocks {
         }
     }
 
-    /// What `q`, stated on the text after the first `from` forms, becomes behind all forms, where it is
-    /// ordered later than each. It passes whole runs, at most two for each binary digit of the number of forms.
+    /// What `q`, stated on the text after the first `from` forms, becomes behind all forms, where
+    /// it is ordered later than each. It passes whole runs, at most two for each binary digit of
+    /// the number of forms.
     pub fn later_over<L: Ledger>(
         &self,
         q: &Delta,
@@ -129,9 +136,11 @@ impl Blocks {
     ) -> Result<Delta, Memory>
         requires in_bounds { from ≤ length self.now.forms }
         requires base { base_len q.now ≡ reached self.now.base (take from self.now.forms) }
-        requires limit { base_len q.now + inserted_len q.now + all_inserted (drop from self.now.forms) ≤ MAX_TEXT_LEN }
+        requires limit { base_len q.now + inserted_len q.now
+            + all_inserted (drop from self.now.forms) ≤ MAX_TEXT_LEN }
         ensures ok { IfOk result (λ d. d ≡ later_over q.now (drop from self.now.forms)) }
-        ensures cost { (steps.old ≤ steps.new) × TwoADigit steps.old steps.new (length self.now.forms - from) }
+        ensures cost { (steps.old ≤ steps.new)
+            × TwoADigit steps.old steps.new (length self.now.forms - from) }
     {
         let alloc = *self.forms.allocator();
         let count = self.forms.len();
@@ -152,7 +161,8 @@ fn room_and_runs(forms: &mut Vec<ReadyForm>, form: &Delta) -> Result<Vec<Delta>,
     requires runs { KeepRuns forms.old.items }
     requires limit { length forms.old.items < 2 ^ 32 }
     requires joined { Joined (forms_in forms.old.items ++ form.now ∷ []) }
-    ensures ok { IfOk result (λ runs. EndWith (forms_in forms.old.items ++ form.now ∷ []) (length forms.old.items) runs.items) }
+    ensures ok { IfOk result (λ runs. EndWith (forms_in forms.old.items ++ form.now ∷ [])
+        (length forms.old.items) runs.items) }
     ensures room { OnOk result (0 < vec_capacity forms.new - vec_len forms.new) }
     ensures unchanged { forms.new.items ≡ forms.old.items }
 {

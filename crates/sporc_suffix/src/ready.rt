@@ -5,8 +5,8 @@ ghost use Rattle.std.specs.Prelude.{◌≡◌, ◌<◌, length, slice_get, Some}
 use sporc_delta::Delta;
 use std::marker::Model;
 
-/// A form for which the memory to put it is there, with the compositions of the whole runs of forms that it ends, which
-/// contracts see with its marks.
+/// A form for which the memory to put it is there, with the compositions of the whole runs of forms
+/// that it ends, which contracts see with its marks.
 #[derive(Drop)]
 pub struct ReadyForm {
     form: Delta,

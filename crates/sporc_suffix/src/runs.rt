@@ -1,6 +1,7 @@
 //! Runs of forms, each composed to one delta.
 
-ghost use Rattle.std.specs.Prelude.{◌≡◌, ◌+◌, ◌^◌, ◌≤◌, ◌<◌, ◌∷◌, ◌++◌, ◌-◌, [], drop, take, get_or, length, slice_get, Some, IfOk};
+ghost use Rattle.std.specs.Prelude.{◌≡◌, ◌+◌, ◌^◌, ◌≤◌, ◌<◌, ◌∷◌, ◌++◌, ◌-◌, [], drop, take};
+ghost use Rattle.std.specs.Prelude.{get_or, length, slice_get, Some, IfOk};
 ghost use Rattle.sporc_delta.specs.Marks.{base_len, out_len};
 ghost use Rattle.sporc_delta.specs.Transforms.{compose};
 ghost use Rattle.sporc_suffix.specs.Forms.{Fits, TwoADigit, later_over};
@@ -39,8 +40,8 @@ fn run_at(forms: &[ReadyForm], level: usize, place: usize) -> &Delta
     last.run(level - 1)
 }
 
-/// The runs that end with a form which is stated on the text after these forms: each is composed of the run of half as many
-/// forms before it and the newest one.
+/// The runs that end with a form which is stated on the text after these forms: each is composed of
+/// the run of half as many forms before it and the newest one.
 pub(crate) fn runs_ended(
     alloc: Global,
     forms: &[ReadyForm],
@@ -49,7 +50,8 @@ pub(crate) fn runs_ended(
     requires runs { KeepRuns forms.now }
     requires limit { length forms.now < 2 ^ 32 }
     requires joined { Joined (forms_in forms.now ++ form.now ∷ []) }
-    ensures ok { IfOk result (λ runs. EndWith (forms_in forms.now ++ form.now ∷ []) (length forms.now) runs.items) }
+    ensures ok { IfOk result
+        (λ runs. EndWith (forms_in forms.now ++ form.now ∷ []) (length forms.now) runs.items) }
 {
     let mut runs = Vec::new(alloc);
     let mut count = forms.len();
@@ -80,8 +82,9 @@ fn newest<'a>(form: &'a Delta, runs: &'a [Delta]) -> &'a Delta
     }
 }
 
-/// What a delta becomes behind all runs of a level from a place on: first behind one that has no neighbour before it, then
-/// behind those of the level above, and then behind one that is left over.
+/// What a delta becomes behind all runs of a level from a place on: first behind one that has no
+/// neighbour before it, then behind those of the level above, and then behind one that is left
+/// over.
 pub(crate) fn over_runs<L: Ledger>(
     alloc: Global,
     forms: &[ReadyForm],
@@ -97,7 +100,8 @@ pub(crate) fn over_runs<L: Ledger>(
     requires all_runs { count ≡ length (runs_of level (forms_in forms.now)) }
     requires in_bounds { from ≤ count }
     requires fits { Fits q (drop from (runs_of level (forms_in forms.now))) }
-    ensures ok { IfOk result (λ d. d ≡ later_over q (drop from (runs_of level (forms_in forms.now)))) }
+    ensures ok { IfOk result
+        (λ d. d ≡ later_over q (drop from (runs_of level (forms_in forms.now)))) }
     ensures cost { (steps.old ≤ steps.new) × TwoADigit steps.old steps.new (count - from) }
 {
     if from == count {
@@ -127,7 +131,8 @@ fn over_one<L: Ledger>(
     requires from { from ≤ end }
     requires in_bounds { end ≤ length (runs_of level (forms_in forms.now)) }
     requires fits { Fits q (take (end - from) (drop from (runs_of level (forms_in forms.now)))) }
-    ensures ok { IfOk result (λ d. d ≡ later_over q (take (end - from) (drop from (runs_of level (forms_in forms.now))))) }
+    ensures ok { IfOk result (λ d. d
+        ≡ later_over q (take (end - from) (drop from (runs_of level (forms_in forms.now))))) }
     ensures cost { (steps.old ≤ steps.new) × (steps.new ≤ steps.old + 1) }
 {
     if from == end {

@@ -5,7 +5,8 @@ ghost use Rattle.std.specs.Prelude.{◌≡◌, ◌+◌, ◌<◌};
 use std::marker::Model;
 use std::sync::ledger::{Blank, Book, Ledger, Share};
 
-/// How many steps were taken. It takes no bytes, and only `tick` changes it. Each transform ticks once.
+/// How many steps were taken. It takes no bytes, and only `tick` changes it. Each transform ticks
+/// once.
 #[derive(Drop)]
 pub struct Steps<L: Ledger> {
     book: Book<L>,
@@ -23,7 +24,8 @@ impl<L: Ledger> Model for Steps<L> {
 }
 
 impl<L: Ledger> Steps<L> {
-    /// No steps, in a new ledger. A caller that counts nothing makes it of `Blank::new(1)` at `Brand`.
+    /// No steps, in a new ledger. A caller that counts nothing makes it of `Blank::new(1)` at
+    /// `Brand`.
     pub fn new(blank: Blank) -> Steps<L>
         requires name { blank.name ≡ L.name }
         requires parts { blank.parts ≡ L.parts }

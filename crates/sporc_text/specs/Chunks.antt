@@ -1,5 +1,6 @@
 -- A text in chunks.
-use Rattle.std.specs.Prelude.{◌≡◌, ℕ, ◌+◌, ◌-◌, ◌*◌, ◌<◌, ◌≤◌, List, [], ◌∷◌, length, take, slice_index_or, ⊤}
+use Rattle.std.specs.Prelude.{◌≡◌, ℕ, ◌+◌, ◌-◌, ◌*◌, ◌<◌, ◌≤◌, List, [], ◌∷◌, length, take}
+use Rattle.std.specs.Prelude.{slice_index_or, ⊤}
 use Rattle.std.specs.List.{concat}
 use Rattle.sporc_text.specs.declared.limits.TheConstants.{MAX_CHUNK, MAX_JOINED, MEAN_CHUNK}
 
@@ -27,8 +28,8 @@ Joins cs n = (0 < length cs) × (length (slice_index_or cs (length cs - 1) []) +
 abbrev pub HasRoom : ℕ → ℕ → Type 0
 HasRoom capacity len = len + MEAN_CHUNK < MEAN_CHUNK * capacity
 
--- the place stands in this chunk or at its end, so many characters behind its beginning; it is the last place if there is
--- no such chunk
+-- the place stands in this chunk or at its end, so many characters behind its beginning; it is the
+-- last place if there is no such chunk
 pub record IsAt (chunks : List (List ℕ)) (place i offset : ℕ) : Type 0 where
   pub index : i ≤ length chunks
   pub before : length (concat (take i chunks)) + offset ≡ place

@@ -1,7 +1,8 @@
 -- How a part of a text is rewritten, as contracts see it.
 use Rattle.std.specs.Prelude.{ℕ, ◌+◌, ◌==◌, List, ◌++◌, length, take, drop, if◌then◌else◌}
 
--- of a text of `base` characters the first ones are kept, so many behind them give way to these, and the others stay
+-- of a text of `base` characters the first ones are kept, so many behind them give way to these,
+-- and the others stay
 pub record ReadyTextModel : Type 0 where
   pub base : ℕ
   pub kept : ℕ

@@ -23,7 +23,8 @@ impl Model for Chunk {
 
     ghost view = { λ c. c.characters.items };
 
-    ghost invariant = { λ c. (vec_len c.characters ≤ MAX_CHUNK) × (MAX_CHUNK ≤ vec_capacity c.characters) };
+    ghost invariant = { λ c. (vec_len c.characters ≤ MAX_CHUNK)
+        × (MAX_CHUNK ≤ vec_capacity c.characters) };
 }
 
 impl Chunk {

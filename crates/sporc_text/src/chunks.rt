@@ -1,6 +1,7 @@
 //! The chunks of a text.
 
-ghost use Rattle.std.specs.Prelude.{◌≡◌, ◌+◌, ◌-◌, ◌*◌, ◌^◌, ◌<◌, ◌≤◌, ◌++◌, ◌↔◌, IsTrue, [], length, take, drop, slice_index_or};
+ghost use Rattle.std.specs.Prelude.{◌≡◌, ◌+◌, ◌-◌, ◌*◌, ◌^◌, ◌<◌, ◌≤◌, ◌++◌, ◌↔◌, IsTrue, []};
+ghost use Rattle.std.specs.Prelude.{length, take, drop, slice_index_or};
 ghost use Rattle.std.specs.Bool.{OnTrue};
 ghost use Rattle.std.specs.List.{concat};
 ghost use Rattle.std.specs.Vec.{vec_capacity, vec_len};
@@ -75,7 +76,8 @@ fn push_front(list: &mut Vec<Chunk>, chunks: &mut IntoIter<Chunk>, count: usize)
     requires chunks { AreChunks list.old.items }
     requires room { HasRoom (vec_capacity list.old) (length (concat list.old.items)) }
     ensures chunks { AreChunks list.new.items }
-    ensures value { concat list.new.items ≡ concat list.old.items ++ take count (slice_index_or (into_iter_items chunks.old) 0 []) }
+    ensures value { concat list.new.items
+        ≡ concat list.old.items ++ take count (slice_index_or (into_iter_items chunks.old) 0 []) }
     ensures rest { into_iter_items chunks.new ≡ drop 1 (into_iter_items chunks.old) }
     ensures capacity { vec_capacity list.old ≤ vec_capacity list.new }
 {
@@ -91,7 +93,8 @@ fn push_next(list: &mut Vec<Chunk>, chunks: &mut IntoIter<Chunk>)
     requires chunks { AreChunks list.old.items }
     requires room { HasRoom (vec_capacity list.old) (length (concat list.old.items)) }
     ensures chunks { AreChunks list.new.items }
-    ensures value { concat list.new.items ≡ concat list.old.items ++ slice_index_or (into_iter_items chunks.old) 0 [] }
+    ensures value { concat list.new.items
+        ≡ concat list.old.items ++ slice_index_or (into_iter_items chunks.old) 0 [] }
     ensures rest { into_iter_items chunks.new ≡ drop 1 (into_iter_items chunks.old) }
     ensures capacity { vec_capacity list.old ≤ vec_capacity list.new }
 {
@@ -103,9 +106,11 @@ fn push_next(list: &mut Vec<Chunk>, chunks: &mut IntoIter<Chunk>)
 // Moves the next chunks to the end of a list.
 fn push_some(list: &mut Vec<Chunk>, chunks: &mut IntoIter<Chunk>, count: usize)
     requires chunks { AreChunks list.old.items }
-    requires room { HasRoom (vec_capacity list.old) (length (concat list.old.items) + length (concat (take count (into_iter_items chunks.old)))) }
+    requires room { HasRoom (vec_capacity list.old) (length (concat list.old.items)
+        + length (concat (take count (into_iter_items chunks.old)))) }
     ensures chunks { AreChunks list.new.items }
-    ensures value { concat list.new.items ≡ concat list.old.items ++ concat (take count (into_iter_items chunks.old)) }
+    ensures value { concat list.new.items
+        ≡ concat list.old.items ++ concat (take count (into_iter_items chunks.old)) }
     ensures rest { into_iter_items chunks.new ≡ drop count (into_iter_items chunks.old) }
     ensures capacity { vec_capacity list.old ≤ vec_capacity list.new }
 {
@@ -117,9 +122,12 @@ fn push_some(list: &mut Vec<Chunk>, chunks: &mut IntoIter<Chunk>, count: usize)
 // Moves the next chunks to the end of a list, and the first characters of the one behind them.
 fn push_until(list: &mut Vec<Chunk>, chunks: &mut IntoIter<Chunk>, i: usize, count: usize)
     requires chunks { AreChunks list.old.items }
-    requires room { HasRoom (vec_capacity list.old) (length (concat list.old.items) + length (concat (take i (into_iter_items chunks.old)))) }
+    requires room { HasRoom (vec_capacity list.old)
+        (length (concat list.old.items) + length (concat (take i (into_iter_items chunks.old)))) }
     ensures chunks { AreChunks list.new.items }
-    ensures value { concat list.new.items ≡ concat list.old.items ++ (concat (take i (into_iter_items chunks.old)) ++ take count (slice_index_or (into_iter_items chunks.old) i [])) }
+    ensures value { concat list.new.items
+        ≡ concat list.old.items ++ (concat (take i (into_iter_items chunks.old))
+        ++ take count (slice_index_or (into_iter_items chunks.old) i [])) }
     ensures rest { into_iter_items chunks.new ≡ drop (i + 1) (into_iter_items chunks.old) }
     ensures capacity { vec_capacity list.old ≤ vec_capacity list.new }
 {
@@ -137,9 +145,11 @@ fn skip_next(chunks: &mut IntoIter<Chunk>)
 // Leaves out the next chunks, and moves the others to the end of a list.
 fn push_behind(list: &mut Vec<Chunk>, chunks: IntoIter<Chunk>, skipped: usize)
     requires chunks { AreChunks list.old.items }
-    requires room { HasRoom (vec_capacity list.old) (length (concat list.old.items) + length (concat (drop skipped (into_iter_items chunks)))) }
+    requires room { HasRoom (vec_capacity list.old)
+        (length (concat list.old.items) + length (concat (drop skipped (into_iter_items chunks)))) }
     ensures chunks { AreChunks list.new.items }
-    ensures value { concat list.new.items ≡ concat list.old.items ++ concat (drop skipped (into_iter_items chunks)) }
+    ensures value { concat list.new.items
+        ≡ concat list.old.items ++ concat (drop skipped (into_iter_items chunks)) }
 {
     let mut left = chunks;
     for _ in 0..skipped {
@@ -152,7 +162,8 @@ fn push_behind(list: &mut Vec<Chunk>, chunks: IntoIter<Chunk>, skipped: usize)
 // Appends characters, in chunks that are at hand.
 fn push_all(list: &mut Vec<Chunk>, characters: &[char], spare: Vec<Chunk>)
     requires chunks { AreChunks list.old.items }
-    requires room { HasRoom (vec_capacity list.old) (length (concat list.old.items) + length characters.now) }
+    requires room { HasRoom (vec_capacity list.old)
+        (length (concat list.old.items) + length characters.now) }
     requires spare_room { length characters.now ≤ MAX_CHUNK * vec_len spare }
     ensures chunks { AreChunks list.new.items }
     ensures value { concat list.new.items ≡ concat list.old.items ++ characters.now }
@@ -203,7 +214,8 @@ pub(crate) struct Splice<'a> {
 
 // Whether a chunk alone is written anew, from its beginning on.
 fn is_within(chunks: &[Chunk], i: usize, splice: &Splice<'_>) -> bool
-    ensures { OnTrue result (IsWithin chunks.now i splice.now.kept splice.now.removed (length splice.now.middle.now)) }
+    ensures { OnTrue result
+        (IsWithin chunks.now i splice.now.kept splice.now.removed (length splice.now.middle.now)) }
 {
     if i >= chunks.len() {
         return false;
@@ -219,9 +231,12 @@ fn is_within(chunks: &[Chunk], i: usize, splice: &Splice<'_>) -> bool
 // Writes a chunk anew, from its beginning on.
 fn replace_within(chunks: &mut Vec<Chunk>, i: usize, splice: &Splice<'_>, spare: Chunk)
     requires chunks { AreChunks chunks.old.items }
-    requires in_bounds { IsWithin chunks.old.items i splice.now.kept splice.now.removed (length splice.now.middle.now) }
+    requires in_bounds { IsWithin chunks.old.items i splice.now.kept splice.now.removed
+        (length splice.now.middle.now) }
     ensures chunks { AreChunks chunks.new.items }
-    ensures value { concat chunks.new.items ≡ concat (take i chunks.old.items) ++ replaced splice.now.kept splice.now.removed splice.now.middle.now (concat (drop i chunks.old.items)) }
+    ensures value { concat chunks.new.items ≡ concat (take i chunks.old.items)
+        ++ replaced splice.now.kept splice.now.removed splice.now.middle.now
+        (concat (drop i chunks.old.items)) }
 {
     let chunk = respelled(chunks[i].characters(), splice, spare);
     chunks[i] = chunk;
@@ -230,7 +245,8 @@ fn replace_within(chunks: &mut Vec<Chunk>, i: usize, splice: &Splice<'_>, spare:
 // A chunk of these characters after a splice.
 fn respelled(old: &[char], splice: &Splice<'_>, spare: Chunk) -> Chunk
     requires in_bounds { splice.now.kept + splice.now.removed ≤ length old.now }
-    requires limit { length old.now - splice.now.removed + length splice.now.middle.now ≤ MAX_CHUNK }
+    requires limit { length old.now - splice.now.removed + length splice.now.middle.now
+        ≤ MAX_CHUNK }
     ensures { result ≡ replaced splice.now.kept splice.now.removed splice.now.middle.now old.now }
 {
     let mut chunk = filled(spare, &old[..splice.kept]);
@@ -239,7 +255,8 @@ fn respelled(old: &[char], splice: &Splice<'_>, spare: Chunk) -> Chunk
     chunk
 }
 
-// Moves the chunks of a text to a list with room for them, written anew from the beginning of a chunk on.
+// Moves the chunks of a text to a list with room for them, written anew from the beginning of a
+// chunk on.
 fn rebuild(
     chunks: &mut Vec<Chunk>,
     i: usize,
@@ -251,13 +268,18 @@ fn rebuild(
     requires chunks { AreChunks chunks.old.items }
     requires index_in_bounds { i ≤ length chunks.old.items }
     requires kept_in_bounds { splice.now.kept ≤ length (slice_index_or chunks.old.items i []) }
-    requires in_bounds { splice.now.kept + splice.now.removed ≤ length (concat (drop i chunks.old.items)) }
+    requires in_bounds { splice.now.kept + splice.now.removed
+        ≤ length (concat (drop i chunks.old.items)) }
     requires limit { splice.now.kept + splice.now.removed < 2 ^ 64 }
     requires empty { list.items ≡ [] }
-    requires room { HasRoom (vec_capacity list) (length (concat (take i chunks.old.items)) + length (replaced splice.now.kept splice.now.removed splice.now.middle.now (concat (drop i chunks.old.items)))) }
+    requires room { HasRoom (vec_capacity list)
+        (length (concat (take i chunks.old.items)) + length (replaced splice.now.kept
+        splice.now.removed splice.now.middle.now (concat (drop i chunks.old.items)))) }
     requires spare_room { length splice.now.middle.now ≤ MAX_CHUNK * vec_len spare }
     ensures chunks { AreChunks chunks.new.items }
-    ensures value { concat chunks.new.items ≡ concat (take i chunks.old.items) ++ replaced splice.now.kept splice.now.removed splice.now.middle.now (concat (drop i chunks.old.items)) }
+    ensures value { concat chunks.new.items ≡ concat (take i chunks.old.items)
+        ++ replaced splice.now.kept splice.now.removed splice.now.middle.now
+        (concat (drop i chunks.old.items)) }
 {
     let old = std::mem::replace(chunks, list);
     let (more, gone) = find(&old[i..], splice.kept + splice.removed);
@@ -269,7 +291,8 @@ fn rebuild(
     push_behind(chunks, left, more);
 }
 
-// Writes the chunks of a text anew from the beginning of a chunk on, in a list with room for them unless it changes one alone.
+// Writes the chunks of a text anew from the beginning of a chunk on, in a list with room for them
+// unless it changes one alone.
 pub(crate) fn rewrite(
     chunks: &mut Vec<Chunk>,
     i: usize,
@@ -281,13 +304,18 @@ pub(crate) fn rewrite(
     requires chunks { AreChunks chunks.old.items }
     requires index_in_bounds { i ≤ length chunks.old.items }
     requires kept_in_bounds { splice.now.kept ≤ length (slice_index_or chunks.old.items i []) }
-    requires in_bounds { splice.now.kept + splice.now.removed ≤ length (concat (drop i chunks.old.items)) }
+    requires in_bounds { splice.now.kept + splice.now.removed
+        ≤ length (concat (drop i chunks.old.items)) }
     requires limit { splice.now.kept + splice.now.removed < 2 ^ 64 }
     requires empty { list.items ≡ [] }
-    requires room { HasRoom (vec_capacity list) (length (concat (take i chunks.old.items)) + length (replaced splice.now.kept splice.now.removed splice.now.middle.now (concat (drop i chunks.old.items)))) }
+    requires room { HasRoom (vec_capacity list)
+        (length (concat (take i chunks.old.items)) + length (replaced splice.now.kept
+        splice.now.removed splice.now.middle.now (concat (drop i chunks.old.items)))) }
     requires spare_room { length splice.now.middle.now ≤ MAX_CHUNK * vec_len spare }
     ensures chunks { AreChunks chunks.new.items }
-    ensures value { concat chunks.new.items ≡ concat (take i chunks.old.items) ++ replaced splice.now.kept splice.now.removed splice.now.middle.now (concat (drop i chunks.old.items)) }
+    ensures value { concat chunks.new.items ≡ concat (take i chunks.old.items)
+        ++ replaced splice.now.kept splice.now.removed splice.now.middle.now
+        (concat (drop i chunks.old.items)) }
 {
     if is_within(chunks.as_slice(), i, splice) {
         replace_within(chunks, i, splice, one);

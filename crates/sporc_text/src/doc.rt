@@ -1,6 +1,7 @@
 //! The text of a document.
 
-ghost use Rattle.std.specs.Prelude.{◌≡◌, ◌≢◌, ◌↔◌, ◌-◌, ◌*◌, ◌≤◌, ◌++◌, [], length, IsTrue, IfOk, OnOk, OnErr};
+ghost use Rattle.std.specs.Prelude.{◌≡◌, ◌≢◌, ◌↔◌, ◌-◌, ◌*◌, ◌≤◌, ◌++◌, [], length, IsTrue, IfOk};
+ghost use Rattle.std.specs.Prelude.{OnOk, OnErr};
 ghost use Rattle.std.specs.String.{string_bytes};
 ghost use Rattle.std.specs.Str.{chars, encode_utf8_all};
 ghost use Rattle.sporc_delta.specs.Marks.{base_len, apply};
@@ -16,7 +17,8 @@ use std::marker::Model;
 
 /// The text of a document, seen as the list of its characters (Unicode scalar values).
 ///
-/// It is kept in chunks of 1 to 1,024 characters. Neighbours that hold at most 512 together are joined.
+/// It is kept in chunks of 1 to 1,024 characters. Neighbours that hold at most 512 together are
+/// joined.
 #[derive(Drop)]
 pub struct Doc {
     chunks: Vec<Chunk>,
@@ -82,8 +84,8 @@ impl Doc {
         Ok(text)
     }
 
-    /// Takes all the memory that applying a delta wants, and leaves the text. Of the characters only those between its first
-    /// and its last change are copied.
+    /// Takes all the memory that applying a delta wants, and leaves the text. Of the characters
+    /// only those between its first and its last change are copied.
     pub fn ready(&mut self, delta: &Delta) -> Result<ReadyText, Memory>
         requires base { base_len delta.now ≡ length self.old }
         ensures ok { IfOk result (λ r. rewritten r self.old ≡ apply delta.now self.old) }
@@ -115,7 +117,8 @@ impl Doc {
 
 // Appends characters as UTF-8.
 fn push_characters(text: &mut String, characters: &[char]) -> Result<(), Memory>
-    ensures { OnOk result (string_bytes text.new ≡ string_bytes text.old ++ encode_utf8_all characters.now) }
+    ensures { OnOk result
+        (string_bytes text.new ≡ string_bytes text.old ++ encode_utf8_all characters.now) }
 {
     for c in characters {
         text.push(*c)?;

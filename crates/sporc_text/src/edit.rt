@@ -11,7 +11,8 @@ use crate::chunk::{Chunk, cut};
 use sporc_base::Memory;
 use sporc_delta::{Delta, Part, Text};
 
-// How many characters a delta keeps before its first change and behind its last one, and the parts between.
+// How many characters a delta keeps before its first change and behind its last one, and the parts
+// between.
 pub(crate) fn changes(delta: &Delta) -> (u64, &[Part], u64)
     ensures { IsBetween delta.now (marks_of result.1.now) result.0 result.2 }
 {
@@ -49,7 +50,8 @@ pub(crate) fn edited(
 ) -> Result<Vec<char>, Memory>
     requires in_bounds { from + base_len (marks_of parts.now) ≤ length (concat chunks.now) }
     requires limit { length (concat chunks.now) ≤ MAX_TEXT_LEN }
-    ensures ok { IfOk result (λ v. v.items ≡ before.items ++ apply (marks_of parts.now) (drop from (concat chunks.now))) }
+    ensures ok { IfOk result (λ v. v.items
+        ≡ before.items ++ apply (marks_of parts.now) (drop from (concat chunks.now))) }
 {
     let mut out = before;
     let mut at = from;
@@ -59,12 +61,14 @@ pub(crate) fn edited(
     Ok(out)
 }
 
-// Appends what one part makes of the characters from a place on, and says where the next part stands.
+// Appends what one part makes of the characters from a place on, and says where the next part
+// stands.
 fn edit_part(out: &mut Vec<char>, chunks: &[Chunk], at: usize, part: &Part) -> Result<usize, Memory>
     requires in_bounds { at + characters_read part.now ≤ length (concat chunks.now) }
     requires limit { length (concat chunks.now) ≤ MAX_TEXT_LEN }
     ensures next { IfOk result (λ n. n ≡ at + characters_read part.now) }
-    ensures written { OnOk result (out.new.items ≡ out.old.items ++ characters_written part.now (drop at (concat chunks.now))) }
+    ensures written { OnOk result (out.new.items
+        ≡ out.old.items ++ characters_written part.now (drop at (concat chunks.now))) }
 {
     match part {
         Part::Keep(count) => {
@@ -81,7 +85,8 @@ fn edit_part(out: &mut Vec<char>, chunks: &[Chunk], at: usize, part: &Part) -> R
 
 // Appends so many characters of a text, from a place on.
 fn push_kept(out: &mut Vec<char>, chunks: &[Chunk], from: usize, count: usize) -> Result<(), Memory>
-    ensures ok { OnOk result (out.new.items ≡ out.old.items ++ take count (drop from (concat chunks.now))) }
+    ensures ok { OnOk result
+        (out.new.items ≡ out.old.items ++ take count (drop from (concat chunks.now))) }
 {
     let mut skipped = from;
     let mut left = count;

@@ -15,8 +15,8 @@ use sporc_delta::Delta;
 use std::alloc::Global;
 use std::marker::Model;
 
-/// All that the next [`Doc::put`](crate::Doc::put) needs: how long the text is, how many of its characters are kept, how many
-/// behind them give way, and those that come.
+/// All that the next [`Doc::put`](crate::Doc::put) needs: how long the text is, how many of its
+/// characters are kept, how many behind them give way, and those that come.
 #[derive(Drop)]
 pub struct ReadyText {
     base: usize,
@@ -27,7 +27,8 @@ pub struct ReadyText {
     len: usize,
     // An empty list with room for the chunks that the text has then, whatever chunks it has now.
     list: Vec<Chunk>,
-    // Chunks for the characters that come, and one for those that stay of a chunk that is cut in two.
+    // Chunks for the characters that come, and one for those that stay of a chunk that is cut in
+    // two.
     spare: Vec<Chunk>,
 }
 
@@ -47,7 +48,8 @@ impl ReadyText {
     // What a delta makes of a text.
     pub(crate) fn new(alloc: Global, chunks: &[Chunk], delta: &Delta) -> Result<ReadyText, Memory>
         requires { base_len delta.now ≡ length (concat chunks.now) }
-        ensures ok { IfOk result (λ r. rewritten r (concat chunks.now) ≡ apply delta.now (concat chunks.now)) }
+        ensures ok { IfOk result
+            (λ r. rewritten r (concat chunks.now) ≡ apply delta.now (concat chunks.now)) }
     {
         let base = delta.base_len() as usize;
         let (kept, parts, left) = changes(delta);
@@ -81,7 +83,8 @@ impl ReadyText {
         requires chunks { AreChunks chunks.old.items }
         requires base { length (concat chunks.old.items) ≡ self.base }
         ensures chunks { AreChunks chunks.new.items }
-        ensures value { concat chunks.new.items ≡ replaced self.kept self.removed self.middle (concat chunks.old.items) }
+        ensures value { concat chunks.new.items
+            ≡ replaced self.kept self.removed self.middle (concat chunks.old.items) }
         ensures len { result ≡ length (concat chunks.new.items) }
     {
         let ReadyText {

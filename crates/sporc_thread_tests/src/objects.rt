@@ -2,8 +2,8 @@
 
 ghost use Rattle.std.specs.Prelude.{◌≡◌, ◌<◌, false};
 
-use sporc_order::Order;
 use sporc_memory::{Calls, MemoryLink};
+use sporc_order::Order;
 use sporc_samples::{Cast, History};
 use std::alloc::Global;
 use std::process::Abort;
@@ -22,7 +22,8 @@ pub fn append(rt: &impl Abort, bytes: &mut Vec<u8>, piece: &[u8]) {
     bytes.extend_from_slice(piece).expect(rt, "memory");
 }
 
-/// The history of the sample document, empty. It is in a box: a function that owns a history itself is slow to prove.
+/// The history of the sample document, empty. It is in a box: a function that owns a history itself
+/// is slow to prove.
 pub fn empty_history(rt: &impl Abort, alloc: Global, cast: &Cast) -> Box<History> {
     let genesis = cast.genesis(alloc).expect(rt, "a genesis");
     let history = History::new(alloc, &genesis).expect(rt, "a history");
@@ -43,7 +44,8 @@ pub fn calls(rt: &impl Abort, alloc: Global, failing: &[u64]) -> Calls
     Calls::failing(Vec::from_slice(alloc, failing).expect(rt, "memory"))
 }
 
-/// A link whose other end sends these bytes, so many at once at most. The calls with these numbers fail.
+/// A link whose other end sends these bytes, so many at once at most. The calls with these numbers
+/// fail.
 pub fn listed_link(
     rt: &impl Abort,
     alloc: Global,

@@ -1,5 +1,7 @@
--- Which leaves sign in runs of the program, over the leaf file of a device, and what else is done to that file.
-use Rattle.std.specs.Prelude.{◌≡◌, ◌≢◌, ◌⊎◌, ◌<◌, ℕ, List, [], ◌∷◌, ◌++◌, false, Option, None, Some, IsSome, AllPairs, Result, Ok, Err, ⊤, bytes_eq, if◌then◌else◌}
+-- Which leaves sign in runs of the program, over the leaf file of a device, and what else is done
+-- to that file.
+use Rattle.std.specs.Prelude.{◌≡◌, ◌≢◌, ◌⊎◌, ◌<◌, ℕ, List, [], ◌∷◌, ◌++◌, false, Option, None, Some}
+use Rattle.std.specs.Prelude.{IsSome, AllPairs, Result, Ok, Err, ⊤, bytes_eq, if◌then◌else◌}
 use Rattle.sporc_outside.specs.Files.{HasNoFile, file_in}
 use Rattle.sporc_outside.specs.declared.named_file.NamedFile.{NamedFile}
 use Rattle.sporc_outside.specs.LeafDisk.{DiskTold, disk_images}
@@ -13,7 +15,8 @@ use Rattle.sporc_files.specs.declared.fault.Fault.{Fault}
 use Rattle.sporc_files.specs.declared.file.File.TheVariants.{Leaf}
 use Rattle.sporc_files.specs.Names.{file_name, names_of_document}
 use Rattle.sporc_clients.specs.Lives.{ClientRun, signed_in}
-use Rattle.sporc_clients.specs.Outcome.{ClientOutcome, ClientUse, no_disk, no_member, over_disk, with_folder}
+use Rattle.sporc_clients.specs.Outcome.{ClientOutcome, ClientUse, no_disk, no_member, over_disk}
+use Rattle.sporc_clients.specs.Outcome.{with_folder}
 use Rattle.sporc_top.specs.Needs.{needs_by}
 use Rattle.sporc_top.specs.Outcome.{Ends, RunOutcome, command, done, no_command, stopped, unread}
 use Rattle.sporc_top.specs.Performing.{Performs, names_of}
@@ -37,23 +40,34 @@ module _ {D : Type 0} (disks : D → DiskTold) where
     pub outside : OutsideUse
     pub status : ℕ
     pub outcome : RunOutcome disks words outside status
-    pub files : (needs_by (command_of words)).files ≡ false → outside.folder.after.files ≡ outside.folder.before.files
+    pub files : (needs_by (command_of words)).files ≡ false
+        → outside.folder.after.files ≡ outside.folder.before.files
 
   -- what `client` did over the disk of its leaf file, if that was handed out
-  abbrev pub over_its_disk : (words : Client) (did : ClientUse) (answer : Result ⊤ Fault) → ClientOutcome disks words did answer → Option (ClientRun disks)
+  abbrev pub over_its_disk : (words : Client) (did : ClientUse) (answer : Result ⊤ Fault)
+      → ClientOutcome disks words did answer → Option (ClientRun disks)
   over_its_disk words did answer (no_member why same untouched) = None
   over_its_disk words did answer (no_disk m say why same untouched) = None
-  over_its_disk words did answer (over_disk m first last during say lends over) =
-      Some (record { words = words; member = m; did = with_folder did during; first = first; last = last; answer = answer; outcome = over })
+  over_its_disk words did answer (over_disk m first last during say lends over) = Some (record {
+    words = words;
+    member = m;
+    did = with_folder did during;
+    first = first;
+    last = last;
+    answer = answer;
+    outcome = over;
+  })
 
   -- no command but `client` has a disk handed out
-  abbrev pub by_command : (asked : Command) (outside : OutsideUse) (answer : Result ⊤ Fault) → Performs disks asked outside answer → Option (ClientRun disks)
+  abbrev pub by_command : (asked : Command) (outside : OutsideUse) (answer : Result ⊤ Fault)
+      → Performs disks asked outside answer → Option (ClientRun disks)
   by_command commands.Play outside answer did = None
   by_command (commands.Generate edits) outside answer did = None
   by_command (commands.Keygen words) outside answer did = None
   by_command (commands.Found words) outside answer did = None
   by_command (commands.Serve words) outside answer did = None
-  by_command (commands.Client words) outside answer did = over_its_disk words (client_use outside) answer did.outcome
+  by_command (commands.Client words) outside answer did =
+      over_its_disk words (client_use outside) answer did.outcome
   by_command (commands.Check words) outside answer did = None
   by_command (commands.Compare words) outside answer did = None
   by_command (commands.Help page) outside answer did = None
@@ -64,11 +78,14 @@ module _ {D : Type 0} (disks : D → DiskTold) where
   by_command (commands.ServeAll words) outside answer did = None
 
   abbrev pub by_end : (asked : Command) (outside : OutsideUse) (status : ℕ)
-      → Ends (λ out. Performs disks asked (record outside { out = out })) (names_of asked) outside.out status → Option (ClientRun disks)
+      → Ends (λ out. Performs disks asked (record outside { out = out }))
+      (names_of asked) outside.out status → Option (ClientRun disks)
   by_end asked outside status (done did) = by_command asked outside (Ok tt) did
-  by_end asked outside status (stopped {fault} {between} did since line till) = by_command asked _ (Err fault) did
+  by_end asked outside status (stopped {fault} {between} did since line till) =
+      by_command asked _ (Err fault) did
 
-  abbrev pub by_outcome : (words : List (List ℕ)) (outside : OutsideUse) (status : ℕ) → RunOutcome disks words outside status → Option (ClientRun disks)
+  abbrev pub by_outcome : (words : List (List ℕ)) (outside : OutsideUse) (status : ℕ)
+      → RunOutcome disks words outside status → Option (ClientRun disks)
   by_outcome words outside status (no_command asks unused line) = None
   by_outcome words outside status (unread unused line) = None
   by_outcome words outside status (command {asked} asks ends) = by_end asked outside status ends
@@ -76,9 +93,11 @@ module _ {D : Type 0} (disks : D → DiskTold) where
   -- those over the leaf file with this name
   abbrev pub if_over : List ℕ → Option (ClientRun disks) → Option (ClientRun disks)
   if_over name None = None
-  if_over name (Some run) = if bytes_eq (leaf_name run.words.name run.words.device) name then Some run else None
+  if_over name (Some run) =
+      if bytes_eq (leaf_name run.words.name run.words.device) name then Some run else None
 
-  -- what a run of the program did over the disk of the leaf file with a name, if it had it handed out: then it is one of `client`
+  -- what a run of the program did over the disk of the leaf file with a name, if it had it handed
+  -- out: then it is one of `client`
   abbrev pub over_leaf_file : List ℕ → ProgramRun → Option (ClientRun disks)
   over_leaf_file name run = if_over name (by_outcome run.words run.outside run.status run.outcome)
 
@@ -90,7 +109,8 @@ module _ {D : Type 0} (disks : D → DiskTold) where
   -- and in several runs of the program, in their order
   abbrev pub all_signed_over : List ℕ → List ProgramRun → List ℕ
   all_signed_over name [] = []
-  all_signed_over name (run ∷ runs) = signed_over (over_leaf_file name run) ++ all_signed_over name runs
+  all_signed_over name (run ∷ runs) =
+      signed_over (over_leaf_file name run) ++ all_signed_over name runs
 
   -- it is a `keygen` that makes this file
   pub record MakesLeafFile (name : List ℕ) (run : ProgramRun) : Type 0 where
@@ -98,12 +118,14 @@ module _ {D : Type 0} (disks : D → DiskTold) where
     pub asks : command_of run.words ≡ Some (commands.Keygen words)
     pub named : leaf_name words.name words.device ≡ name
 
-  -- What stands of a leaf file behind a run that did not have its disk handed out: what stood before. Or it is a `keygen` that makes this file, and there
-  -- was none, or something outside failed, and then anything may stand there
+  -- What stands of a leaf file behind a run that did not have its disk handed out: what stood
+  -- before. Or it is a `keygen` that makes this file, and there was none, or something outside
+  -- failed, and then anything may stand there
   abbrev pub LeavesLeafFile : List ℕ → ProgramRun → Type 0
   LeavesLeafFile name run =
       (file_at name run.outside.folder.after.files ≡ file_at name run.outside.folder.before.files)
-      ⊎ (MakesLeafFile name run × (HasNoFile run.outside.folder.before.files name ⊎ (run.status ≡ 6)))
+      ⊎ (MakesLeafFile name run
+      × (HasNoFile run.outside.folder.before.files name ⊎ (run.status ≡ 6)))
 
   -- a folder that tells its files, and which disks are out
   pub record IsTold (run : ProgramRun) : Type 0 where
@@ -121,31 +143,35 @@ module _ {D : Type 0} (disk_told : D → DiskTold) (name : List ℕ) where
   abbrev pub life_of : Run → Option (ClientRun disk_told)
   life_of run = over_leaf_file disk_told name run
 
-  -- The leaf file as the next run finds it: the one before left it so, or a crash did, of the disk that was behind the file last. Before the first disk
-  -- was handed out nothing is asked
+  -- The leaf file as the next run finds it: the one before left it so, or a crash did, of the disk
+  -- that was behind the file last. Before the first disk was handed out nothing is asked
   abbrev pub FindsLeafFile : Option D → Option (List NamedFile) → Option (List NamedFile) → Type 0
   FindsLeafFile None left found = Unit {0}
-  FindsLeafFile (Some last) left found =
-      (file_at name found ≡ file_at name left) ⊎ ((image : List ℕ) × disk_images (disk_told last) image × (file_at name found ≡ Some image))
+  FindsLeafFile (Some last) left found = (file_at name found ≡ file_at name left)
+      ⊎ ((image : List ℕ) × disk_images (disk_told last) image × (file_at name found ≡ Some image))
 
-  -- a disk that is handed out tells its bytes to its end, and no crash leaves of it what it could not leave of the one before it
+  -- a disk that is handed out tells its bytes to its end, and no crash leaves of it what it could
+  -- not leave of the one before it
   abbrev pub GoesOnOver : Option D → Option (ClientRun disk_told) → Type 0
   GoesOnOver behind None = Unit {0}
   GoesOnOver None (Some run) = IsSome (disk_told run.last).stored
-  GoesOnOver (Some last) (Some run) = IsSome (disk_told run.last).stored × ((image : List ℕ) → disk_images (disk_told run.first) image → disk_images (disk_told last) image)
+  GoesOnOver (Some last) (Some run) = IsSome (disk_told run.last).stored × ((image : List ℕ)
+      → disk_images (disk_told run.first) image → disk_images (disk_told last) image)
 
   -- the disk that was behind the file last
   abbrev pub behind_then : Option D → Option (ClientRun disk_told) → Option D
   behind_then behind None = behind
   behind_then behind (Some run) = Some run.last
 
-  -- Runs whatever their words and their ends. Once a disk was behind the file, none of them is a `keygen` that makes it at which something outside failed
+  -- Runs whatever their words and their ends. Once a disk was behind the file, none of them is a
+  -- `keygen` that makes it at which something outside failed
   abbrev pub AreProgramRuns : Option D → Option (List NamedFile) → List Run → Type 0
   AreProgramRuns behind left [] = Unit {0}
   AreProgramRuns behind left (run ∷ runs) =
       IsTold disk_told run × FindsLeafFile behind left run.outside.folder.before.files
       × (IsSome behind → MakesLeafFile disk_told name run → run.status ≢ 6)
-      × GoesOnOver behind (life_of run) × AreProgramRuns (behind_then behind (life_of run)) run.outside.folder.after.files runs
+      × GoesOnOver behind (life_of run)
+      × AreProgramRuns (behind_then behind (life_of run)) run.outside.folder.after.files runs
 
   -- no leaf signs twice over them
   abbrev pub SignOnceOverRuns : Type 0

@@ -11,7 +11,8 @@ pub record Needs : Type 0 where
   pub chance : Bool
 
 abbrev pub needs : Bool → Bool → Bool → Bool → Needs
-needs source files net chance = record { source = source; files = files; net = net; chance = chance }
+needs source files net chance =
+    record { source = source; files = files; net = net; chance = chance }
 
 abbrev pub needs_of : Command → Needs
 needs_of commands.Play = needs true false false false

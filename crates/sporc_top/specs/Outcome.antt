@@ -19,22 +19,29 @@ until between out = record out { after = between }
 abbrev pub from : StreamTold → Use StreamTold → Use StreamTold
 from between out = record out { before = between }
 
--- A command did all its work, or a fault stopped it, whose line was then written behind what the command had written; by the exit status.
--- The sink's count did not fall before that line, nor while it was written
-pub data Ends (Did : Use StreamTold → Result ⊤ Fault → Type 0) (names : FileNames) (out : Use StreamTold) : ℕ → Type 0 where
+-- A command did all its work, or a fault stopped it, whose line was then written behind what the
+-- command had written; by the exit status. The sink's count did not fall before that line, nor
+-- while it was written
+pub data Ends (Did : Use StreamTold → Result ⊤ Fault → Type 0) (names : FileNames)
+    (out : Use StreamTold) : ℕ → Type 0 where
   done : Did out (Ok tt) → Ends Did names out 0
-  stopped : {fault : Fault} {between : StreamTold} → Did (until between out) (Err fault) → out.before.faults ≤ between.faults
-      → WritesFaultLine (from between out) names fault → between.faults ≤ out.after.faults → Ends Did names out (status_of fault)
+  stopped : {fault : Fault} {between : StreamTold} → Did (until between out) (Err fault)
+      → out.before.faults ≤ between.faults → WritesFaultLine (from between out) names fault
+      → between.faults ≤ out.after.faults → Ends Did names out (status_of fault)
 
 -- What a run did, by its exit status
-pub data RunOutcome {D : Type 0} (disks : D → DiskTold) (words : List (List ℕ)) (outside : OutsideUse) : ℕ → Type 0 where
+pub data RunOutcome {D : Type 0} (disks : D → DiskTold) (words : List (List ℕ))
+    (outside : OutsideUse) : ℕ → Type 0 where
   -- the words ask for nothing: 2, `fault words`, and nothing else
-  no_command : command_of words ≡ None → IsUnused outside → WritesFaultLine outside.out no_files faults.Words → RunOutcome disks words outside 2
+  no_command : command_of words ≡ None → IsUnused outside
+      → WritesFaultLine outside.out no_files faults.Words → RunOutcome disks words outside 2
   -- memory ran out before they were read: 1, `fault memory`, and nothing else
-  unread : IsUnused outside → WritesFaultLine outside.out no_files faults.Memory → RunOutcome disks words outside 1
+  unread : IsUnused outside → WritesFaultLine outside.out no_files faults.Memory
+      → RunOutcome disks words outside 1
   -- they ask for a command: what it did, and then the line of its fault
   command : {asked : Command} {status : ℕ} → command_of words ≡ Some asked
-      → Ends (λ out. Performs disks asked (record outside { out = out })) (names_of asked) outside.out status → RunOutcome disks words outside status
+      → Ends (λ out. Performs disks asked (record outside { out = out }))
+      (names_of asked) outside.out status → RunOutcome disks words outside status
 
 -- this, unless memory ran out, or something outside failed
 abbrev pub UnlessCutOff : ℕ → Type 0 → Type 0

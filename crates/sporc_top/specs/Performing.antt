@@ -28,12 +28,14 @@ use Rattle.sporc_commands.specs.KeyMaking.{KeygenOutcome}
 use Rattle.sporc_commands.specs.KeyShowing.{PublicOutcome}
 use Rattle.sporc_help.specs.Pages.{page_text, version_text}
 use Rattle.sporc_help.specs.Telling.{TellsText}
-use Rattle.sporc_commands.specs.Outcomes.{CheckOutcome, CompareOutcome, EntriesOutcome, ServeOutcome, TextOutcome}
+use Rattle.sporc_commands.specs.Outcomes.{CheckOutcome, CompareOutcome, EntriesOutcome}
+use Rattle.sporc_commands.specs.Outcomes.{ServeOutcome, TextOutcome}
 use Rattle.sporc_commands.specs.Rounds.{AsksAgain}
 use Rattle.sporc_hosting.specs.Hosting.{ServeAllOutcome}
 use Rattle.sporc_hosting.specs.Loading.{files_of_all}
 use Rattle.sporc_clients.specs.Nets.{AsksAtMost}
-use Rattle.sporc_clients.specs.Outcome.{ClientOutcome, ClientUse, client_files, names_of as names_of_client}
+use Rattle.sporc_clients.specs.Outcome.{ClientOutcome, ClientUse, client_files}
+use Rattle.sporc_clients.specs.Outcome.{names_of as names_of_client}
 use Rattle.sporc_top.specs.Uses.{OutsideUse, client_use}
 
 -- ---- names
@@ -61,7 +63,8 @@ names_of (commands.ServeAll words) = names_of_documents words.names
 
 -- of all files, the names of these alone were asked for
 abbrev pub AsksFor : FileNames → List File → Use FolderTold → Type 0
-AsksFor names asked folder = AsksOnly (map (file_name names) asked) folder.before.asked folder.after.asked
+AsksFor names asked folder =
+    AsksOnly (map (file_name names) asked) folder.before.asked folder.after.asked
 
 -- ---- plays
 
@@ -79,7 +82,8 @@ as_program (Ok done) = Ok done
 as_program (Err fault) = Err (fault_of_play fault)
 
 -- the script of the source was played
-pub record PlaysSource (source : Use StreamTold) (out : Use StreamTold) (answer : Result ⊤ Fault) : Type 0 where
+pub record PlaysSource (source : Use StreamTold) (out : Use StreamTold)
+    (answer : Result ⊤ Fault) : Type 0 where
   pub played : Result ⊤ PlayFault
   pub outcome : PlayOutcome source out played
   pub answer_is : answer ≡ as_program played
@@ -98,45 +102,56 @@ pub record PlaysEdits (edits : ℕ) (out : Use StreamTold) (answer : Result ⊤ 
 -- ---- keys and documents
 
 -- a key was made, of two files alone
-pub record MakesKey (words : Keygen) (folder : Use FolderTold) (chance : Use ChanceTold) (out : Use StreamTold) (answer : Result ⊤ Fault) : Type 0 where
+pub record MakesKey (words : Keygen) (folder : Use FolderTold) (chance : Use ChanceTold)
+    (out : Use StreamTold) (answer : Result ⊤ Fault) : Type 0 where
   pub outcome : KeygenOutcome words folder chance out answer
-  pub may_ask : AsksFor (names_of_document words.name) (files.Key words.device ∷ files.Leaf words.device ∷ []) folder
+  pub may_ask : AsksFor (names_of_document words.name)
+      (files.Key words.device ∷ files.Leaf words.device ∷ []) folder
 
 -- the public key of a key that is there was printed, of one file alone, and none was changed
-pub record ShowsKey (words : Public) (folder : Use FolderTold) (out : Use StreamTold) (answer : Result ⊤ Fault) : Type 0 where
+pub record ShowsKey (words : Public) (folder : Use FolderTold) (out : Use StreamTold)
+    (answer : Result ⊤ Fault) : Type 0 where
   pub outcome : PublicOutcome words folder out answer
   pub unchanged : folder.after.files ≡ folder.before.files
   pub may_ask : AsksFor (names_of_document words.name) (files.Key words.device ∷ []) folder
 
 -- a document was founded, of the files alone that its words name, and nothing was written of that
-pub record FoundsDocument (words : Found) (folder : Use FolderTold) (chance : Use ChanceTold) (out : Use StreamTold) (answer : Result ⊤ Fault) : Type 0 where
+pub record FoundsDocument (words : Found) (folder : Use FolderTold) (chance : Use ChanceTold)
+    (out : Use StreamTold) (answer : Result ⊤ Fault) : Type 0 where
   pub outcome : FoundOutcome words folder chance answer
   pub may_ask : AsksFor (names_of_document words.name) (found_files words.participants) folder
   pub unwritten : IsUnwritten out
 
 -- ---- a net
 
--- sessions were served at the address alone, from three files alone, and each link that came back is shut
-pub record ServesDocument (words : Serve) (folder : Use FolderTold) (out : Use StreamTold) (net : Use NetTold) (answer : Result ⊤ Fault) : Type 0 where
+-- sessions were served at the address alone, from three files alone, and each link that came back
+-- is shut
+pub record ServesDocument (words : Serve) (folder : Use FolderTold) (out : Use StreamTold)
+    (net : Use NetTold) (answer : Result ⊤ Fault) : Type 0 where
   pub outcome : ServeOutcome (names_of_document words.name) words.sessions words.times
       folder out net.before net.after answer
-  pub files_may_ask : AsksFor (names_of_document words.name) (files.Genesis ∷ files.Tail ∷ files.Log ∷ []) folder
+  pub files_may_ask : AsksFor (names_of_document words.name)
+      (files.Genesis ∷ files.Tail ∷ files.Log ∷ []) folder
   pub net_may_ask : AsksAgain words.times net.before.asked net.after.asked words.address
   pub shut : AreShutBehind net.before.returned net.after.returned
 
--- sessions of several documents were served at the address alone, from three files of each alone, and each link that came back is shut
-pub record ServesDocuments (words : ServeAll) (folder : Use FolderTold) (out : Use StreamTold) (net : Use NetTold) (answer : Result ⊤ Fault) : Type 0 where
+-- sessions of several documents were served at the address alone, from three files of each alone,
+-- and each link that came back is shut
+pub record ServesDocuments (words : ServeAll) (folder : Use FolderTold) (out : Use StreamTold)
+    (net : Use NetTold) (answer : Result ⊤ Fault) : Type 0 where
   pub outcome : ServeAllOutcome words.names words.sessions words.times folder out
       net.before net.after answer
   pub files_may_ask : AsksOnly (files_of_all words.names) folder.before.asked folder.after.asked
   pub net_may_ask : AsksAgain words.times net.before.asked net.after.asked words.address
   pub shut : AreShutBehind net.before.returned net.after.returned
 
--- a member's device worked from its own files and its editors' scripts alone, with the server at the address alone, over at most two links, each of which
--- came back shut
-pub record WorksAsMember {D : Type 0} (disks : D → DiskTold) (words : Client) (did : ClientUse) (answer : Result ⊤ Fault) : Type 0 where
+-- a member's device worked from its own files and its editors' scripts alone, with the server at
+-- the address alone, over at most two links, each of which came back shut
+pub record WorksAsMember {D : Type 0} (disks : D → DiskTold) (words : Client) (did : ClientUse)
+    (answer : Result ⊤ Fault) : Type 0 where
   pub outcome : ClientOutcome disks words did answer
-  pub files_may_ask : AsksFor (names_of_client words) (client_files words.device (length words.scripts)) did.folder
+  pub files_may_ask : AsksFor (names_of_client words)
+      (client_files words.device (length words.scripts)) did.folder
   pub net_may_ask : AsksAtMost 2 did.net.before.asked did.net.after.asked words.address
   pub shut : AreShutBehind did.net.before.returned did.net.after.returned
   pub links_kept : did.net.before.link_faults ≤ did.net.after.link_faults
@@ -148,15 +163,24 @@ module _ {D : Type 0} (disks : D → DiskTold) where
   abbrev pub Performs : Command → OutsideUse → Result ⊤ Fault → Type 0
   Performs commands.Play outside answer = PlaysSource outside.source outside.out answer
   Performs (commands.Generate edits) outside answer = PlaysEdits edits outside.out answer
-  Performs (commands.Keygen words) outside answer = MakesKey words outside.folder outside.chance outside.out answer
-  Performs (commands.Found words) outside answer = FoundsDocument words outside.folder outside.chance outside.out answer
-  Performs (commands.Serve words) outside answer = ServesDocument words outside.folder outside.out outside.net answer
-  Performs (commands.Client words) outside answer = WorksAsMember disks words (client_use outside) answer
-  Performs (commands.Check words) outside answer = CheckOutcome (names_of_document words.name) words.device outside.folder outside.out answer
-  Performs (commands.Compare words) outside answer = CompareOutcome (names_of_document words.name) words.first words.second outside.folder outside.out answer
+  Performs (commands.Keygen words) outside answer =
+      MakesKey words outside.folder outside.chance outside.out answer
+  Performs (commands.Found words) outside answer =
+      FoundsDocument words outside.folder outside.chance outside.out answer
+  Performs (commands.Serve words) outside answer =
+      ServesDocument words outside.folder outside.out outside.net answer
+  Performs (commands.Client words) outside answer =
+      WorksAsMember disks words (client_use outside) answer
+  Performs (commands.Check words) outside answer =
+      CheckOutcome (names_of_document words.name) words.device outside.folder outside.out answer
+  Performs (commands.Compare words) outside answer = CompareOutcome
+      (names_of_document words.name) words.first words.second outside.folder outside.out answer
   Performs (commands.Help page) outside answer = TellsText (page_text page) outside.out answer
   Performs commands.Version outside answer = TellsText version_text outside.out answer
   Performs (commands.Public words) outside answer = ShowsKey words outside.folder outside.out answer
-  Performs (commands.Text words) outside answer = TextOutcome (names_of_document words.name) words.device words.at outside.folder outside.out answer
-  Performs (commands.Entries words) outside answer = EntriesOutcome (names_of_document words.name) words.device words.from outside.folder outside.out answer
-  Performs (commands.ServeAll words) outside answer = ServesDocuments words outside.folder outside.out outside.net answer
+  Performs (commands.Text words) outside answer = TextOutcome
+      (names_of_document words.name) words.device words.at outside.folder outside.out answer
+  Performs (commands.Entries words) outside answer = EntriesOutcome
+      (names_of_document words.name) words.device words.from outside.folder outside.out answer
+  Performs (commands.ServeAll words) outside answer =
+      ServesDocuments words outside.folder outside.out outside.net answer

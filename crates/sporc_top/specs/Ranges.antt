@@ -14,7 +14,8 @@ IsInRange commands.Play = Unit {0}
 IsInRange (commands.Generate edits) = edits ≤ MAX_GENERATED
 IsInRange (commands.Keygen asked) = IsLeafHeight (height_of asked.height) × IsKeyWidth asked.width
 IsInRange (commands.Found asked) = MayFound asked
-IsInRange (commands.Serve asked) = (1 ≤ asked.sessions) × (asked.sessions ≤ MAX_SESSIONS) × (1 ≤ asked.times)
+IsInRange (commands.Serve asked) =
+    (1 ≤ asked.sessions) × (asked.sessions ≤ MAX_SESSIONS) × (1 ≤ asked.times)
 IsInRange (commands.Client asked) = length asked.scripts ≤ MAX_EDITORS
 IsInRange (commands.Check asked) = Unit {0}
 IsInRange (commands.Compare asked) = Unit {0}
@@ -23,4 +24,5 @@ IsInRange commands.Version = Unit {0}
 IsInRange (commands.Public asked) = Unit {0}
 IsInRange (commands.Text asked) = Unit {0}
 IsInRange (commands.Entries asked) = Unit {0}
-IsInRange (commands.ServeAll asked) = (length asked.names ≤ MAX_DOCUMENTS) × (1 ≤ asked.sessions) × (asked.sessions ≤ MAX_SESSIONS) × (1 ≤ asked.times)
+IsInRange (commands.ServeAll asked) = (length asked.names ≤ MAX_DOCUMENTS) × (1 ≤ asked.sessions)
+    × (asked.sessions ≤ MAX_SESSIONS) × (1 ≤ asked.times)

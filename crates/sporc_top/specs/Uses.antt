@@ -17,7 +17,12 @@ pub record OutsideUse : Type 0 where
 
 -- those that `client` is handed
 abbrev pub client_use : OutsideUse → ClientUse
-client_use outside = record { out = outside.out; folder = outside.folder; net = outside.net; chance = outside.chance }
+client_use outside = record {
+  out = outside.out;
+  folder = outside.folder;
+  net = outside.net;
+  chance = outside.chance;
+}
 
 -- beside the sink nothing was used: all else tells what it told before
 pub record IsUnused (outside : OutsideUse) : Type 0 where

@@ -7,9 +7,11 @@ ghost use Rattle.sporc_script.specs.declared.limits.TheConstants.{MAX_GENERATED}
 ghost use Rattle.sporc_wire.specs.declared.limits.TheConstants.{MAX_DOCUMENTS, MAX_SESSIONS};
 ghost use Rattle.sporc_play.specs.declared.playing.TheConstants.{MAX_SCRIPT};
 ghost use Rattle.sporc_files.specs.Names.{names_of_document};
-ghost use Rattle.sporc_commands.specs.Outcomes.{CheckOutcome, CompareOutcome, EntriesOutcome, TextOutcome};
+ghost use Rattle.sporc_commands.specs.Outcomes.{CheckOutcome, CompareOutcome, EntriesOutcome};
+ghost use Rattle.sporc_commands.specs.Outcomes.{TextOutcome};
 ghost use Rattle.sporc_top.specs.Needs.{needs_of};
-ghost use Rattle.sporc_top.specs.Performing.{Performs, PlaysEdits, PlaysSource, ServesDocument, ServesDocuments, fault_of_play, names_of};
+ghost use Rattle.sporc_top.specs.Performing.{Performs, PlaysEdits, PlaysSource, ServesDocument};
+ghost use Rattle.sporc_top.specs.Performing.{ServesDocuments, fault_of_play, names_of};
 ghost use Rattle.sporc_top.specs.Ranges.{IsInRange};
 
 use sporc_clients::client;
@@ -46,8 +48,10 @@ pub(crate) fn names_of(command: &Command) -> Names<'_>
 
 // Plays the script of a source.
 fn play_source<S: Source, O: Sink>(alloc: Global, source: &mut S, out: &mut O) -> Result<(), Fault>
-    ensures outcome { PlaysSource (use_of S.told source.old source.new) (use_of O.told out.old out.new) result }
-    ensures taken { ConsumesAtMost (MAX_SCRIPT + 1) (S.told source.old).left (S.told source.new).left }
+    ensures outcome { PlaysSource (use_of S.told source.old source.new)
+        (use_of O.told out.old out.new) result }
+    ensures taken { ConsumesAtMost (MAX_SCRIPT + 1) (S.told source.old).left
+        (S.told source.new).left }
     ensures source_kept { (S.told source.old).faults ≤ (S.told source.new).faults }
     ensures out_kept { (O.told out.old).faults ≤ (O.told out.new).faults }
 {
@@ -91,9 +95,8 @@ where
     requires positive { 1 ≤ words.now.sessions }
     requires limit { words.now.sessions ≤ MAX_SESSIONS }
     requires times_positive { 1 ≤ words.now.times }
-    ensures outcome { ServesDocument words.now (use_of F.told files.old files.new) (use_of O.told out.old out.new)
-        (use_of N.told net.old net.new)
-        result }
+    ensures outcome { ServesDocument words.now (use_of F.told files.old files.new)
+        (use_of O.told out.old out.new) (use_of N.told net.old net.new) result }
     ensures links_out { (N.told net.new).out ≡ (N.told net.old).out }
     ensures lent { (F.told files.new).lent ≡ (F.told files.old).lent }
     ensures files_kept { (F.told files.old).faults ≤ (F.told files.new).faults }
@@ -134,9 +137,8 @@ where
     requires positive { 1 ≤ words.now.sessions }
     requires limit { words.now.sessions ≤ MAX_SESSIONS }
     requires times_positive { 1 ≤ words.now.times }
-    ensures outcome { ServesDocuments words.now (use_of F.told files.old files.new) (use_of O.told out.old out.new)
-        (use_of N.told net.old net.new)
-        result }
+    ensures outcome { ServesDocuments words.now (use_of F.told files.old files.new)
+        (use_of O.told out.old out.new) (use_of N.told net.old net.new) result }
     ensures links_out { (N.told net.new).out ≡ (N.told net.old).out }
     ensures lent { (F.told files.new).lent ≡ (F.told files.old).lent }
     ensures files_kept { (F.told files.old).faults ≤ (F.told files.new).faults }
@@ -169,9 +171,8 @@ fn check_history<R: Threads + Wait + Sync, O: Sink, F: Folder, G: Gate + Sync>(
     files: &mut F,
     gate: &G,
 ) -> Result<(), Fault>
-    ensures outcome { CheckOutcome (names_of_document words.now.name) words.now.device (use_of F.told files.old files.new)
-        (use_of O.told out.old out.new)
-        result }
+    ensures outcome { CheckOutcome (names_of_document words.now.name) words.now.device
+        (use_of F.told files.old files.new) (use_of O.told out.old out.new) result }
     ensures lent { (F.told files.new).lent ≡ (F.told files.old).lent }
     ensures files_kept { (F.told files.old).faults ≤ (F.told files.new).faults }
     ensures out_kept { (O.told out.old).faults ≤ (O.told out.new).faults }
@@ -187,10 +188,9 @@ fn compare_histories<O: Sink, F: Folder>(
     out: &mut O,
     files: &mut F,
 ) -> Result<(), Fault>
-    ensures outcome { CompareOutcome (names_of_document words.now.name) words.now.first words.now.second
-        (use_of F.told files.old files.new)
-        (use_of O.told out.old out.new)
-        result }
+    ensures outcome { CompareOutcome
+        (names_of_document words.now.name) words.now.first words.now.second
+        (use_of F.told files.old files.new) (use_of O.told out.old out.new) result }
     ensures lent { (F.told files.new).lent ≡ (F.told files.old).lent }
     ensures files_kept { (F.told files.old).faults ≤ (F.told files.new).faults }
     ensures out_kept { (O.told out.old).faults ≤ (O.told out.new).faults }
@@ -229,10 +229,8 @@ fn list_history<R: Threads + Wait + Sync, O: Sink, F: Folder, G: Gate + Sync>(
     files: &mut F,
     gate: &G,
 ) -> Result<(), Fault>
-    ensures outcome { EntriesOutcome (names_of_document words.now.name) words.now.device words.now.from
-        (use_of F.told files.old files.new)
-        (use_of O.told out.old out.new)
-        result }
+    ensures outcome { EntriesOutcome (names_of_document words.now.name) words.now.device
+        words.now.from (use_of F.told files.old files.new) (use_of O.told out.old out.new) result }
     ensures lent { (F.told files.new).lent ≡ (F.told files.old).lent }
     ensures files_kept { (F.told files.old).faults ≤ (F.told files.new).faults }
     ensures out_kept { (O.told out.old).faults ≤ (O.told out.new).faults }
@@ -288,7 +286,8 @@ where
     ensures files { (needs_of command.now).files ≡ false → files.new ≡ files.old }
     ensures net { (needs_of command.now).net ≡ false → net.new ≡ net.old }
     ensures chance { (needs_of command.now).chance ≡ false → chance.new ≡ chance.old }
-    ensures taken { ConsumesAtMost (MAX_SCRIPT + 1) (S.told source.old).left (S.told source.new).left }
+    ensures taken { ConsumesAtMost (MAX_SCRIPT + 1) (S.told source.old).left
+        (S.told source.new).left }
     ensures links_out { (N.told net.new).out ≡ (N.told net.old).out }
     ensures lent { (F.told files.new).lent ≡ (F.told files.old).lent }
     ensures source_kept { (S.told source.old).faults ≤ (S.told source.new).faults }

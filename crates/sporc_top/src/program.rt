@@ -18,8 +18,9 @@ use std::alloc::Global;
 use std::sync::Wait;
 use std::thread::Threads;
 
-/// Does what the words ask for, and answers the exit status. The first word names the command; docs/MANUAL.md has them all,
-/// and the line on `out` by which each fault is told behind what the command has written.
+/// Does what the words ask for, and answers the exit status. The first word names the command;
+/// docs/MANUAL.md has them all, and the line on `out` by which each fault is told behind what the
+/// command has written.
 ///
 /// | Command | Beside `out` it uses |
 /// |---|---|
@@ -78,11 +79,16 @@ where
       net = use_of N.told net.old net.new;
       chance = use_of C.told chance.old chance.new;
     } in RunOutcome F.Disk.told (map (λ w. string_bytes w) words.now) did result × AllKept did }
-    ensures source { (needs_by (command_of (map (λ w. string_bytes w) words.now))).source ≡ false → source.new ≡ source.old }
-    ensures files { (needs_by (command_of (map (λ w. string_bytes w) words.now))).files ≡ false → files.new ≡ files.old }
-    ensures net { (needs_by (command_of (map (λ w. string_bytes w) words.now))).net ≡ false → net.new ≡ net.old }
-    ensures chance { (needs_by (command_of (map (λ w. string_bytes w) words.now))).chance ≡ false → chance.new ≡ chance.old }
-    ensures taken { ConsumesAtMost (MAX_SCRIPT + 1) (S.told source.old).left (S.told source.new).left }
+    ensures source { (needs_by (command_of (map (λ w. string_bytes w) words.now))).source ≡ false
+        → source.new ≡ source.old }
+    ensures files { (needs_by (command_of (map (λ w. string_bytes w) words.now))).files ≡ false
+        → files.new ≡ files.old }
+    ensures net { (needs_by (command_of (map (λ w. string_bytes w) words.now))).net ≡ false
+        → net.new ≡ net.old }
+    ensures chance { (needs_by (command_of (map (λ w. string_bytes w) words.now))).chance ≡ false
+        → chance.new ≡ chance.old }
+    ensures taken { ConsumesAtMost (MAX_SCRIPT + 1) (S.told source.old).left
+        (S.told source.new).left }
 {
     let command = match read_words(alloc, words) {
         Ok(command) => command,

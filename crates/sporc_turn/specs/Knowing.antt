@@ -6,7 +6,17 @@ use Rattle.sporc_turn.specs.Log.{longer, shorter}
 module _ {E : Type 0} where
   -- number 0, which has seen the log of the value that was handed in
   abbrev pub first_known : List E → Known E
-  first_known log = record { number = 0; spent = false; start = length log; seen = log; mine = []; unmatched = []; news = 0; splits = 0; joined = [] }
+  first_known log = record {
+    number = 0;
+    spent = false;
+    start = length log;
+    seen = log;
+    mine = [];
+    unmatched = [];
+    news = 0;
+    splits = 0;
+    joined = [];
+  }
 
   -- the turn came: the whole log was seen
   abbrev pub seeing : Known E → List E → Known E
@@ -27,7 +37,8 @@ module _ {E : Type 0} where
   abbrev pub copied : Known E → Known E
   copied k = record k { number = k.splits + 1; mine = []; unmatched = []; splits = 0; joined = [] }
 
-  -- number 0 has seen the longer list, and keeps the other pass's items. The lists are to be compared
+  -- number 0 has seen the longer list, and keeps the other pass's items. The lists are to be
+  -- compared
   abbrev pub joining : Known E → Known E → Known E
   joining k other = record k {
     seen = longer k.seen other.seen;
@@ -46,4 +57,14 @@ module _ {E : Type 0} where
 
   -- a pass that was joined to another
   abbrev pub nothing_known : Known E
-  nothing_known = record { number = 0; spent = true; start = 0; seen = []; mine = []; unmatched = []; news = 0; splits = 0; joined = [] }
+  nothing_known = record {
+    number = 0;
+    spent = true;
+    start = 0;
+    seen = [];
+    mine = [];
+    unmatched = [];
+    news = 0;
+    splits = 0;
+    joined = [];
+  }

@@ -10,5 +10,6 @@ abbrev pub with_value : {S E : Type 0} {g : Ghosts S E} → Held S E g → S →
 with_value h w = record h { value = w }
 
 -- what is written through the result is the value that is held afterwards
-abbrev pub LendsValue : (R T : RattleType) (g : Ghosts R.Denot T.Denot) → MutBor (Held R.Denot T.Denot g) → MutBor R.Denot → Fml
+abbrev pub LendsValue : (R T : RattleType) (g : Ghosts R.Denot T.Denot)
+    → MutBor (Held R.Denot T.Denot g) → MutBor R.Denot → Fml
 LendsValue R T g h r = Lends (the_row R T g) R h r (with_value h.now)

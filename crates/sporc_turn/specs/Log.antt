@@ -1,5 +1,6 @@
 -- The log of a lock's value as a list of items, and what one pass may rely on of it.
-use Rattle.std.specs.Prelude.{◌≡◌, ◌≢◌, ◌==◌, ℕ, ◌≤◌, cond, leb, List, ◌++◌, length, drop, All, Contains}
+use Rattle.std.specs.Prelude.{◌≡◌, ◌≢◌, ◌==◌, ℕ, ◌≤◌, cond, leb, List, ◌++◌, length, drop, All}
+use Rattle.std.specs.Prelude.{Contains}
 use Rattle.std.specs.List.{filter}
 use Rattle.sporc_turn.specs.declared.known.Known.{Known}
 use Rattle.sporc_turn.specs.declared.known.Joined.{Joined}
@@ -40,10 +41,12 @@ module _ {E : Type 0} (by : E → ℕ) where
     pub mine : own k.number k.start log ≡ k.mine
     pub joined : k.number ≡ 0 → All (λ (j : Joined E). own j.number k.start log ≡ j.items) k.joined
     pub numbers : k.number ≡ 0 → All (λ e. by e ≤ k.splits) (drop k.start log)
-    pub all_back : k.number ≡ 0 → k.splits ≡ length k.joined → (n : ℕ) → n ≢ 0 → n ≤ k.splits → HasNumber k.joined n
+    pub all_back : k.number ≡ 0 → k.splits ≡ length k.joined → (n : ℕ) → n ≢ 0 → n ≤ k.splits
+        → HasNumber k.joined n
 
-  -- Once number 0 has joined back all that it split, what is added to the log is its own: of two logs that agree with what it knows, the longer one goes on with its items alone
+  -- Once number 0 has joined back all that it split, what is added to the log is its own: of two
+  -- logs that agree with what it knows, the longer one goes on with its items alone
   abbrev pub OnlyFirstAdds : Type 0
   OnlyFirstAdds = (k k' : Known E) (log more : List E) → k.number ≡ 0 → k.splits ≡ length k.joined
-      → (k'.number ≡ k.number) × (k'.start ≡ k.start) × (k'.splits ≡ k.splits) × (k'.joined ≡ k.joined)
-      → Agrees k log → Agrees k' (log ++ more) → All (λ e. by e ≡ 0) more
+      → (k'.number ≡ k.number) × (k'.start ≡ k.start) × (k'.splits ≡ k.splits)
+      × (k'.joined ≡ k.joined) → Agrees k log → Agrees k' (log ++ more) → All (λ e. by e ≡ 0) more

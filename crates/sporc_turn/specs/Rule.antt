@@ -1,6 +1,8 @@
--- The rule of the lock: what holds of its words, its slot and all views between any two steps.
--- Word 0 is the next ticket, word 1 the ticket that is served, and word 2 the length of the log. The slot has the value, or the value is out with the one view whose turn it is.
-use Rattle.std.specs.Prelude.{◌≡◌, ◌≢◌, ◌⊎◌, ℕ, suc, ◌+◌, ◌<◌, ◌≤◌, Bool, true, false, List, [], ◌∷◌, map, length, drop, Some, Contains}
+-- The rule of the lock: what holds of its words, its slot and all views between any two steps. Word
+-- 0 is the next ticket, word 1 the ticket that is served, and word 2 the length of the log. The
+-- slot has the value, or the value is out with the one view whose turn it is.
+use Rattle.std.specs.Prelude.{◌≡◌, ◌≢◌, ◌⊎◌, ℕ, suc, ◌+◌, ◌<◌, ◌≤◌, Bool, true, false, List, []}
+use Rattle.std.specs.Prelude.{◌∷◌, map, length, drop, Some, Contains}
 use Rattle.std.specs.Prelude as std
 use mathlib.Core.Option.{none, some}
 use lib.ListN.{get_elem?}
@@ -24,10 +26,13 @@ spent_of [] = 0
 spent_of (k ∷ ks) = one_if k.spent + spent_of ks
 
 -- what the rule says of one view's ticket. The view at `owner n` has the ticket n
-pub record TicketInvariant {E : Type 0} (ticket serving : ℕ) (busy : Bool) (owner : ℕ → ℕ) (place : ℕ) (v : View E) : Type 0 where
+pub record TicketInvariant {E : Type 0} (ticket serving : ℕ) (busy : Bool) (owner : ℕ → ℕ)
+    (place : ℕ) (v : View E) : Type 0 where
   pub read : v.read ≤ ticket
-  pub waiting : v.waits ≡ true → (owner v.ticket ≡ place) × (serving ≤ v.ticket) × (v.ticket < ticket) × (v.turns ≡ false)
-  pub turning : v.turns ≡ true → (owner v.ticket ≡ place) × (v.ticket ≡ serving) × (v.ticket < ticket) × (busy ≡ true)
+  pub waiting : v.waits ≡ true
+      → (owner v.ticket ≡ place) × (serving ≤ v.ticket) × (v.ticket < ticket) × (v.turns ≡ false)
+  pub turning : v.turns ≡ true
+      → (owner v.ticket ≡ place) × (v.ticket ≡ serving) × (v.ticket < ticket) × (busy ≡ true)
   pub still : v.known.spent ≡ true → (v.waits ≡ false) × (v.turns ≡ false)
 
 -- the view has this ticket
@@ -44,11 +49,13 @@ HoldsAt {E} Q views place = (v : View E) × (get_elem? views place ≡ some v) �
 
 -- no pass has this number any more
 abbrev pub NoLivePass : {E : Type 0} → List (Known E) → ℕ → Type 0
-NoLivePass {E} ks number = (place : ℕ) (k : Known E) → get_elem? ks place ≡ some k → k.spent ≡ false → k.number ≢ number
+NoLivePass {E} ks number =
+    (place : ℕ) (k : Known E) → get_elem? ks place ≡ some k → k.spent ≡ false → k.number ≢ number
 
 module _ {E : Type 0} (by : E → ℕ) where
   module _ (start : ℕ) (log : List E) (seat : ℕ → ℕ) (splits : ℕ) where
-    -- what the rule says of one pass that was not joined to another. The pass with number n is at `seat n`
+    -- what the rule says of one pass that was not joined to another. The pass with number n is at
+    -- `seat n`
     pub record KnowledgeInvariant (place : ℕ) (k : Known E) : Type 0 where
       pub starts : k.start ≡ start
       pub place_is : seat k.number ≡ place
@@ -60,7 +67,8 @@ module _ {E : Type 0} (by : E → ℕ) where
       pub mine_seen : own by k.number start k.seen ≡ k.mine
       pub news : k.news ≤ length log
 
-  -- what the rule says of the first pass: it counts the splits, and what it has seen has the items of each pass that it joined
+  -- what the rule says of the first pass: it counts the splits, and what it has seen has the items
+  -- of each pass that it joined
   pub record IsFirst (start splits : ℕ) (joined : List (Joined E)) (k : Known E) : Type 0 where
     pub zero : k.number ≡ 0
     pub live : k.spent ≡ false
@@ -68,21 +76,27 @@ module _ {E : Type 0} (by : E → ℕ) where
     pub joined_is : k.joined ≡ joined
     pub stand : (j : Joined E) → Contains joined j → own by j.number start k.seen ≡ j.items
 
-  -- The rule on the log, over what all passes know: each log's item after the start is of a pass that was split, each pass knows its own items, and those of a pass that was joined stay as they are
+  -- The rule on the log, over what all passes know: each log's item after the start is of a pass
+  -- that was split, each pass knows its own items, and those of a pass that was joined stay as they
+  -- are
   pub record LogInvariant (start : ℕ) (log : List E) (ks : List (Known E)) : Type 0 where
     pub seat : ℕ → ℕ
     pub splits : ℕ
     pub joined : List (Joined E)
     pub first : (k : Known E) → get_elem? ks 0 ≡ some k → IsFirst start splits joined k
-    pub each : (place : ℕ) (k : Known E) → get_elem? ks place ≡ some k → k.spent ≡ false → KnowledgeInvariant start log seat splits place k
-    pub joins : (j : Joined E) → Contains joined j → (j.number ≤ splits) × (own by j.number start log ≡ j.items) × NoLivePass ks j.number
+    pub each : (place : ℕ) (k : Known E) → get_elem? ks place ≡ some k → k.spent ≡ false
+        → KnowledgeInvariant start log seat splits place k
+    pub joins : (j : Joined E) → Contains joined j
+        → (j.number ≤ splits) × (own by j.number start log ≡ j.items) × NoLivePass ks j.number
     pub numbered : (e : E) → Contains (drop start log) e → by e ≤ splits
-    pub numbers : (n : ℕ) → n ≤ splits → ((place : ℕ) × (k : Known E) × (get_elem? ks place ≡ some k) × (k.spent ≡ false) × (k.number ≡ n)) ⊎ HasNumber joined n
+    pub numbers : (n : ℕ) → n ≤ splits → ((place : ℕ) × (k : Known E)
+        × (get_elem? ks place ≡ some k) × (k.spent ≡ false) × (k.number ≡ n)) ⊎ HasNumber joined n
     pub counted : length ks ≡ suc splits
     pub spents : spent_of ks ≡ length joined
 
   -- The rule on tickets, words and the slot, with that on the log
-  pub record TurnInvariant {S : Type 0} (logs : S → List E) (start : ℕ) (s : State (std.Option S) (View E)) : Type 0 where
+  pub record TurnInvariant {S : Type 0} (logs : S → List E) (start : ℕ)
+      (s : State (std.Option S) (View E)) : Type 0 where
     pub ticket : ℕ
     pub serving : ℕ
     pub busy : Bool
@@ -91,7 +105,8 @@ module _ {E : Type 0} (by : E → ℕ) where
     pub words : s.words ≡ ticket ∷ serving ∷ length log ∷ []
     pub in_order : serving ≤ ticket
     pub bounded : ticket ≤ MAX_TICKETS
-    pub each : (place : ℕ) (v : View E) → get_elem? s.views place ≡ some v → TicketInvariant ticket serving busy owner place v
+    pub each : (place : ℕ) (v : View E) → get_elem? s.views place ≡ some v
+        → TicketInvariant ticket serving busy owner place v
     pub drawn : (n : ℕ) → serving ≤ n → n < ticket → HoldsAt (HasTicket n) s.views (owner n)
     pub holder : busy ≡ true → HoldsAt (HasTurn log) s.views (owner serving)
     pub out : busy ≡ true → s.homes ≡ none ∷ []

@@ -1,5 +1,6 @@
 -- What the fields of a pass and of a holder say of their seat.
-use Rattle.std.specs.Prelude.{◌≡◌, ◌==◌, ◌<◌, ℕ, Bool, true, false, List, [], ◌∷◌, length, Some, None}
+use Rattle.std.specs.Prelude.{◌≡◌, ◌==◌, ◌<◌, ℕ, Bool, true, false, List, [], ◌∷◌, length, Some}
+use Rattle.std.specs.Prelude.{None}
 use Rattle.std.specs.Prelude as std
 use Rattle.atomic_table.specs.declared.badge.Badge.{Badge}
 use Rattle.sporc_turn.specs.declared.limits.TheConstants.{MAX_TICKETS}

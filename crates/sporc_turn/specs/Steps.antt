@@ -1,16 +1,20 @@
--- What a view becomes at each kind of step, and what the step tells its caller. `m` is the view with the slots that its seat has, before the step, `n` after it, and `r` the number that the step found.
+-- What a view becomes at each kind of step, and what the step tells its caller. `m` is the view
+-- with the slots that its seat has, before the step, `n` after it, and `r` the number that the step
+-- found.
 use Rattle.std.specs.Prelude.{◌≡◌, ◌≢◌, ℕ, ◌≤◌, max, true, false, List, [], ◌∷◌, length, Some}
 use Rattle.std.specs.Prelude as std
 use Rattle.atomic_table.specs.Table.{Me}
 use Rattle.sporc_turn.specs.declared.limits.TheConstants.{MAX_TICKETS}
 use Rattle.sporc_turn.specs.declared.known.View.{View}
 use Rattle.sporc_turn.specs.Log.{StartsWith, Agrees}
-use Rattle.sporc_turn.specs.Knowing.{first_known, seeing, adding, hearing, splitting, copied, joining, matched, nothing_known}
+use Rattle.sporc_turn.specs.Knowing.{first_known, seeing, adding, hearing, splitting, copied}
+use Rattle.sporc_turn.specs.Knowing.{joining, matched, nothing_known}
 
 module _ {E : Type 0} where
   -- the first view
   abbrev pub newcomer : List E → View E
-  newcomer log = record { waits = false; turns = false; ticket = 0; read = 0; known = first_known log }
+  newcomer log =
+      record { waits = false; turns = false; ticket = 0; read = 0; known = first_known log }
 
   -- the next ticket was read
   abbrev pub reading : View E → ℕ → View E
@@ -37,7 +41,8 @@ module _ {E : Type 0} where
   left_of_split v = record v { known = splitting v.known }
 
   abbrev pub right_of_split : View E → View E
-  right_of_split v = record { waits = false; turns = false; ticket = 0; read = v.read; known = copied v.known }
+  right_of_split v =
+      record { waits = false; turns = false; ticket = 0; read = v.read; known = copied v.known }
 
   -- a join: the view of both, and the spent one
   abbrev pub of_both : View E → View E → View E
@@ -55,9 +60,11 @@ module _ {S E : Type 0} (m : Me (std.Option S) (View E)) where
   abbrev pub DrawsTicket : ℕ → ℕ → Me (std.Option S) (View E) → Type 0
   DrawsTicket ticket r n = (r ≡ ticket → n ≡ (drawing m.0 ticket, m.1)) × (r ≢ ticket → n ≡ m)
 
-  -- a value whose log agrees with what the pass knows, and is no shorter than its news, is out with the seat
+  -- a value whose log agrees with what the pass knows, and is no shorter than its news, is out with
+  -- the seat
   abbrev pub TakesOut : (S → List E) → (E → ℕ) → Me (std.Option S) (View E) → Type 0
-  TakesOut logs by n = (x : S) × (n ≡ (serving m.0 (logs x), (0, Some x) ∷ m.1)) × Agrees by m.0.known (logs x) × (m.0.known.news ≤ length (logs x))
+  TakesOut logs by n = (x : S) × (n ≡ (serving m.0 (logs x), (0, Some x) ∷ m.1))
+      × Agrees by m.0.known (logs x) × (m.0.known.news ≤ length (logs x))
 
   -- the value is taken out, if the ticket is served
   abbrev pub ReadsServing : (S → List E) → (E → ℕ) → ℕ → Me (std.Option S) (View E) → Type 0
@@ -65,7 +72,8 @@ module _ {S E : Type 0} (m : Me (std.Option S) (View E)) where
 
   -- the log is that of the value which the seat has
   abbrev pub RaisesCount : (S → List E) → (E → ℕ) → Me (std.Option S) (View E) → Type 0
-  RaisesCount logs by n = (x : S) → m.1 ≡ (0, Some x) ∷ [] → (n ≡ (raising m.0 (logs x), m.1)) × Agrees by (adding m.0.known (logs x)) (logs x)
+  RaisesCount logs by n = (x : S) → m.1 ≡ (0, Some x) ∷ []
+      → (n ≡ (raising m.0 (logs x), m.1)) × Agrees by (adding m.0.known (logs x)) (logs x)
 
   -- the value is home, and the turn was passed on
   abbrev pub PassesServing : Me (std.Option S) (View E) → Type 0
@@ -73,11 +81,14 @@ module _ {S E : Type 0} (m : Me (std.Option S) (View E)) where
 
   -- the length of the log was read
   abbrev pub ReadsCount : ℕ → Me (std.Option S) (View E) → Type 0
-  ReadsCount r n = (n ≡ (record m.0 { known = hearing m.0.known r }, m.1)) × (length m.0.known.seen ≤ r) × (m.0.known.news ≤ r)
+  ReadsCount r n = (n ≡ (record m.0 { known = hearing m.0.known r }, m.1))
+      × (length m.0.known.seen ≤ r) × (m.0.known.news ≤ r)
 
-  -- both lists that were seen are prefixes of one log, and the longer one agrees with what the pass knows
+  -- both lists that were seen are prefixes of one log, and the longer one agrees with what the pass
+  -- knows
   abbrev pub Compares : (E → ℕ) → Me (std.Option S) (View E) → Type 0
-  Compares by n =
-      (n ≡ (record m.0 { known = matched m.0.known }, m.1))
-      × (length m.0.known.unmatched ≤ length m.0.known.seen → StartsWith m.0.known.seen m.0.known.unmatched)
-      × Agrees by (matched m.0.known) m.0.known.seen × (m.0.known.number ≡ 0 → length m.0.known.joined ≤ m.0.known.splits)
+  Compares by n = (n ≡ (record m.0 { known = matched m.0.known }, m.1))
+      × (length m.0.known.unmatched ≤ length m.0.known.seen
+      → StartsWith m.0.known.seen m.0.known.unmatched)
+      × Agrees by (matched m.0.known) m.0.known.seen
+      × (m.0.known.number ≡ 0 → length m.0.known.joined ≤ m.0.known.splits)

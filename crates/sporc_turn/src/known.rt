@@ -30,7 +30,8 @@ pub struct Known<E> {
     pub joined: LinkedList<Joined<E>>,
 }
 
-/// Where a pass stands in the line, with what it knows, for contracts alone: no value of it is made.
+/// Where a pass stands in the line, with what it knows, for contracts alone: no value of it is
+/// made.
 pub struct View<E> {
     /// It has a ticket, which was not served yet.
     pub waits: bool,

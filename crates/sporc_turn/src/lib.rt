@@ -15,12 +15,13 @@
 //! let value = turn.close(first)?;
 //! ```
 //!
-//! Proved, over every way in which the threads' steps on the lock's words may follow one another: no pass finds a log that
-//! doesn't begin with what it has seen, nor one that lacks an item of its own or has one twice; and `close` gives back a
-//! value whose log is what the last pass has seen. [`Turn::news`], [`Turn::give`], [`Turn::split`], [`Turn::join`] and
-//! [`Turn::close`] take no runtime, so they wait for nobody: a mutex round the whole lock could not meet these signatures,
-//! since its `lock` takes one. Only [`Turn::take`] waits. Only tested: that threads which take turns get to their ends.
-//! Neither: that a turn comes, and whose turn comes first.
+//! Proved, over every way in which the threads' steps on the lock's words may follow one another:
+//! no pass finds a log that doesn't begin with what it has seen, nor one that lacks an item of its
+//! own or has one twice; and `close` gives back a value whose log is what the last pass has seen.
+//! [`Turn::news`], [`Turn::give`], [`Turn::split`], [`Turn::join`] and [`Turn::close`] take no
+//! runtime, so they wait for nobody: a mutex round the whole lock could not meet these signatures,
+//! since its `lock` takes one. Only [`Turn::take`] waits. Only tested: that threads which take
+//! turns get to their ends. Neither: that a turn comes, and whose turn comes first.
 #![tactic(auto)]
 
 mod held;

@@ -1,11 +1,13 @@
 //! The rule of the lock's table, and the kinds of step on its words, each with what it tells.
 //!
-//! Word 0 is the next ticket, word 1 the ticket that is served, and word 2 the length of the log. The
-//! one slot holds the value, or nothing while the value is out.
+//! Word 0 is the next ticket, word 1 the ticket that is served, and word 2 the length of the log.
+//! The one slot holds the value, or nothing while the value is out.
 
 ghost use Rattle.std.specs.Prelude.{length};
 ghost use Rattle.sporc_turn.specs.Rule.{TurnInvariant};
-ghost use Rattle.sporc_turn.specs.Steps.{newcomer, left_of_split, right_of_split, of_both, spent_view, ReadsTicket, DrawsTicket, ReadsServing, RaisesCount, PassesServing, ReadsCount, Compares};
+ghost use Rattle.sporc_turn.specs.Steps.{newcomer, left_of_split, right_of_split, of_both};
+ghost use Rattle.sporc_turn.specs.Steps.{spent_view, ReadsTicket, DrawsTicket, ReadsServing};
+ghost use Rattle.sporc_turn.specs.Steps.{RaisesCount, PassesServing, ReadsCount, Compares};
 
 use crate::kept::Kept;
 use crate::known::View;

@@ -1,8 +1,10 @@
 //! The lock.
 
-ghost use Rattle.std.specs.Prelude.{◌≡◌, ◌≢◌, ◌+◌, ◌^◌, ◌<◌, ◌≤◌, max, IfOk, OnOk, IfErr, MatchResult, [], length, true};
+ghost use Rattle.std.specs.Prelude.{◌≡◌, ◌≢◌, ◌+◌, ◌^◌, ◌<◌, ◌≤◌, max, IfOk, OnOk, IfErr};
+ghost use Rattle.std.specs.Prelude.{MatchResult, [], length, true};
 ghost use Rattle.sporc_turn.specs.Log.{StartsWith, Extends, Agrees};
-ghost use Rattle.sporc_turn.specs.Knowing.{first_known, seeing, adding, hearing, splitting, copied, joined_with};
+ghost use Rattle.sporc_turn.specs.Knowing.{first_known, seeing, adding, hearing, splitting, copied};
+ghost use Rattle.sporc_turn.specs.Knowing.{joined_with};
 ghost use Rattle.sporc_turn.specs.Seats.{IsIdle, has_room};
 ghost use Rattle.sporc_turn.specs.Steps.{drawing, serving, reading};
 
@@ -43,7 +45,8 @@ pub struct Turn<S: Kept> {
 }
 
 impl<S: Kept> Turn<S> {
-    ghost use Rattle.sporc_turn.specs.Passes.{known_of, read_of, out_of, known_held, read_held, value_of, IsPassOf, IsHeldOf};
+    ghost use Rattle.sporc_turn.specs.Passes.{known_of, read_of, out_of, known_held, read_held};
+    ghost use Rattle.sporc_turn.specs.Passes.{value_of, IsPassOf, IsHeldOf};
 
     /// The lock round a value, with the pass whose number is 0. It has seen the log of the value.
     pub fn open(alloc: Global, value: S) -> Result<(Turn<S>, Pass<S::Item>), (S, Memory)>
@@ -85,8 +88,10 @@ impl<S: Kept> Turn<S> {
         requires bare { seat.old.me.1 ≡ [] }
         ensures table { seat.new.table_id ≡ seat.old.table_id }
         ensures bare { seat.new.me.1 ≡ [] }
-        ensures ticket { MatchResult result (λ n. (seat.old.me.0.read ≤ n) × (n < MAX_TICKETS)) (λ w. w.0 ≡ MAX_TICKETS) }
-        ensures view { MatchResult result (λ n. seat.new.me.0 ≡ drawing (reading seat.old.me.0 n) n) (λ w. seat.new.me.0 ≡ reading seat.old.me.0 w.0) }
+        ensures ticket { MatchResult result (λ n. (seat.old.me.0.read ≤ n) × (n < MAX_TICKETS))
+            (λ w. w.0 ≡ MAX_TICKETS) }
+        ensures view { MatchResult result (λ n. seat.new.me.0 ≡ drawing (reading seat.old.me.0 n) n)
+            (λ w. seat.new.me.0 ≡ reading seat.old.me.0 w.0) }
     {
         'tries: for _ in rt.forever() {
             let next = self.table.shared.load::<ReadTicket>(seat, TICKET);
@@ -129,8 +134,9 @@ impl<S: Kept> Turn<S> {
     /// Draws a ticket, waits until it is served, and takes the value out. The log of the value
     /// agrees with all that the pass knows, and is no shorter than its last news.
     ///
-    /// No ticket is drawn if all of them were: then the pass comes back, and has read `MAX_TICKETS` as the next ticket. The
-    /// next ticket is never below one that was read before, so it stays that.
+    /// No ticket is drawn if all of them were: then the pass comes back, and has read `MAX_TICKETS`
+    /// as the next ticket. The next ticket is never below one that was read before, so it stays
+    /// that.
     pub fn take<R: Wait>(
         &self,
         rt: &R,
@@ -140,8 +146,10 @@ impl<S: Kept> Turn<S> {
         ensures lock { MatchResult result (IsHeldOf self.now) (λ e. IsPassOf self.now e.0) }
         ensures found { IfOk result (λ h. Agrees S.by (known_of pass) (S.log (value_of h))) }
         ensures news { IfOk result (λ h. (known_of pass).news ≤ length (S.log (value_of h))) }
-        ensures held { IfOk result (λ h. known_held h ≡ seeing (known_of pass) (S.log (value_of h))) }
-        ensures drawn { IfOk result (λ h. (read_of pass ≤ read_held h) × (read_held h < MAX_TICKETS)) }
+        ensures held { IfOk result
+            (λ h. known_held h ≡ seeing (known_of pass) (S.log (value_of h))) }
+        ensures drawn { IfOk result
+            (λ h. (read_of pass ≤ read_held h) × (read_held h < MAX_TICKETS)) }
         ensures worn { IfErr result (λ e. e.1.0 ≡ MAX_TICKETS) }
         ensures read { IfErr result (λ e. read_of e.0 ≡ e.1.0) }
         ensures unchanged { IfErr result (λ e. known_of e.0 ≡ known_of pass) }
@@ -229,7 +237,8 @@ impl<S: Kept> Turn<S> {
         ensures lock { IfOk result (λ r. IsPassOf self.now r.0 × IsPassOf self.now r.1) }
         ensures old { IfOk result (λ r. known_of r.0 ≡ splitting (known_of pass)) }
         ensures new { IfOk result (λ r. known_of r.1 ≡ copied (known_of pass)) }
-        ensures read { IfOk result (λ r. (read_of r.0 ≡ read_of pass) × (read_of r.1 ≡ read_of pass)) }
+        ensures read { IfOk result
+            (λ r. (read_of r.0 ≡ read_of pass) × (read_of r.1 ≡ read_of pass)) }
         ensures returned { IfErr result (λ e. e.0 ≡ pass) }
     {
         let Pass { badge, numbers } = pass;
@@ -257,7 +266,8 @@ impl<S: Kept> Turn<S> {
     }
 
     /// Joins a pass back to number 0, which keeps its items. It has seen the longer of both lists,
-    /// and each of them is a prefix of that one. Of the next tickets that both read it keeps the larger.
+    /// and each of them is a prefix of that one. Of the next tickets that both read it keeps the
+    /// larger.
     pub fn join(&self, a: Pass<S::Item>, b: Pass<S::Item>) -> Pass<S::Item>
         requires lock { IsPassOf self.now a × IsPassOf self.now b }
         requires first { (known_of a).number ≡ 0 }

@@ -3,7 +3,17 @@ use Rattle.std.specs.Prelude.{ℕ, ◌==◌, List, [], ◌∷◌, Option, None, 
 use Rattle.sporc_member.specs.ChangeFault.{change_fault_code_of, change_fault_with_code}
 use Rattle.sporc_head.specs.HeadChecks.{bad_change}
 use Rattle.sporc_head.specs.declared.refusal.Refusal.{Refusal}
-use Rattle.sporc_head.specs.declared.refusal.Refusal.TheVariants.{Malformed, WrongDocument, WrongPosition, Removed, HistoryFull, UnknownAuthor, BaseAhead, BeforeBarrier, WrongHistory, WrongNumber, BehindOwn, WrongEpoch, NoRight, LeafMismatch, BadSignature, BadPayload, WrongLength, BadChange, WrongWraps, NoKey, WrongKey, WrongVersion, UnknownDevice}
+use Rattle.sporc_head.specs.declared.refusal.Refusal.TheVariants.{Malformed, WrongDocument}
+use Rattle.sporc_head.specs.declared.refusal.Refusal.TheVariants.{WrongPosition, Removed}
+use Rattle.sporc_head.specs.declared.refusal.Refusal.TheVariants.{HistoryFull, UnknownAuthor}
+use Rattle.sporc_head.specs.declared.refusal.Refusal.TheVariants.{BaseAhead, BeforeBarrier}
+use Rattle.sporc_head.specs.declared.refusal.Refusal.TheVariants.{WrongHistory, WrongNumber}
+use Rattle.sporc_head.specs.declared.refusal.Refusal.TheVariants.{BehindOwn, WrongEpoch, NoRight}
+use Rattle.sporc_head.specs.declared.refusal.Refusal.TheVariants.{LeafMismatch, BadSignature}
+use Rattle.sporc_head.specs.declared.refusal.Refusal.TheVariants.{BadPayload, WrongLength}
+use Rattle.sporc_head.specs.declared.refusal.Refusal.TheVariants.{BadChange, WrongWraps, NoKey}
+use Rattle.sporc_head.specs.declared.refusal.Refusal.TheVariants.{WrongKey, WrongVersion}
+use Rattle.sporc_head.specs.declared.refusal.Refusal.TheVariants.{UnknownDevice}
 use Rattle.sporc_head.specs.Refusal.{refusal_code_of}
 
 -- the detail: where an entry is malformed, which fault a change has, and else 0
@@ -14,9 +24,10 @@ refusal_detail_of _ = 0
 
 -- the refusals with no detail
 abbrev pub plain_refusals : List Refusal
-plain_refusals =
-    WrongDocument ∷ WrongPosition ∷ Removed ∷ HistoryFull ∷ UnknownAuthor ∷ BaseAhead ∷ BeforeBarrier ∷ WrongHistory ∷ WrongNumber ∷ BehindOwn
-    ∷ WrongEpoch ∷ NoRight ∷ LeafMismatch ∷ BadSignature ∷ BadPayload ∷ WrongLength ∷ WrongWraps ∷ NoKey ∷ WrongKey ∷ WrongVersion ∷ UnknownDevice ∷ []
+plain_refusals = WrongDocument ∷ WrongPosition ∷ Removed ∷ HistoryFull ∷ UnknownAuthor ∷ BaseAhead
+    ∷ BeforeBarrier ∷ WrongHistory ∷ WrongNumber ∷ BehindOwn
+    ∷ WrongEpoch ∷ NoRight ∷ LeafMismatch ∷ BadSignature ∷ BadPayload ∷ WrongLength ∷ WrongWraps
+    ∷ NoKey ∷ WrongKey ∷ WrongVersion ∷ UnknownDevice ∷ []
 
 -- the refusal with these two numbers, if there is one
 unfoldable pub refusal_with : ℕ → ℕ → Option Refusal

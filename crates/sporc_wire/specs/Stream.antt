@@ -1,4 +1,5 @@
--- A stream of frames: each is the length of a body, four bytes with the highest first, and then the body.
+-- A stream of frames: each is the length of a body, four bytes with the highest first, and then the
+-- body.
 use Rattle.std.specs.Prelude.{ℕ, nat_lt, List, ◌++◌, length, take, drop, if◌then◌else◌}
 use Rattle.std.specs.Int.{w32, to_be_bytes, from_be_bytes}
 use Rattle.sporc_wire.specs.declared.cutter.TheConstants.{MAX_BODY}

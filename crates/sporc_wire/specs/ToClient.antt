@@ -5,16 +5,20 @@
 -- | Rejected | the byte 2, the number of the refusal's check as u8, its detail as u32 |
 -- | Entries | the byte 3, the position of the first as u32, how many as u8 (1 to 16), and each entry counted, of any length |
 -- | Empty | the byte 4 |
-use Rattle.std.specs.Prelude.{◌≢◌, ℕ, ◌-◌, ◌<◌, ◌≤◌, ◌^◌, ◌==◌, List, [], ◌∷◌, ◌++◌, length, Result, Ok, Err, if◌then◌else◌}
+use Rattle.std.specs.Prelude.{◌≢◌, ℕ, ◌-◌, ◌<◌, ◌≤◌, ◌^◌, ◌==◌, List, [], ◌∷◌, ◌++◌, length, Result}
+use Rattle.std.specs.Prelude.{Ok, Err, if◌then◌else◌}
 use Rattle.std.specs.List.{flat_map}
 use Rattle.std.specs.Int.{w8, w32, to_be_bytes}
-use Rattle.sporc_bytes.specs.Fields.{Reading, ◌>>=◌, number_at, counted_at, counted, end_at, present, values_at, number_within}
+use Rattle.sporc_bytes.specs.Fields.{Reading, ◌>>=◌, number_at, counted_at, counted, end_at}
+use Rattle.sporc_bytes.specs.Fields.{present, values_at, number_within}
 use Rattle.sporc_head.specs.declared.refusal.Refusal.TheVariants.{Memory}
 use Rattle.sporc_head.specs.Refusal.{refusal_code_of}
 use Rattle.sporc_wire.specs.Refusals.{refusal_detail_of, refusal_with}
 use Rattle.sporc_wire.specs.declared.to_client.ToClient.{ToClient}
-use Rattle.sporc_wire.specs.declared.to_client.ToClient.TheVariants.{Ordered, Rejected, Entries, Empty}
-use Rattle.sporc_wire.specs.declared.to_client.TheConstants.{ORDERED, REJECTED, ENTRIES, EMPTY, MAX_PULLED, MAX_CODE}
+use Rattle.sporc_wire.specs.declared.to_client.ToClient.TheVariants.{Ordered, Rejected, Entries}
+use Rattle.sporc_wire.specs.declared.to_client.ToClient.TheVariants.{Empty}
+use Rattle.sporc_wire.specs.declared.to_client.TheConstants.{ORDERED, REJECTED, ENTRIES, EMPTY}
+use Rattle.sporc_wire.specs.declared.to_client.TheConstants.{MAX_PULLED, MAX_CODE}
 
 -- ---- reading
 
@@ -66,13 +70,16 @@ to_client_of body = do
 -- the body of a message
 abbrev pub to_client_bytes : ToClient → List ℕ
 to_client_bytes (Ordered position) = ORDERED ∷ to_be_bytes w32 position
-to_client_bytes (Rejected refusal) = REJECTED ∷ refusal_code_of refusal ∷ to_be_bytes w32 (refusal_detail_of refusal)
-to_client_bytes (Entries first entries) = ENTRIES ∷ to_be_bytes w32 first ++ (length entries ∷ flat_map counted entries)
+to_client_bytes (Rejected refusal) =
+    REJECTED ∷ refusal_code_of refusal ∷ to_be_bytes w32 (refusal_detail_of refusal)
+to_client_bytes (Entries first entries) =
+    ENTRIES ∷ to_be_bytes w32 first ++ (length entries ∷ flat_map counted entries)
 to_client_bytes Empty = EMPTY ∷ []
 
 -- the fields are in range
 abbrev pub IsToClient : ToClient → Type 0
 IsToClient (Ordered position) = position < 2 ^ 32
 IsToClient (Rejected refusal) = (refusal ≢ Memory) × (refusal_detail_of refusal < 2 ^ 32)
-IsToClient (Entries first entries) = (first < 2 ^ 32) × (1 ≤ length entries) × (length entries ≤ MAX_PULLED)
+IsToClient (Entries first entries) =
+    (first < 2 ^ 32) × (1 ≤ length entries) × (length entries ≤ MAX_PULLED)
 IsToClient Empty = Unit {0}

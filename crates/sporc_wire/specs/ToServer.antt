@@ -4,7 +4,8 @@
 -- | Hello | the byte 1, the document's 16 bytes, the member's number as u16 |
 -- | Submit | the byte 2, the entry's bytes to the end |
 -- | Pull | the byte 3, the position as u32 |
-use Rattle.std.specs.Prelude.{◌≡◌, ℕ, ◌<◌, ◌^◌, ◌==◌, List, ◌∷◌, ◌++◌, length, Result, Ok, Err, if◌then◌else◌}
+use Rattle.std.specs.Prelude.{◌≡◌, ℕ, ◌<◌, ◌^◌, ◌==◌, List, ◌∷◌, ◌++◌, length, Result, Ok, Err}
+use Rattle.std.specs.Prelude.{if◌then◌else◌}
 use Rattle.std.specs.Int.{w8, w16, w32, to_be_bytes}
 use Rattle.sporc_bytes.specs.Fields.{Reading, ◌>>=◌, bytes_at, number_at, end_at}
 use Rattle.sporc_wire.specs.declared.to_server.ToServer.{ToServer}

@@ -1,10 +1,12 @@
 //! Cutting a stream of bytes into the bodies of its frames.
 
-ghost use Rattle.std.specs.Prelude.{◌≡◌, ◌≤◌, ◌++◌, ℕ, length, take, [], None, Some, Err, IfOk, OnOk, OnErr, MatchOption};
+ghost use Rattle.std.specs.Prelude.{◌≡◌, ◌≤◌, ◌++◌, ℕ, length, take, [], None, Some, Err, IfOk};
+ghost use Rattle.std.specs.Prelude.{OnOk, OnErr, MatchOption};
 ghost use Rattle.std.specs.Int.{w32, from_be_bytes};
 ghost use Rattle.sporc_base.specs.Bytes.{IsBytes};
 ghost use Rattle.sporc_wire.specs.Stream.{first_frame, partial, too_long, whole};
-ghost use Rattle.sporc_wire.specs.CutterModel.{IsOurs, rest_of, put_back, unread, filled, FitsLimit};
+ghost use Rattle.sporc_wire.specs.CutterModel.{IsOurs, rest_of, put_back, unread, filled};
+ghost use Rattle.sporc_wire.specs.CutterModel.{FitsLimit};
 
 use bytes::BytesMut;
 use sporc_base::Memory;
@@ -38,7 +40,8 @@ impl Model for Cutter {
 
     ghost Value = { CutterModel };
 
-    ghost view = { λ c. record { body = filled c.body; rest = rest_of c.codec.state c.buffer.items } };
+    ghost view = { λ c.
+        record { body = filled c.body; rest = rest_of c.codec.state c.buffer.items } };
 
     ghost invariant = { λ c. IsOurs c.codec × FitsLimit c.body };
 }
@@ -70,7 +73,8 @@ impl Cutter {
     // Cuts out the body of the first frame, if that is there in whole and isn't cut out yet.
     pub(crate) fn cut(&mut self) -> Result<(), CutFault>
         ensures unread { unread self.new ≡ unread self.old }
-        ensures ok { OnOk result (MatchOption self.new.body (first_frame (unread self.old) ≡ partial)
+        ensures ok { OnOk result
+            (MatchOption self.new.body (first_frame (unread self.old) ≡ partial)
             (λ body. first_frame (unread self.old) ≡ whole body self.new.rest)) }
         ensures too_long { (len : ℕ) → result ≡ Err (CutFault.TooLong len)
             → first_frame (unread self.old) ≡ too_long len }
@@ -83,7 +87,8 @@ impl Cutter {
 
     // The body that is cut out.
     pub(crate) fn body(&self) -> Option<&[u8]>
-        ensures { MatchOption result (self.now.body ≡ None) (λ body. self.now.body ≡ Some body.now) }
+        ensures { MatchOption result (self.now.body ≡ None)
+            (λ body. self.now.body ≡ Some body.now) }
     {
         match &self.body {
             Some(body) => Some(body.as_slice()),
@@ -108,11 +113,15 @@ fn take_body(
     requires { IsOurs codec.old }
     ensures ours { IsOurs codec.new }
     ensures fits { IfOk result FitsLimit }
-    ensures unread { OnErr result (rest_of codec.new.state buffer.new.items ≡ rest_of codec.old.state buffer.old.items) }
-    ensures same { IfOk result (λ found. put_back (filled found) (rest_of codec.new.state buffer.new.items)
+    ensures unread { OnErr result
+        (rest_of codec.new.state buffer.new.items ≡ rest_of codec.old.state buffer.old.items) }
+    ensures same { IfOk result
+        (λ found. put_back (filled found) (rest_of codec.new.state buffer.new.items)
         ≡ rest_of codec.old.state buffer.old.items) }
-    ensures ok { IfOk result (λ found. MatchOption (filled found) (first_frame (rest_of codec.old.state buffer.old.items) ≡ partial)
-        (λ body. first_frame (rest_of codec.old.state buffer.old.items) ≡ whole body (rest_of codec.new.state buffer.new.items))) }
+    ensures ok { IfOk result (λ found. MatchOption (filled found)
+        (first_frame (rest_of codec.old.state buffer.old.items) ≡ partial)
+        (λ body. first_frame (rest_of codec.old.state buffer.old.items)
+        ≡ whole body (rest_of codec.new.state buffer.new.items))) }
     ensures too_long { (len : ℕ) → result ≡ Err (CutFault.TooLong len)
         → first_frame (rest_of codec.old.state buffer.old.items) ≡ too_long len }
 {

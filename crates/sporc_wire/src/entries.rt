@@ -63,7 +63,8 @@ pub(crate) fn entries_frame<T: EntryBytes>(
 
 // How many bytes the body has.
 fn body_len<T: EntryBytes>(first: u32, entries: &[T]) -> u64
-    ensures { result ≡ counted_to_end (length (to_client_bytes (ToClient.Entries first (map (λ e. T.bytes e) entries.now)))) }
+    ensures { result ≡ counted_to_end
+        (length (to_client_bytes (ToClient.Entries first (map (λ e. T.bytes e) entries.now)))) }
 {
     counted_len(entries).saturating_add(6)
 }
@@ -82,8 +83,10 @@ fn counted_len<T: EntryBytes>(entries: &[T]) -> u64
 // Appends the body.
 fn put_body<T: EntryBytes>(out: &mut Out, first: u32, entries: &[T]) -> Result<(), Memory>
     requires limit { length entries.now ≤ MAX_PULLED }
-    requires body_limit { length (to_client_bytes (ToClient.Entries first (map (λ e. T.bytes e) entries.now))) < 2 ^ 32 }
-    ensures { OnOk result (out.new ≡ out.old ++ to_client_bytes (ToClient.Entries first (map (λ e. T.bytes e) entries.now))) }
+    requires body_limit { length
+        (to_client_bytes (ToClient.Entries first (map (λ e. T.bytes e) entries.now))) < 2 ^ 32 }
+    ensures { OnOk result (out.new
+        ≡ out.old ++ to_client_bytes (ToClient.Entries first (map (λ e. T.bytes e) entries.now))) }
 {
     out.put_u8(ENTRIES)?;
     out.put_u32(first)?;

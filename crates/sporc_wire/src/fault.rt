@@ -6,7 +6,8 @@ use thiserror::Error;
 /// Why no message is read or written.
 #[derive(Clone, Copy, Debug, PartialEq, Eq, Error)]
 pub enum FrameFault {
-    /// A frame's body is no message: the field of it that is cut short or forbidden begins at this place of the stream.
+    /// A frame's body is no message: the field of it that is cut short or forbidden begins at this
+    /// place of the stream.
     #[error("a frame is no message, from place {0} of the stream on")]
     BadMessage(u64),
     /// A body of this many bytes is above the limit of 4,194,304.

@@ -1,6 +1,7 @@
 //! The messages of a stream that comes in any pieces.
 
-ghost use Rattle.std.specs.Prelude.{◌≡◌, ◌≢◌, [], Some, None, Err, OnOk, OnErr, MatchOption, IsOkUnless};
+ghost use Rattle.std.specs.Prelude.{◌≡◌, ◌≢◌, [], Some, None, Err, OnOk, OnErr, MatchOption};
+ghost use Rattle.std.specs.Prelude.{IsOkUnless};
 ghost use Rattle.sporc_base.specs.Outcome.{GivesUnless};
 ghost use Rattle.sporc_wire.specs.Messages.{stream_of, fed, next};
 ghost use Rattle.sporc_wire.specs.ToClient.{to_client_of};
@@ -14,14 +15,14 @@ use crate::to_server::ToServer;
 use std::alloc::Global;
 use std::marker::Model;
 
-/// A stream of frames, in whatever pieces it comes: [`Frames::feed`] takes a piece, and the `next` calls hand out the
-/// messages of all pieces fed so far, in order.
+/// A stream of frames, in whatever pieces it comes: [`Frames::feed`] takes a piece, and the `next`
+/// calls hand out the messages of all pieces fed so far, in order.
 ///
-/// A frame that is no message and a length above the limit are faults that only a `next` call finds; each call answers
-/// that fault from then on.
+/// A frame that is no message and a length above the limit are faults that only a `next` call
+/// finds; each call answers that fault from then on.
 ///
-/// Contracts see the bytes from the first message on that was not handed out, the place of the first of them in the
-/// stream, and the fault that was found.
+/// Contracts see the bytes from the first message on that was not handed out, the place of the
+/// first of them in the stream, and the fault that was found.
 #[derive(Drop)]
 pub struct Frames {
     cutter: Cutter,
@@ -75,8 +76,10 @@ impl Frames {
 
     /// The next message to a server. None exactly if no whole frame is left.
     pub fn next_to_server(&mut self) -> Result<Option<ToServer>, FrameFault>
-        ensures value { GivesUnless FrameFault.Memory (λ found. found) result (next to_server_of self.old).answer }
-        ensures after { result ≢ Err FrameFault.Memory → self.new ≡ (next to_server_of self.old).after }
+        ensures value { GivesUnless FrameFault.Memory (λ found. found) result
+            (next to_server_of self.old).answer }
+        ensures after { result ≢ Err FrameFault.Memory
+            → self.new ≡ (next to_server_of self.old).after }
         ensures memory { result ≡ Err FrameFault.Memory → self.new ≡ self.old }
     {
         self.next()
@@ -84,8 +87,10 @@ impl Frames {
 
     /// The next message to a client. None exactly if no whole frame is left.
     pub fn next_to_client(&mut self) -> Result<Option<ToClient>, FrameFault>
-        ensures value { GivesUnless FrameFault.Memory (λ found. found) result (next to_client_of self.old).answer }
-        ensures after { result ≢ Err FrameFault.Memory → self.new ≡ (next to_client_of self.old).after }
+        ensures value { GivesUnless FrameFault.Memory (λ found. found) result
+            (next to_client_of self.old).answer }
+        ensures after { result ≢ Err FrameFault.Memory
+            → self.new ≡ (next to_client_of self.old).after }
         ensures memory { result ≡ Err FrameFault.Memory → self.new ≡ self.old }
     {
         self.next()
@@ -93,7 +98,8 @@ impl Frames {
 
     // The next message.
     fn next<M: Message>(&mut self) -> Result<Option<M>, FrameFault>
-        ensures value { GivesUnless FrameFault.Memory (λ found. found) result (next M.of self.old).answer }
+        ensures value { GivesUnless FrameFault.Memory (λ found. found) result
+            (next M.of self.old).answer }
         ensures after { result ≢ Err FrameFault.Memory → self.new ≡ (next M.of self.old).after }
         ensures memory { result ≡ Err FrameFault.Memory → self.new ≡ self.old }
     {

@@ -1,8 +1,10 @@
-//! The messages between a client and the server that orders its document's entries, and the frames that carry them.
+//! The messages between a client and the server that orders its document's entries, and the frames
+//! that carry them.
 //!
-//! A frame is the length of a body, four bytes with the highest first, and the body, at most [`MAX_BODY`] bytes of one
-//! message. [`ToServer`] and [`ToClient`] are the messages, [`write_to_server`] and [`write_to_client`] give a message's
-//! frame, and [`Frames`] reads a stream of frames that comes in any pieces.
+//! A frame is the length of a body, four bytes with the highest first, and the body, at most
+//! [`MAX_BODY`] bytes of one message. [`ToServer`] and [`ToClient`] are the messages,
+//! [`write_to_server`] and [`write_to_client`] give a message's frame, and [`Frames`] reads a
+//! stream of frames that comes in any pieces.
 //!
 //! ```text
 //! let mut frames = Frames::new(alloc);
@@ -13,10 +15,11 @@
 //! write_to_server(alloc, &ToServer::Pull { from: 7 })?    // 0 0 0 5 3 0 0 0 7
 //! ```
 //!
-//! Proved: each call of `Frames` answers what `specs/Messages.antt` says of the bytes fed so far, up to the first frame that
-//! is no message or is too long, with its place, and stays there; the pieces of a stream don't matter and a stream has one
-//! reading; a message that is written reads back, and a body that reads is the one spelling of its message ([`laws`]).
-//! Only tested: that with ample memory no call answers that memory ran out. Neither: how long a call takes.
+//! Proved: each call of `Frames` answers what `specs/Messages.antt` says of the bytes fed so far,
+//! up to the first frame that is no message or is too long, with its place, and stays there; the
+//! pieces of a stream don't matter and a stream has one reading; a message that is written reads
+//! back, and a body that reads is the one spelling of its message ([`laws`]). Only tested: that
+//! with ample memory no call answers that memory ran out. Neither: how long a call takes.
 #![tactic(auto)]
 
 mod cutter;

@@ -54,5 +54,6 @@ pub(crate) trait Message: Sized {
     ghost of: { List ℕ → Result Self ℕ };
 
     fn read(alloc: Global, body: &[u8]) -> Result<Self, BodyFault>
-        ensures value { GivesUnless BodyFault.Memory (λ m. m) result (fault_as BodyFault.Bad (of body.now)) };
+        ensures value { GivesUnless BodyFault.Memory (λ m. m) result
+            (fault_as BodyFault.Bad (of body.now)) };
 }

@@ -7,7 +7,8 @@ ghost use Rattle.sporc_wire.specs.declared.to_client.ToClient.{ToClient};
 ghost use Rattle.sporc_wire.specs.declared.to_client.TheConstants.{MAX_PULLED};
 ghost use Rattle.sporc_wire.specs.Messages.{framed};
 ghost use Rattle.sporc_wire.specs.Stream.{frame};
-ghost use Rattle.sporc_wire.specs.ToClient.{ordered_at, rejected_at, entries_at, empty_at, to_client_bytes, IsToClient};
+ghost use Rattle.sporc_wire.specs.ToClient.{ordered_at, rejected_at, entries_at, empty_at};
+ghost use Rattle.sporc_wire.specs.ToClient.{to_client_bytes, IsToClient};
 
 use crate::entries::entries_frame;
 use crate::fault::FrameFault;
@@ -90,7 +91,8 @@ fn read_rejected(cursor: &mut Cursor<'_>) -> Result<ToClient, Short>
 // The rest of an Entries.
 #[tactic(auto, unfolding(crate::specs::ToClient::entries_at))]
 fn read_entries(alloc: Global, cursor: &mut Cursor<'_>) -> Result<ToClient, BodyFault>
-    ensures { GivesUnless BodyFault.Memory (λ m. m) result (fault_as BodyFault.Bad (entries_at cursor.old)) }
+    ensures { GivesUnless BodyFault.Memory (λ m. m) result
+        (fault_as BodyFault.Bad (entries_at cursor.old)) }
 {
     let first = cursor.u32()?;
     let count = cursor.u8_within(1, MAX_PULLED)?;
@@ -162,7 +164,8 @@ fn empty_frame(alloc: Global) -> Result<Vec<u8>, Memory>
 /// The frame of a message. `TooLong` exactly if its body is above the limit.
 pub fn write_to_client(alloc: Global, message: &ToClient) -> Result<Vec<u8>, FrameFault>
     requires { IsToClient message.now }
-    ensures value { GivesUnless FrameFault.Memory (λ v. v.items) result (framed (to_client_bytes message.now)) }
+    ensures value { GivesUnless FrameFault.Memory (λ v. v.items) result
+        (framed (to_client_bytes message.now)) }
 {
     match message {
         ToClient::Ordered { pos } => Ok(ordered_frame(alloc, *pos)?),
@@ -172,8 +175,8 @@ pub fn write_to_client(alloc: Global, message: &ToClient) -> Result<Vec<u8>, Fra
     }
 }
 
-/// The frame of an Entries whose entries stand elsewhere: each is copied once, into the frame. `TooLong` exactly if its
-/// body is above the limit.
+/// The frame of an Entries whose entries stand elsewhere: each is copied once, into the frame.
+/// `TooLong` exactly if its body is above the limit.
 pub fn write_entries(alloc: Global, first: u32, entries: &[Vec<u8>]) -> Result<Vec<u8>, FrameFault>
     requires positive { 1 ≤ length entries.now }
     requires limit { length entries.now ≤ MAX_PULLED }

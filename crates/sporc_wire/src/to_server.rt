@@ -84,9 +84,11 @@ fn put_submit(out: &mut Out, entry: &[u8]) -> Result<(), Memory>
     out.put_bytes(entry)
 }
 
-/// The frame of a Submit, into which the entry is copied. `TooLong` exactly if its body is above the limit.
+/// The frame of a Submit, into which the entry is copied. `TooLong` exactly if its body is above
+/// the limit.
 pub fn write_submit(alloc: Global, entry: &[u8]) -> Result<Vec<u8>, FrameFault>
-    ensures value { GivesUnless FrameFault.Memory (λ v. v.items) result (framed (to_server_bytes (ToServer.Submit entry.now))) }
+    ensures value { GivesUnless FrameFault.Memory (λ v. v.items) result
+        (framed (to_server_bytes (ToServer.Submit entry.now))) }
 {
     let len = submit_len(entry);
     if len > u64::from(MAX_BODY) {
@@ -129,7 +131,8 @@ fn put_body(out: &mut Out, message: &ToServer) -> Result<(), Memory>
 
 /// The frame of a message. `TooLong` exactly if its body is above the limit.
 pub fn write_to_server(alloc: Global, message: &ToServer) -> Result<Vec<u8>, FrameFault>
-    ensures value { GivesUnless FrameFault.Memory (λ v. v.items) result (framed (to_server_bytes message.now)) }
+    ensures value { GivesUnless FrameFault.Memory (λ v. v.items) result
+        (framed (to_server_bytes message.now)) }
 {
     let len = body_len(message);
     if len > u64::from(MAX_BODY) {

@@ -1,5 +1,6 @@
 -- What a command line asks for.
-use Rattle.std.specs.Prelude.{nat_le, List, length, codes, Option, None, Some, option_map, slice_get, if◌then◌else◌}
+use Rattle.std.specs.Prelude.{nat_le, List, length, codes, Option, None, Some, option_map}
+use Rattle.std.specs.Prelude.{slice_get, if◌then◌else◌}
 use Rattle.clap.specs.Simple.{App}
 use Rattle.clap.specs.Walk.{Row, Text, first_of}
 use Rattle.sporc_script.specs.declared.limits.TheConstants.{MAX_EDITORS, MAX_GENERATED}
@@ -12,16 +13,20 @@ use Rattle.sporc_words.specs.declared.command.Command.TheVariants as commands
 use Rattle.sporc_words.specs.declared.command.Verb.{Verb}
 use Rattle.sporc_words.specs.declared.command.Verb.TheVariants as verbs
 use Rattle.sporc_words.specs.declared.compare.Compare.{Compare}
-use Rattle.sporc_words.specs.declared.defaults.TheConstants.{DEFAULT_FROM, DEFAULT_ROUNDS, DEFAULT_TIMES, DEFAULT_UNTIL}
+use Rattle.sporc_words.specs.declared.defaults.TheConstants.{DEFAULT_FROM, DEFAULT_ROUNDS}
+use Rattle.sporc_words.specs.declared.defaults.TheConstants.{DEFAULT_TIMES, DEFAULT_UNTIL}
 use Rattle.sporc_words.specs.declared.entries.EntriesFrom.{EntriesFrom}
 use Rattle.sporc_words.specs.declared.found.Found.{Found}
 use Rattle.sporc_words.specs.declared.keygen.Keygen.{Keygen}
 use Rattle.sporc_words.specs.declared.public.Public.{Public}
 use Rattle.sporc_words.specs.declared.serve.Serve.{Serve}
 use Rattle.sporc_words.specs.declared.serve_all.ServeAll.{ServeAll}
-use Rattle.sporc_words.specs.Arguments.{check_app, client_app, compare_app, entries_app, found_app, keygen_app, play_app, public_app, serve_all_app, serve_app, taken, text_app}
+use Rattle.sporc_words.specs.Arguments.{check_app, client_app, compare_app, entries_app, found_app}
+use Rattle.sporc_words.specs.Arguments.{keygen_app, play_app, public_app, serve_all_app, serve_app}
+use Rattle.sporc_words.specs.Arguments.{taken, text_app}
 use Rattle.sporc_words.specs.Help.{help_in}
-use Rattle.sporc_words.specs.Values.{is_between, number_between, number_if, participants_of, times_of, tree_of, value_of, value_or, values_of, width_named}
+use Rattle.sporc_words.specs.Values.{is_between, number_between, number_if, participants_of}
+use Rattle.sporc_words.specs.Values.{times_of, tree_of, value_of, value_or, values_of, width_named}
 use Rattle.sporc_words.specs.Verbs.{verb_of}
 use Rattle.sporc_words.specs.declared.text.TextAt.{TextAt}
 
@@ -36,21 +41,22 @@ abbrev pub play_in : List Row → Option Command
 play_in rows = play_by (first_of (codes "generate") rows)
 
 abbrev pub keygen_in : List Row → Option Keygen
-keygen_in rows =
-    then_read (first_of (codes "NAME") rows) (λ name. then_read (value_of (codes "M") device_of rows) (λ device.
-    then_read (value_of (codes "HEIGHT") tree_of rows) (λ height. then_read (value_of (codes "W") width_named rows) (λ width.
-    Some (record { name = name; device = device; height = height; width = width })))))
+keygen_in rows = then_read (first_of (codes "NAME") rows)
+    (λ name. then_read (value_of (codes "M") device_of rows)
+    (λ device. then_read (value_of (codes "HEIGHT") tree_of rows)
+    (λ height. then_read (value_of (codes "W") width_named rows)
+    (λ width. Some (record { name = name; device = device; height = height; width = width })))))
 
 abbrev pub found_in : List Row → Option Found
-found_in rows =
-    then_read (first_of (codes "NAME") rows) (λ name. then_read (participants_of (values_of (codes "M:ROLE") rows)) (λ participants.
-    Some (record { name = name; participants = participants })))
+found_in rows = then_read (first_of (codes "NAME") rows)
+    (λ name. then_read (participants_of (values_of (codes "M:ROLE") rows))
+    (λ participants. Some (record { name = name; participants = participants })))
 
 abbrev pub serve_in : List Row → Option Serve
 serve_in rows =
-    then_read (first_of (codes "NAME") rows) (λ name. then_read (first_of (codes "ADDRESS") rows) (λ address.
-    then_read (value_of (codes "sessions") (number_between 1 MAX_SESSIONS) rows) (λ sessions.
-    then_read (value_or (codes "times") DEFAULT_TIMES times_of rows) (λ times.
+    then_read (first_of (codes "NAME") rows) (λ name. then_read (first_of (codes "ADDRESS") rows)
+    (λ address. then_read (value_of (codes "sessions") (number_between 1 MAX_SESSIONS) rows)
+    (λ sessions. then_read (value_or (codes "times") DEFAULT_TIMES times_of rows) (λ times.
     Some (record { name = name; address = address; sessions = sessions; times = times })))))
 
 -- the scripts of editors, unless they are too many
@@ -58,46 +64,56 @@ abbrev pub scripts_of : List Text → Option (List Text)
 scripts_of words = if nat_le (length words) MAX_EDITORS then Some words else None
 
 abbrev pub client_in : List Row → Option Client
-client_in rows =
-    then_read (first_of (codes "NAME") rows) (λ name. then_read (value_of (codes "M") device_of rows) (λ device.
-    then_read (first_of (codes "ADDRESS") rows) (λ address. then_read (value_or (codes "rounds") DEFAULT_ROUNDS u32_of rows) (λ rounds.
-    then_read (value_or (codes "until") DEFAULT_UNTIL u32_of rows) (λ until. then_read (scripts_of (values_of (codes "SCRIPT") rows)) (λ scripts.
-    Some (record { name = name; device = device; address = address; rounds = rounds; until = until; scripts = scripts })))))))
+client_in rows = then_read (first_of (codes "NAME") rows)
+    (λ name. then_read (value_of (codes "M") device_of rows)
+    (λ device. then_read (first_of (codes "ADDRESS") rows)
+    (λ address. then_read (value_or (codes "rounds") DEFAULT_ROUNDS u32_of rows)
+    (λ rounds. then_read (value_or (codes "until") DEFAULT_UNTIL u32_of rows)
+    (λ until. then_read (scripts_of (values_of (codes "SCRIPT") rows)) (λ scripts. Some (record {
+      name = name;
+      device = device;
+      address = address;
+      rounds = rounds;
+      until = until;
+      scripts = scripts;
+    })))))))
 
 abbrev pub check_in : List Row → Option Check
-check_in rows =
-    then_read (first_of (codes "NAME") rows) (λ name. then_read (value_of (codes "M") device_of rows) (λ device.
-    Some (record { name = name; device = device })))
+check_in rows = then_read (first_of (codes "NAME") rows)
+    (λ name. then_read (value_of (codes "M") device_of rows)
+    (λ device. Some (record { name = name; device = device })))
 
 abbrev pub public_in : List Row → Option Public
-public_in rows =
-    then_read (first_of (codes "NAME") rows) (λ name. then_read (value_of (codes "M") device_of rows) (λ device.
-    Some (record { name = name; device = device })))
+public_in rows = then_read (first_of (codes "NAME") rows)
+    (λ name. then_read (value_of (codes "M") device_of rows)
+    (λ device. Some (record { name = name; device = device })))
 
 abbrev pub compare_in : List Row → Option Compare
-compare_in rows =
-    then_read (first_of (codes "NAME") rows) (λ name. then_read (value_of (codes "M") device_of rows) (λ first.
-    then_read (value_of (codes "N") device_of rows) (λ second.
-    Some (record { name = name; first = first; second = second }))))
+compare_in rows = then_read (first_of (codes "NAME") rows)
+    (λ name. then_read (value_of (codes "M") device_of rows)
+    (λ first. then_read (value_of (codes "N") device_of rows)
+    (λ second. Some (record { name = name; first = first; second = second }))))
 
 abbrev pub text_in : List Row → Option TextAt
-text_in rows =
-    then_read (first_of (codes "NAME") rows) (λ name. then_read (value_of (codes "M") device_of rows) (λ device.
-    then_read (number_if (codes "at") rows) (λ at. Some (record { name = name; device = device; at = at }))))
+text_in rows = then_read (first_of (codes "NAME") rows)
+    (λ name. then_read (value_of (codes "M") device_of rows) (λ device. then_read
+    (number_if (codes "at") rows) (λ at. Some (record { name = name; device = device; at = at }))))
 
 abbrev pub entries_in : List Row → Option EntriesFrom
-entries_in rows =
-    then_read (first_of (codes "NAME") rows) (λ name. then_read (value_of (codes "M") device_of rows) (λ device.
-    then_read (value_or (codes "from") DEFAULT_FROM u32_of rows) (λ from. Some (record { name = name; device = device; from = from }))))
+entries_in rows = then_read (first_of (codes "NAME") rows)
+    (λ name. then_read (value_of (codes "M") device_of rows)
+    (λ device. then_read (value_or (codes "from") DEFAULT_FROM u32_of rows)
+    (λ from. Some (record { name = name; device = device; from = from }))))
 
 -- the names of documents, if they are from one to as many as a server may have
 abbrev pub documents_of : List Text → Option (List Text)
 documents_of words = if is_between 1 MAX_DOCUMENTS (length words) then Some words else None
 
 abbrev pub serve_all_in : List Row → Option ServeAll
-serve_all_in rows =
-    then_read (first_of (codes "ADDRESS") rows) (λ address. then_read (value_of (codes "sessions") (number_between 1 MAX_SESSIONS) rows) (λ sessions.
-    then_read (value_or (codes "times") DEFAULT_TIMES times_of rows) (λ times. then_read (documents_of (values_of (codes "NAME") rows)) (λ names.
+serve_all_in rows = then_read (first_of (codes "ADDRESS") rows)
+    (λ address. then_read (value_of (codes "sessions") (number_between 1 MAX_SESSIONS) rows)
+    (λ sessions. then_read (value_or (codes "times") DEFAULT_TIMES times_of rows)
+    (λ times. then_read (documents_of (values_of (codes "NAME") rows)) (λ names.
     Some (record { address = address; sessions = sessions; times = times; names = names })))))
 
 -- ---- the first word
@@ -135,20 +151,30 @@ command_in verbs.ServeAll rows = option_map commands.ServeAll (serve_all_in rows
 -- what the words ask for, of which the first is this
 unfoldable pub command_by : Verb → List Text → Option Command
 command_by verbs.Play words = then_read (taken play_app words) play_in
-command_by verbs.Keygen words = option_map commands.Keygen (then_read (taken keygen_app words) keygen_in)
-command_by verbs.Found words = option_map commands.Found (then_read (taken found_app words) found_in)
-command_by verbs.Serve words = option_map commands.Serve (then_read (taken serve_app words) serve_in)
-command_by verbs.Client words = option_map commands.Client (then_read (taken client_app words) client_in)
-command_by verbs.Check words = option_map commands.Check (then_read (taken check_app words) check_in)
-command_by verbs.Compare words = option_map commands.Compare (then_read (taken compare_app words) compare_in)
-command_by verbs.Public words = option_map commands.Public (then_read (taken public_app words) public_in)
+command_by verbs.Keygen words =
+    option_map commands.Keygen (then_read (taken keygen_app words) keygen_in)
+command_by verbs.Found words =
+    option_map commands.Found (then_read (taken found_app words) found_in)
+command_by verbs.Serve words =
+    option_map commands.Serve (then_read (taken serve_app words) serve_in)
+command_by verbs.Client words =
+    option_map commands.Client (then_read (taken client_app words) client_in)
+command_by verbs.Check words =
+    option_map commands.Check (then_read (taken check_app words) check_in)
+command_by verbs.Compare words =
+    option_map commands.Compare (then_read (taken compare_app words) compare_in)
+command_by verbs.Public words =
+    option_map commands.Public (then_read (taken public_app words) public_in)
 command_by verbs.Text words = option_map commands.Text (then_read (taken text_app words) text_in)
-command_by verbs.Entries words = option_map commands.Entries (then_read (taken entries_app words) entries_in)
-command_by verbs.ServeAll words = option_map commands.ServeAll (then_read (taken serve_all_app words) serve_all_in)
+command_by verbs.Entries words =
+    option_map commands.Entries (then_read (taken entries_app words) entries_in)
+command_by verbs.ServeAll words =
+    option_map commands.ServeAll (then_read (taken serve_all_app words) serve_all_in)
 
 -- what they ask for, by the command that the first names
 unfoldable pub work_in : List Text → Option Command
-work_in words = then_read (slice_get words 0) (λ first. then_read (verb_of first) (λ verb. command_by verb words))
+work_in words = then_read (slice_get words 0)
+    (λ first. then_read (verb_of first) (λ verb. command_by verb words))
 
 -- the first of two that was found
 abbrev pub found_or : Option Command → Option Command → Option Command

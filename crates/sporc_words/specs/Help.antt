@@ -1,5 +1,6 @@
 -- Command lines that ask for a page of the help, or for the version: these words and no more.
-use Rattle.std.specs.Prelude.{◌||◌, Bool, List, [], ◌∷◌, codes, Option, None, Some, option_map, if◌then◌else◌}
+use Rattle.std.specs.Prelude.{◌||◌, Bool, List, [], ◌∷◌, codes, Option, None, Some, option_map}
+use Rattle.std.specs.Prelude.{if◌then◌else◌}
 use Rattle.std.specs.Str.{bytes_eq}
 use Rattle.clap.specs.Walk.{Text}
 use Rattle.sporc_words.specs.declared.command.Command.{Command}
@@ -17,7 +18,8 @@ page_of word =
 
 -- `help`, `--help` or `-h`
 abbrev pub asks_overview : Text → Bool
-asks_overview word = bytes_eq word (codes "help") || (bytes_eq word (codes "--help") || bytes_eq word (codes "-h"))
+asks_overview word =
+    bytes_eq word (codes "help") || (bytes_eq word (codes "--help") || bytes_eq word (codes "-h"))
 
 -- `version` or `--version`
 abbrev pub asks_version : Text → Bool
@@ -25,7 +27,9 @@ asks_version word = bytes_eq word (codes "version") || bytes_eq word (codes "--v
 
 -- what one word asks for
 abbrev pub of_one : Text → Option Command
-of_one word = if asks_overview word then Some (commands.Help pages.Overview) else if asks_version word then Some commands.Version else None
+of_one word =
+    if asks_overview word then Some (commands.Help pages.Overview)
+    else if asks_version word then Some commands.Version else None
 
 -- `COMMAND --help`, or `help COMMAND`
 abbrev pub of_both : Text → Text → Option Command

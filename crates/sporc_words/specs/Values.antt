@@ -1,5 +1,6 @@
 -- How the values of arguments are read.
-use Rattle.std.specs.Prelude.{ℕ, ◌==◌, ◌&&◌, ◌||◌, nat_le, not, Bool, false, List, [], ◌∷◌, length, codes, find, Option, None, Some, option_map, unwrap_or, if◌then◌else◌}
+use Rattle.std.specs.Prelude.{ℕ, ◌==◌, ◌&&◌, ◌||◌, nat_le, not, Bool, false, List, [], ◌∷◌, length}
+use Rattle.std.specs.Prelude.{codes, find, Option, None, Some, option_map, unwrap_or, if◌then◌else◌}
 use Rattle.std.specs.List.{after_first, before_first, list_any}
 use Rattle.std.specs.Str.{bytes_eq}
 use Rattle.clap.specs.Walk.{Row, Text, all_of, first_of}
@@ -69,12 +70,13 @@ is_colon b = b == 58
 
 -- `joiner`, or a role
 abbrev pub standing_of : Text → Option Standing
-standing_of word = if bytes_eq word (codes "joiner") then Some Joiner else option_map Founder (role_of word)
+standing_of word =
+    if bytes_eq word (codes "joiner") then Some Joiner else option_map Founder (role_of word)
 
 -- a number, and the name of what it stands for
 abbrev pub participant_by : Text → Text → Option Participant
-participant_by number name =
-    then_read (member_of number) (λ member. option_map (λ standing. record { member = member; standing = standing }) (standing_of name))
+participant_by number name = then_read (member_of number) (λ member. option_map
+    (λ standing. record { member = member; standing = standing }) (standing_of name))
 
 -- `M:ROLE`
 unfoldable pub participant_of : Text → Option Participant
@@ -83,7 +85,8 @@ participant_of word = participant_by (before_first is_colon word) (after_first i
 -- what all words are
 abbrev pub all_participants : List Text → Option (List Participant)
 all_participants [] = Some []
-all_participants (word ∷ words) = then_read (participant_of word) (λ p. option_map (λ ps. p ∷ ps) (all_participants words))
+all_participants (word ∷ words) =
+    then_read (participant_of word) (λ p. option_map (λ ps. p ∷ ps) (all_participants words))
 
 abbrev pub founds_admin : Standing → Bool
 founds_admin (Founder role) = is_admin role
@@ -96,8 +99,8 @@ has_twice (p ∷ ps) = list_any (λ q. q.member == p.member) ps || has_twice ps
 
 -- not too many, each number once, and an admin among them
 abbrev pub may_found : List Participant → Bool
-may_found ps =
-    nat_le (length ps) MAX_MEMBERS && (not (has_twice ps) && list_any (λ p. founds_admin p.standing) ps)
+may_found ps = nat_le (length ps) MAX_MEMBERS
+    && (not (has_twice ps) && list_any (λ p. founds_admin p.standing) ps)
 
 -- who founds, by these words
 unfoldable pub participants_of : List Text → Option (List Participant)

@@ -20,6 +20,6 @@ verb_name verbs.ServeAll = codes "serve-all"
 
 -- the command that a word names
 unfoldable pub verb_of : Text → Option Verb
-verb_of word =
-    named_of verb_name
-    (verbs.Play ∷ verbs.Keygen ∷ verbs.Found ∷ verbs.Serve ∷ verbs.Client ∷ verbs.Check ∷ verbs.Compare ∷ verbs.Public ∷ verbs.Text ∷ verbs.Entries ∷ verbs.ServeAll ∷ []) word
+verb_of word = named_of verb_name
+    (verbs.Play ∷ verbs.Keygen ∷ verbs.Found ∷ verbs.Serve ∷ verbs.Client ∷ verbs.Check
+    ∷ verbs.Compare ∷ verbs.Public ∷ verbs.Text ∷ verbs.Entries ∷ verbs.ServeAll ∷ []) word

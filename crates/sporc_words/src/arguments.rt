@@ -27,7 +27,8 @@ pub fn command_with<'a>(
     name: &'a str,
     arguments: &[(Kind, &'a str)],
 ) -> Result<Command<'a>, Memory>
-    ensures ok { IfOk result (λ c. grammar_of c ≡ with_all (named name.entry.now) (map (λ a. rule_for a.0 a.1.now) arguments.entry.now)) }
+    ensures ok { IfOk result (λ c. grammar_of c
+        ≡ with_all (named name.entry.now) (map (λ a. rule_for a.0 a.1.now) arguments.entry.now)) }
 {
     let mut command = start(alloc, name);
     for argument in arguments {
@@ -51,7 +52,8 @@ fn with_argument<'a>(
     kind: Kind,
     id: &'a str,
 ) -> Result<Command<'a>, Memory>
-    ensures ok { IfOk result (λ c. grammar_of c ≡ with_argument (grammar_of command.entry) (rule_for kind id.entry.now)) }
+    ensures ok { IfOk result (λ c. grammar_of c
+        ≡ with_argument (grammar_of command.entry) (rule_for kind id.entry.now)) }
 {
     let command = command.arg(argument(alloc, kind, id))?;
     Ok(command)

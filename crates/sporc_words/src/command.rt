@@ -17,7 +17,8 @@ use crate::text::TextAt;
 pub enum Command {
     /// `play` performs the script on standard input.
     Play,
-    /// `play --generate N` performs the generated run of so many edits, from 1 to `sporc_script::MAX_GENERATED`.
+    /// `play --generate N` performs the generated run of so many edits, from 1 to
+    /// `sporc_script::MAX_GENERATED`.
     Generate(u32),
     /// `keygen NAME M HEIGHT W` makes a member's key.
     Keygen(Keygen),

@@ -19,8 +19,8 @@ use std::alloc::Global;
 pub struct Found {
     /// The document's name.
     pub name: Word,
-    /// Those who are named, in the order of the words: at most `sporc_member::MAX_MEMBERS`, each number once, and an admin
-    /// among them.
+    /// Those who are named, in the order of the words: at most `sporc_member::MAX_MEMBERS`, each
+    /// number once, and an admin among them.
     pub participants: Items<Participant>,
 }
 

@@ -1,7 +1,8 @@
 //! `help`, `help COMMAND`, `COMMAND --help` and `version`: these words and no more.
 
 ghost use Rattle.std.specs.Prelude.{◌≡◌, map, string_bytes};
-ghost use Rattle.sporc_words.specs.Help.{asks_overview, asks_version, help_in, of_both, of_one, page_of};
+ghost use Rattle.sporc_words.specs.Help.{asks_overview, asks_version, help_in, of_both, of_one};
+ghost use Rattle.sporc_words.specs.Help.{page_of};
 
 use crate::command::Command;
 use crate::page::Page;

@@ -16,5 +16,6 @@ pub fn defaults()
 
 /// Words that a command reads as its own ask for that command, also where they ask for help.
 pub fn help_takes_no_line_of_a_command()
-    ensures asked { (words : List (List ℕ)) (asked : Command) → work_in words ≡ Some asked → command_of words ≡ Some asked }
+    ensures asked { (words : List (List ℕ)) (asked : Command) → work_in words ≡ Some asked
+        → command_of words ≡ Some asked }
 {}

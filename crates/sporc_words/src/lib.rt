@@ -1,7 +1,8 @@
 //! What a command line asks for.
 //!
-//! [`read_words`] reads the words after the program's name, by `clap` with one simple command for each first word, and then
-//! the numbers, members and roles among the values. The lines with `help` and `version` are read word for word:
+//! [`read_words`] reads the words after the program's name, by `clap` with one simple command for
+//! each first word, and then the numbers, members and roles among the values. The lines with `help`
+//! and `version` are read word for word:
 //!
 //! ```text
 //! play                                               play --generate N
@@ -15,12 +16,14 @@
 //! serve-all ADDRESS --sessions K --times T NAME ..
 //! ```
 //!
-//! Numbers are decimal, with no sign and no zero in front. ROLE is `reader`, `editor`, `admin` or `joiner`. M and N name a
-//! member's first device by its number alone, and a further one as `M.D`, with D from 1 to 255; in M:ROLE M is a member.
+//! Numbers are decimal, with no sign and no zero in front. ROLE is `reader`, `editor`, `admin` or
+//! `joiner`. M and N name a member's first device by its number alone, and a further one as `M.D`,
+//! with D from 1 to 255; in M:ROLE M is a member.
 //!
-//! Proved: words ask for exactly one command or for none, which `specs/Commands.antt` defines by `clap`'s own definition
-//! of what a simple command takes, and `read_words` answers which. Only tested: that reading does not run out of memory
-//! if there is ample (`sporc_files_tests`). Neither: whether a document, a file or an address has such a name.
+//! Proved: words ask for exactly one command or for none, which `specs/Commands.antt` defines by
+//! `clap`'s own definition of what a simple command takes, and `read_words` answers which. Only
+//! tested: that reading does not run out of memory if there is ample (`sporc_files_tests`).
+//! Neither: whether a document, a file or an address has such a name.
 #![tactic(auto)]
 
 mod arguments;

@@ -10,8 +10,8 @@ use clap::{ArgMatches, Command};
 use sporc_base::Memory;
 use std::alloc::AllocError;
 
-/// The values of the command's arguments among these words, of which the first is the command's name. `None` if the words
-/// are no such command.
+/// The values of the command's arguments among these words, of which the first is the command's
+/// name. `None` if the words are no such command.
 pub fn read_matches<'a>(
     command: Command<'a>,
     words: &'a [String],
@@ -31,14 +31,16 @@ pub fn read_matches<'a>(
 
 /// The value of an argument, if it has one.
 pub fn value<'a>(matches: &ArgMatches<'a>, id: &str) -> Option<&'a str>
-    ensures value { option_map (λ v. v.now) result ≡ first_of id.now (rows_of (found_of matches.now)) }
+    ensures value { option_map (λ v. v.now) result
+        ≡ first_of id.now (rows_of (found_of matches.now)) }
 {
     matches.get_str(id)
 }
 
 /// The values of an argument that may come any number of times, if it has some.
 pub fn values<'a, 'b>(matches: &'b ArgMatches<'a>, id: &str) -> Option<&'b [&'a str]>
-    ensures value { option_map (λ s. texts s.now) result ≡ all_of id.now (rows_of (found_of matches.now)) }
+    ensures value { option_map (λ s. texts s.now) result
+        ≡ all_of id.now (rows_of (found_of matches.now)) }
 {
     matches.get_strs(id)
 }

@@ -4,7 +4,9 @@ ghost use Rattle.std.specs.Prelude.{◌≡◌, ◌==◌, IfOk};
 ghost use Rattle.std.specs.List.{list_any};
 ghost use Rattle.clap.specs.Walk.{texts};
 ghost use Rattle.clap.specs.Words.{found_of, rows_of};
-ghost use Rattle.sporc_words.specs.Values.{all_participants, founds_admin, has_twice, may_found, participant_by, participant_of, participants_of, standing_of, values_of};
+ghost use Rattle.sporc_words.specs.Values.{all_participants, founds_admin, has_twice, may_found};
+ghost use Rattle.sporc_words.specs.Values.{participant_by, participant_of, participants_of};
+ghost use Rattle.sporc_words.specs.Values.{standing_of, values_of};
 
 use crate::matches::values;
 use crate::standing::{Participant, Standing};
@@ -14,15 +16,16 @@ use sporc_member::MAX_MEMBERS;
 use sporc_script::{parse_member, parse_role};
 use std::alloc::Global;
 
-/// Those whom the values of an argument name, if they may found a document: not too many, each number once, and an admin
-/// among them.
+/// Those whom the values of an argument name, if they may found a document: not too many, each
+/// number once, and an admin among them.
 #[tactic(auto, unfolding(crate::specs::Values::participants_of))]
 pub fn participants_value(
     alloc: Global,
     matches: &ArgMatches<'_>,
     id: &str,
 ) -> Result<Option<Items<Participant>>, Memory>
-    ensures ok { IfOk result (λ found. found ≡ participants_of (values_of id.now (rows_of (found_of matches.now)))) }
+    ensures ok { IfOk result
+        (λ found. found ≡ participants_of (values_of id.now (rows_of (found_of matches.now)))) }
 {
     let Some(words) = values(matches, id) else {
         return Ok(None);

@@ -5,7 +5,8 @@ ghost use Rattle.clap.specs.Walk.{texts};
 ghost use Rattle.clap.specs.Words.{found_of, rows_of};
 ghost use Rattle.sporc_script.specs.Readers.{device_of, u32_of};
 ghost use Rattle.sporc_words.specs.Commands.{documents_of, scripts_of};
-ghost use Rattle.sporc_words.specs.Values.{number_between, number_if, times_of, tree_of, value_of, value_or, values_of, width_named};
+ghost use Rattle.sporc_words.specs.Values.{number_between, number_if, times_of, tree_of, value_of};
+ghost use Rattle.sporc_words.specs.Values.{value_or, values_of, width_named};
 
 use crate::matches::{value, values};
 use crate::word::Word;
@@ -28,7 +29,8 @@ pub fn device_value(matches: &ArgMatches<'_>, id: &str) -> Option<Device>
 
 /// The number in these bounds that is the value of an argument.
 pub fn between_value(matches: &ArgMatches<'_>, id: &str, least: u32, most: u32) -> Option<u32>
-    ensures value { result ≡ value_of id.now (number_between least most) (rows_of (found_of matches.now)) }
+    ensures value { result
+        ≡ value_of id.now (number_between least most) (rows_of (found_of matches.now)) }
 {
     let word = value(matches, id)?;
     parse_between(word, least, most)
@@ -54,7 +56,8 @@ pub fn times_or(matches: &ArgMatches<'_>, id: &str, default: u32) -> Option<u32>
     }
 }
 
-/// The number that is the value of an argument, or none where it has no value. `None` if the value is no number.
+/// The number that is the value of an argument, or none where it has no value. `None` if the value
+/// is no number.
 pub fn number_if(matches: &ArgMatches<'_>, id: &str) -> Option<Option<u32>>
     ensures value { result ≡ number_if id.now (rows_of (found_of matches.now)) }
 {
@@ -87,7 +90,8 @@ pub fn scripts_value(
     matches: &ArgMatches<'_>,
     id: &str,
 ) -> Result<Option<Items<Word>>, Memory>
-    ensures ok { IfOk result (λ found. found ≡ scripts_of (values_of id.now (rows_of (found_of matches.now)))) }
+    ensures ok { IfOk result
+        (λ found. found ≡ scripts_of (values_of id.now (rows_of (found_of matches.now)))) }
 {
     let Some(words) = values(matches, id) else {
         return Ok(Some(Items::new(Vec::new(alloc))));
@@ -106,13 +110,15 @@ fn read_scripts(alloc: Global, words: &[&str]) -> Result<Option<Items<Word>>, Me
     Ok(Some(scripts))
 }
 
-/// The words that are the values of an argument, if they may name the documents of a server: at least one, and not too many.
+/// The words that are the values of an argument, if they may name the documents of a server: at
+/// least one, and not too many.
 pub fn documents_value(
     alloc: Global,
     matches: &ArgMatches<'_>,
     id: &str,
 ) -> Result<Option<Items<Word>>, Memory>
-    ensures ok { IfOk result (λ found. found ≡ documents_of (values_of id.now (rows_of (found_of matches.now)))) }
+    ensures ok { IfOk result
+        (λ found. found ≡ documents_of (values_of id.now (rows_of (found_of matches.now)))) }
 {
     let Some(words) = values(matches, id) else {
         return Ok(None);

@@ -1,6 +1,7 @@
 //! Reading all words.
 
-ghost use Rattle.std.specs.Prelude.{◌≡◌, ◌≢◌, map, IfOk, MatchOption, Err, None, Some, string_bytes};
+ghost use Rattle.std.specs.Prelude.{◌≡◌, ◌≢◌, map, IfOk, MatchOption, Err, None, Some};
+ghost use Rattle.std.specs.Prelude.{string_bytes};
 ghost use Rattle.clap.specs.Words.{found_of, rows_of};
 ghost use Rattle.sporc_script.specs.Readers.{then_read};
 ghost use Rattle.sporc_words.specs.declared.command.Verb.{Verb};
@@ -30,8 +31,10 @@ use std::alloc::Global;
 
 /// What the words after the program's name ask for.
 pub fn read_words(alloc: Global, words: &[String]) -> Result<Command, WordsFault>
-    ensures ok { IfOk result (λ command. command_of (map (λ w. string_bytes w) words.now) ≡ Some command) }
-    ensures err { result ≡ Err WordsFault.Words → command_of (map (λ w. string_bytes w) words.now) ≡ None }
+    ensures ok { IfOk result
+        (λ command. command_of (map (λ w. string_bytes w) words.now) ≡ Some command) }
+    ensures err { result ≡ Err WordsFault.Words
+        → command_of (map (λ w. string_bytes w) words.now) ≡ None }
 {
     match find_command(alloc, words)? {
         Some(command) => Ok(command),
@@ -67,14 +70,17 @@ fn find_work(alloc: Global, words: &[String]) -> Result<Option<Command>, Memory>
 // The command, of which the first word is this.
 #[tactic(auto, using(crate::proofs::ByVerb::by_verb))]
 fn read_command(alloc: Global, verb: Verb, words: &[String]) -> Result<Option<Command>, Memory>
-    ensures ok { IfOk result (λ found. found ≡ command_by verb (map (λ w. string_bytes w) words.now)) }
+    ensures ok { IfOk result
+        (λ found. found ≡ command_by verb (map (λ w. string_bytes w) words.now)) }
 {
     read_by(alloc, verb, words)
 }
 
-// The command of this verb, from the words behind it: its arguments first, and then what is made of their values.
+// The command of this verb, from the words behind it: its arguments first, and then what is made of
+// their values.
 fn read_by(alloc: Global, verb: Verb, words: &[String]) -> Result<Option<Command>, Memory>
-    ensures ok { IfOk result (λ found. found ≡ then_read (taken (app_for verb) (map (λ w. string_bytes w) words.now)) (command_in verb)) }
+    ensures ok { IfOk result (λ found. found ≡ then_read
+        (taken (app_for verb) (map (λ w. string_bytes w) words.now)) (command_in verb)) }
 {
     let command = command_for(alloc, verb)?;
     let Some(matches) = read_matches(command, words)? else {
@@ -133,7 +139,8 @@ pub(crate) fn parse_verb(word: &str) -> Option<Verb>
 }
 
 fn verb_named(word: &str) -> Option<Verb>
-    ensures value { MatchOption result ((v : Verb) → word.now ≢ verb_name v) (λ v. word.now ≡ verb_name v) }
+    ensures value { MatchOption result ((v : Verb) → word.now ≢ verb_name v)
+        (λ v. word.now ≡ verb_name v) }
 {
     match word {
         "play" => Some(Verb::Play),

@@ -10,7 +10,8 @@ abbrev pub chunk_marks : Chunk → List Mark
 chunk_marks (chunks.Left piece) = part_marks (owned piece)
 chunk_marks chunks.Gone = []
 
--- what is left of characters between the deltas, which the first inserts or keeps and the second removes or keeps
+-- what is left of characters between the deltas, which the first inserts or keeps and the second
+-- removes or keeps
 abbrev pub through_marks : Bool → Bool → List ℕ → ℕ → List Mark
 through_marks true true text count = []
 through_marks true false text count = insert_marks text

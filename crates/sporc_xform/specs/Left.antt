@@ -1,5 +1,6 @@
 -- What is left of the parts of a delta, from a place on.
-use Rattle.std.specs.Prelude.{◌≡◌, ℕ, ◌-◌, ◌<◌, Bool, true, false, List, [], ◌∷◌, drop, ◌==◌, if◌then◌else◌, ⊤}
+use Rattle.std.specs.Prelude.{◌≡◌, ℕ, ◌-◌, ◌<◌, Bool, true, false, List, [], ◌∷◌, drop, ◌==◌}
+use Rattle.std.specs.Prelude.{if◌then◌else◌, ⊤}
 use Rattle.sporc_delta.specs.declared.part.Part.{Part}
 use Rattle.sporc_delta.specs.declared.part.Part.TheVariants.{Keep, Insert as InsertText, Remove}
 use Rattle.sporc_delta.specs.Marks.{Mark, base_len, out_len}
@@ -17,7 +18,8 @@ abbrev pub without : ℕ → List Part → List Part
 without n [] = []
 without n (p ∷ ps) = if part_len p == n then ps else cut n (p ∷ ps)
 
--- the length of the first part, the text that it inserts, and whether it inserts and whether it removes
+-- the length of the first part, the text that it inserts, and whether it inserts and whether it
+-- removes
 abbrev pub first_len : List Part → ℕ
 first_len [] = 0
 first_len (p ∷ ps) = part_len p

@@ -1,4 +1,5 @@
--- What a delta becomes behind another: itself with another count at one of its ends, or a new delta.
+-- What a delta becomes behind another: itself with another count at one of its ends, or a new
+-- delta.
 use Rattle.std.specs.Prelude.{◌≡◌, ℕ, ◌+◌, ◌<◌, ◌≤◌, List, ⊤}
 use Rattle.sporc_delta.specs.Marks.{Mark, base_len, out_len}
 use Rattle.sporc_delta.specs.declared.shift.Shift.{Shift}
@@ -16,7 +17,8 @@ abbrev pub CanBecome : Passed → List Mark → Type 0
 CanBecome (Shifted shift) ms = CanShift shift ms
 CanBecome (New delta) ms = ⊤
 
--- the changes of two deltas over one text meet: neither's all stand before the other's with a character between that both keep
+-- the changes of two deltas over one text meet: neither's all stand before the other's with a
+-- character between that both keep
 pub record Meet (p q : List Mark) : Type 0 where
   pub first : kept_last p + kept_first q ≤ base_len p
   pub second : kept_last q + kept_first p ≤ base_len q

@@ -18,4 +18,5 @@ base_marks false removes count = replicate count (base_mark removes)
 abbrev pub run_steps : Run → List Step
 run_steps (runs.Earlier text) = map Earlier text
 run_steps (runs.Later text) = map Later text
-run_steps (runs.Both earlier later count) = replicate count (Both (base_mark earlier) (base_mark later))
+run_steps (runs.Both earlier later count) =
+    replicate count (Both (base_mark earlier) (base_mark later))

@@ -1,6 +1,7 @@
 //! Two deltas in one.
 
-ghost use Rattle.std.specs.Prelude.{◌≡◌, ◌+◌, ◌≤◌, ◌<◌, ◌++◌, [], length, IfOk, IfSome, IfNone, OnSome};
+ghost use Rattle.std.specs.Prelude.{◌≡◌, ◌+◌, ◌≤◌, ◌<◌, ◌++◌, [], length, IfOk, IfSome, IfNone};
+ghost use Rattle.std.specs.Prelude.{OnSome};
 ghost use Rattle.sporc_delta.specs.declared.limits.TheConstants.{MAX_TEXT_LEN};
 ghost use Rattle.sporc_delta.specs.Marks.{base_len, out_len};
 ghost use Rattle.sporc_delta.specs.Parts.{marks_of};
@@ -73,21 +74,25 @@ impl<'a> InARow<'a> {
 
     /// The next piece, if any is left.
     fn next(&mut self) -> Option<Chunk<'a>>
-        ensures taken { IfSome result (λ chunk. compose self.old.first self.old.second ≡ chunk_marks chunk ++ compose self.new.first self.new.second) }
-        ensures less { OnSome result (length self.new.first + length self.new.second < length self.old.first + length self.old.second) }
+        ensures taken { IfSome result (λ chunk. compose self.old.first self.old.second
+            ≡ chunk_marks chunk ++ compose self.new.first self.new.second) }
+        ensures less { OnSome result (length self.new.first + length self.new.second
+            < length self.old.first + length self.old.second) }
         ensures end { IfNone result (compose self.old.first self.old.second ≡ []) }
     {
         next_chunk(&mut self.first, &mut self.second)
     }
 }
 
-// The next piece of two deltas: an insertion of the second, else a removal of the first, else what both
-// do with characters of the text between them.
+// The next piece of two deltas: an insertion of the second, else a removal of the first, else what
+// both do with characters of the text between them.
 fn next_chunk<'a>(p: &mut Cursor<'a>, q: &mut Cursor<'a>) -> Option<Chunk<'a>>
     requires { InARowInvariant p.old q.old }
     ensures row { InARowInvariant p.new q.new }
-    ensures taken { IfSome result (λ chunk. compose (marks_of p.old) (marks_of q.old) ≡ chunk_marks chunk ++ compose (marks_of p.new) (marks_of q.new)) }
-    ensures less { OnSome result (length (marks_of p.new) + length (marks_of q.new) < length (marks_of p.old) + length (marks_of q.old)) }
+    ensures taken { IfSome result (λ chunk. compose (marks_of p.old) (marks_of q.old)
+        ≡ chunk_marks chunk ++ compose (marks_of p.new) (marks_of q.new)) }
+    ensures less { OnSome result (length (marks_of p.new) + length (marks_of q.new)
+        < length (marks_of p.old) + length (marks_of q.old)) }
     ensures end { IfNone result (compose (marks_of p.old) (marks_of q.old) ≡ []) }
 {
     if q.inserts() {

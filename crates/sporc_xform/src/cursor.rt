@@ -4,7 +4,8 @@ ghost use Rattle.std.specs.Prelude.{◌≡◌, ◌≤◌, ◌<◌, take};
 ghost use Rattle.sporc_delta.specs.declared.limits.TheConstants.{MAX_TEXT_LEN};
 ghost use Rattle.sporc_delta.specs.Marks.{base_len, out_len};
 ghost use Rattle.sporc_delta.specs.Parts.{marks_of, runs};
-ghost use Rattle.sporc_xform.specs.Left.{NoneEmpty, first_inserts, first_len, first_removes, first_text, without};
+ghost use Rattle.sporc_xform.specs.Left.{NoneEmpty, first_inserts, first_len, first_removes};
+ghost use Rattle.sporc_xform.specs.Left.{first_text, without};
 
 use sporc_delta::{Delta, Part, TextSlice};
 use std::marker::Model;
@@ -38,7 +39,8 @@ impl<'a> Cursor<'a> {
         ensures value { result ≡ runs delta.entry.now }
         ensures marks { marks_of result ≡ delta.entry.now }
         ensures none_empty { NoneEmpty result }
-        ensures within { (base_len delta.entry.now ≤ MAX_TEXT_LEN) × (out_len delta.entry.now ≤ MAX_TEXT_LEN) }
+        ensures within { (base_len delta.entry.now ≤ MAX_TEXT_LEN)
+            × (out_len delta.entry.now ≤ MAX_TEXT_LEN) }
     {
         at_start(delta.parts())
     }

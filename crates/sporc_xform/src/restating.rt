@@ -1,11 +1,13 @@
 //! Deltas that are restated in place.
 
-ghost use Rattle.std.specs.Prelude.{◌≡◌, ◌+◌, ◌≤◌, ◌<◌, ◌↔◌, IsTrue, IfOk, IfSome, IfNone, OnOk, OnErr};
+ghost use Rattle.std.specs.Prelude.{◌≡◌, ◌+◌, ◌≤◌, ◌<◌, ◌↔◌, IsTrue, IfOk, IfSome, IfNone, OnOk};
+ghost use Rattle.std.specs.Prelude.{OnErr};
 ghost use Rattle.sporc_delta.specs.Marks.{base_len, inserted_len, out_len};
 ghost use Rattle.sporc_delta.specs.Shifts.{kept_first, kept_last};
 ghost use Rattle.sporc_delta.specs.Transforms.{earlier, later};
 ghost use Rattle.sporc_delta.specs.declared.limits.TheConstants.{MAX_TEXT_LEN};
-ghost use Rattle.sporc_xform.specs.Restating.{CanBecome, IsMoved, Meet, ShiftsEarlier, ShiftsLater, became};
+ghost use Rattle.sporc_xform.specs.Restating.{CanBecome, IsMoved, Meet, ShiftsEarlier, ShiftsLater};
+ghost use Rattle.sporc_xform.specs.Restating.{became};
 
 use crate::transform::{both, later};
 use sporc_base::Memory;
@@ -34,7 +36,8 @@ impl Passed {
     }
 }
 
-/// Restates `q` behind `p`, which is ordered earlier, as [`later`] does. It takes no memory unless their changes meet.
+/// Restates `q` behind `p`, which is ordered earlier, as [`later`] does. It takes no memory unless
+/// their changes meet.
 pub fn restate_later(alloc: Global, q: &mut Delta, p: &Delta) -> Result<(), Memory>
     requires base { base_len q.old ≡ base_len p.now }
     requires limit { base_len p.now + inserted_len p.now + inserted_len q.old ≤ MAX_TEXT_LEN }
@@ -49,8 +52,8 @@ pub fn restate_later(alloc: Global, q: &mut Delta, p: &Delta) -> Result<(), Memo
     Ok(())
 }
 
-/// Restates `p` behind `q`, where `p` is ordered earlier, and says what `q` becomes behind `p`, as [`both`] does. It takes
-/// no memory unless their changes meet.
+/// Restates `p` behind `q`, where `p` is ordered earlier, and says what `q` becomes behind `p`, as
+/// [`both`] does. It takes no memory unless their changes meet.
 pub fn pass(alloc: Global, p: &mut Delta, q: &Delta) -> Result<Passed, Memory>
     requires base { base_len p.old ≡ base_len q.now }
     requires limit { base_len p.old + inserted_len p.old + inserted_len q.now ≤ MAX_TEXT_LEN }
@@ -116,19 +119,22 @@ fn shift_earlier(p: &Delta, q: &Delta) -> Option<Shift>
 
 // Whether all that one delta changes stands before all that another one does.
 fn is_before(first: &Delta, second: &Delta) -> bool
-    ensures value { IsTrue result ↔ (base_len first.now ≤ kept_last first.now + kept_first second.now) }
+    ensures value { IsTrue result
+        ↔ (base_len first.now ≤ kept_last first.now + kept_first second.now) }
 {
     first.base_len() <= first.kept_last() + second.kept_first()
 }
 
 // Whether it does, with a character between that both keep.
 fn is_apart(first: &Delta, second: &Delta) -> bool
-    ensures value { IsTrue result ↔ (base_len first.now < kept_last first.now + kept_first second.now) }
+    ensures value { IsTrue result
+        ↔ (base_len first.now < kept_last first.now + kept_first second.now) }
 {
     first.base_len() < first.kept_last() + second.kept_first()
 }
 
-// A count of characters that are kept, with what another delta adds there or removes, if there are some before and after.
+// A count of characters that are kept, with what another delta adds there or removes, if there are
+// some before and after.
 fn moved(kept: u64, other: &Delta) -> Option<u64>
     requires { kept ≤ MAX_TEXT_LEN }
     ensures value { IfSome result (λ count. IsMoved kept count other.now) }

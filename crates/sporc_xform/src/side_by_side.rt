@@ -72,7 +72,8 @@ impl<'a> SideBySide<'a> {
 fn next_run<'a>(p: &mut Cursor<'a>, q: &mut Cursor<'a>) -> Option<Run<'a>>
     requires { SideBySideInvariant p.old q.old }
     ensures over { SideBySideInvariant p.new q.new }
-    ensures taken { IfSome result (λ run. steps (marks_of p.old) (marks_of q.old) ≡ run_steps run ++ steps (marks_of p.new) (marks_of q.new)) }
+    ensures taken { IfSome result (λ run. steps (marks_of p.old) (marks_of q.old)
+        ≡ run_steps run ++ steps (marks_of p.new) (marks_of q.new)) }
     ensures positive { IfSome result (λ run. 0 < length (run_steps run)) }
     ensures end { IfNone result (steps (marks_of p.old) (marks_of q.old) ≡ []) }
 {

@@ -42,8 +42,8 @@ pub fn earlier(alloc: Global, p: &Delta, q: &Delta) -> Result<Delta, Memory>
     Ok(delta)
 }
 
-/// What each of `p` and `q` becomes on the text after the other, where `p` is ordered earlier: that of
-/// `p`, and that of `q`.
+/// What each of `p` and `q` becomes on the text after the other, where `p` is ordered earlier: that
+/// of `p`, and that of `q`.
 pub fn both(alloc: Global, p: &Delta, q: &Delta) -> Result<(Delta, Delta), Memory>
     requires base { base_len p.now ≡ base_len q.now }
     requires limit { base_len p.now + inserted_len p.now + inserted_len q.now ≤ MAX_TEXT_LEN }

@@ -1,6 +1,7 @@
 //! Entries that come.
 
-ghost use Rattle.std.specs.Prelude.{◌≡◌, ◌<◌, ◌≤◌, ◌++◌, length, is_some, nat_lt, IfOk, IfSome, OnOk, OnErr};
+ghost use Rattle.std.specs.Prelude.{◌≡◌, ◌<◌, ◌≤◌, ◌++◌, length, is_some, nat_lt, IfOk, IfSome};
+ghost use Rattle.std.specs.Prelude.{OnOk, OnErr};
 ghost use Rattle.sporc_base.specs.FirstFault.{AnswersUnless};
 ghost use Rattle.sporc_suffix.specs.Runs.{IsReadyAt};
 ghost use Rattle.sporc_member.specs.Device.{same_device};
@@ -32,28 +33,37 @@ use sporc_suffix::ReadyForm;
 use std::alloc::Global;
 
 impl<D: LeafDisk> Client<D> {
-    /// Accepts an entry that is to stand at a position, if no check fails. The length of the journal.
+    /// Accepts an entry that is to stand at a position, if no check fails. The length of the
+    /// journal.
     ///
-    /// The entry on its way commits the first pending item. Another's edit and the pending edits pass each other: the
-    /// other's is ordered earlier. A change, or another entry of the device's own, ends the way of the entry on its way.
+    /// The entry on its way commits the first pending item. Another's edit and the pending edits
+    /// pass each other: the other's is ordered earlier. A change, or another entry of the device's
+    /// own, ends the way of the entry on its way.
     pub fn accept(&mut self, by: u32, pos: u32, bytes: &[u8]) -> Result<u64, AcceptFault>
-        ensures fault { AnswersUnless AcceptFault.Memory result (accept_fault (state_of self.old) pos bytes.now) }
+        ensures fault { AnswersUnless AcceptFault.Memory result
+            (accept_fault (state_of self.old) pos bytes.now) }
         ensures ok { IfOk result (λ n. n ≡ length self.new.log) }
-        ensures log { self.new ≡ record self.old { log = self.old.log ++ added result (Accepted by bytes.now) } }
+        ensures log { self.new
+            ≡ record self.old { log = self.old.log ++ added result (Accepted by bytes.now) } }
     {
         self.accept_known(by, pos, bytes, None)
     }
 
-    /// Accepts an entry whose signature was examined. It is verified anew if the key isn't that of its author's device here.
+    /// Accepts an entry whose signature was examined. It is verified anew if the key isn't that of
+    /// its author's device here.
     pub fn accept_examined(
         &mut self,
         by: u32,
         pos: u32,
         examined: &Examined,
     ) -> Result<u64, AcceptFault>
-        ensures fault { AnswersUnless AcceptFault.Memory result (accept_fault (state_of self.old) pos examined.now.entry) }
+        ensures fault { AnswersUnless AcceptFault.Memory result
+            (accept_fault (state_of self.old) pos examined.now.entry) }
         ensures ok { IfOk result (λ n. n ≡ length self.new.log) }
-        ensures log { self.new ≡ record self.old { log = self.old.log ++ added result (Accepted by examined.now.entry) } }
+        ensures log { self.new ≡ record self.old {
+          log = self.old.log
+              ++ added result (Accepted by examined.now.entry);
+        } }
     {
         self.accept_known(by, pos, examined.entry(), Some(examined.known()))
     }
@@ -67,9 +77,11 @@ impl<D: LeafDisk> Client<D> {
         known: Option<&Verdict>,
     ) -> Result<u64, AcceptFault>
         requires exact { IfSome known (λ v. IsExact v.now bytes.now) }
-        ensures fault { AnswersUnless AcceptFault.Memory result (accept_fault (state_of self.old) pos bytes.now) }
+        ensures fault { AnswersUnless AcceptFault.Memory result
+            (accept_fault (state_of self.old) pos bytes.now) }
         ensures ok { IfOk result (λ n. n ≡ length self.new.log) }
-        ensures log { self.new ≡ record self.old { log = self.old.log ++ added result (Accepted by bytes.now) } }
+        ensures log { self.new
+            ≡ record self.old { log = self.old.log ++ added result (Accepted by bytes.now) } }
     {
         let prepared = check_entry(&mut self.line, &self.own, pos, bytes, known)?;
         take_entry(
@@ -115,7 +127,8 @@ fn take_entry(
     }
 }
 
-// What a prepared entry, of these bytes, does to a client's own part, and its shown delta with the memory of its event.
+// What a prepared entry, of these bytes, does to a client's own part, and its shown delta with the
+// memory of its event.
 fn ready_coming(
     alloc: Global,
     me: Device,
@@ -125,7 +138,10 @@ fn ready_coming(
 ) -> Result<(Coming, ReadyForm), Memory>
     requires bytes { prepared.now.checked.bytes ≡ bytes.now }
     requires settles { CanSettle own.old prepared.now }
-    ensures coming { IfOk result (λ both. effect both.0 own.old.pending ≡ coming_of (is_same_as own.old.flight bytes.now) (is_some (change_of prepared.now.checked.entry)) (same_device (author_device prepared.now.checked.entry.header) me) prepared.now.form own.old.pending) }
+    ensures coming { IfOk result
+        (λ both. effect both.0 own.old.pending ≡ coming_of (is_same_as own.old.flight bytes.now)
+        (is_some (change_of prepared.now.checked.entry)) (same_device
+        (author_device prepared.now.checked.entry.header) me) prepared.now.form own.old.pending) }
     ensures fits { IfOk result (λ both. CanCome both.0 own.old.pending) }
     ensures ready_form { IfOk result (λ both. both.1.form ≡ form_at own.old prepared.now) }
     ensures made { IfOk result (λ both. IsReadyAt 0 own.new.shown both.1) }
@@ -142,7 +158,8 @@ fn ready_coming(
     }
 }
 
-// Checks an entry that is to stand at a position, and then the journal's room. Takes the memory of its commit.
+// Checks an entry that is to stand at a position, and then the journal's room. Takes the memory of
+// its commit.
 fn check_entry(
     line: &mut Line,
     own: &Workspace,
@@ -151,7 +168,9 @@ fn check_entry(
     known: Option<&Verdict>,
 ) -> Result<Prepared, AcceptFault>
     requires exact { IfSome known (λ v. IsExact v.now bytes.now) }
-    ensures fault { AnswersUnless AcceptFault.Memory result (or_full (nat_lt (length own.now.shown) MAX_EVENTS) (first_fault line.old.genesis line.old.kit line.old.entries pos bytes.now)) }
+    ensures fault { AnswersUnless AcceptFault.Memory result
+        (or_full (nat_lt (length own.now.shown) MAX_EVENTS)
+        (first_fault line.old.genesis line.old.kit line.old.entries pos bytes.now)) }
     ensures prepared { IfOk result (IsPrepared line.old.genesis line.old.kit line.old.entries) }
     ensures bytes { IfOk result (λ prepared. prepared.checked.bytes ≡ bytes.now) }
     ensures room { OnOk result (1 ≤ line.new.spare) }

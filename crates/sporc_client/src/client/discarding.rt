@@ -16,11 +16,13 @@ use sporc_delta::Delta;
 use sporc_outside::LeafDisk;
 
 impl<D: LeafDisk> Client<D> {
-    /// Gives up all pending items and the entry on its way: what is shown is the committed text. The length of the journal.
+    /// Gives up all pending items and the entry on its way: what is shown is the committed text.
+    /// The length of the journal.
     pub fn discard(&mut self, by: u32) -> Result<u64, EditFault>
         ensures fault { AnswersUnless EditFault.Memory result (discard_fault (state_of self.old)) }
         ensures ok { IfOk result (λ n. n ≡ length self.new.log) }
-        ensures log { self.new ≡ record self.old { log = self.old.log ++ added result (Discarded by) } }
+        ensures log { self.new
+            ≡ record self.old { log = self.old.log ++ added result (Discarded by) } }
     {
         check_events(&self.own)?;
         let text = self.line.text()?;
@@ -33,7 +35,8 @@ impl<D: LeafDisk> Client<D> {
 
 // Whether one more event may be.
 fn check_events(own: &Workspace) -> Result<(), EditFault>
-    ensures fault { Answers result (unless (nat_lt (length own.now.shown) MAX_EVENTS) EditFault.JournalFull) }
+    ensures fault { Answers result
+        (unless (nat_lt (length own.now.shown) MAX_EVENTS) EditFault.JournalFull) }
 {
     if own.journal().len() >= MAX_EVENTS {
         return Err(EditFault::JournalFull);

@@ -1,6 +1,7 @@
 //! Clients that begin with a history, and clients that go back.
 
-ghost use Rattle.std.specs.Prelude.{◌≡◌, ◌+◌, ◌≤◌, ◌∷◌, ◌++◌, [], length, take, None, IfOk, IfErr, OnOk, OnErr};
+ghost use Rattle.std.specs.Prelude.{◌≡◌, ◌+◌, ◌≤◌, ◌∷◌, ◌++◌, [], length, take, None, IfOk, IfErr};
+ghost use Rattle.std.specs.Prelude.{OnOk, OnErr};
 ghost use Rattle.sporc_base.specs.FirstFault.{AnswersUnless};
 ghost use Rattle.sporc_head.specs.declared.limits.TheConstants.{MAX_ENTRIES};
 ghost use Rattle.sporc_line.specs.Document.{forms_of};
@@ -24,8 +25,8 @@ use std::alloc::{AllocError, Global};
 use std::mem::replace;
 
 impl<D: LeafDisk> Client<D> {
-    /// The client of a history that was accepted before: its journal has an accept by 0 for each entry, and nothing is
-    /// pending.
+    /// The client of a history that was accepted before: its journal has an accept by 0 for each
+    /// entry, and nothing is pending.
     pub fn resume(
         alloc: Global,
         line: Line,
@@ -53,11 +54,14 @@ impl<D: LeafDisk> Client<D> {
         }
     }
 
-    /// Goes back to the first `k` entries, with what the member was given at the opening. Its journal has an accept by 0
-    /// for each of them, and nothing is pending. The signer and a kept ticket stay.
+    /// Goes back to the first `k` entries, with what the member was given at the opening. Its
+    /// journal has an accept by 0 for each of them, and nothing is pending. The signer and a kept
+    /// ticket stay.
     pub fn restart(&mut self, k: u32) -> Result<(), RestartFault>
-        ensures fault { AnswersUnless RestartFault.Memory result (restart_fault (state_of self.old) k) }
-        ensures ok { OnOk result (self.new ≡ record self.old { log = log_of_entries (take k (state_of self.old).entries) }) }
+        ensures fault { AnswersUnless RestartFault.Memory result
+            (restart_fault (state_of self.old) k) }
+        ensures ok { OnOk result (self.new
+            ≡ record self.old { log = log_of_entries (take k (state_of self.old).entries) }) }
         ensures unchanged { OnErr result (self.new ≡ self.old) }
     {
         let len = self.line.len();
@@ -83,8 +87,10 @@ impl<D: LeafDisk> Client<D> {
 fn accepted_before(alloc: Global, line: &Line) -> Result<Workspace, Memory>
     ensures pending { IfOk result (λ own. own.pending ≡ []) }
     ensures flight { IfOk result (λ own. own.flight ≡ None) }
-    ensures shown { IfOk result (λ own. own.shown ≡ forms_of line.now.genesis line.now.kit line.now.entries) }
-    ensures journal { IfOk result (λ own. own.journal ≡ journal_of (log_of_entries line.now.entries)) }
+    ensures shown { IfOk result
+        (λ own. own.shown ≡ forms_of line.now.genesis line.now.kit line.now.entries) }
+    ensures journal { IfOk result
+        (λ own. own.journal ≡ journal_of (log_of_entries line.now.entries)) }
     ensures good { OnOk result (Good line.now.genesis line.now.kit line.now.entries) }
     ensures within { OnOk result (length line.now.entries ≤ MAX_ENTRIES) }
 {
@@ -123,7 +129,8 @@ fn first_entries(line: &Line, k: u32) -> Result<Line, Memory>
 
 // Appends an entry that fails no check.
 fn take_next(line: &mut Line, bytes: &[u8]) -> Result<(), Memory>
-    requires { first_fault line.old.genesis line.old.kit line.old.entries (length line.old.entries + 1) bytes.now ≡ None }
+    requires { first_fault line.old.genesis line.old.kit line.old.entries
+        (length line.old.entries + 1) bytes.now ≡ None }
     ensures genesis { line.new.genesis ≡ line.old.genesis }
     ensures kit { line.new.kit ≡ line.old.kit }
     ensures entries { OnOk result (line.new.entries ≡ line.old.entries ++ bytes.now ∷ []) }

@@ -1,6 +1,7 @@
 //! The texts of a client, and the key of the last epoch.
 
-ghost use Rattle.std.specs.Prelude.{◌≡◌, ◌<◌, ◌≤◌, ◌↔◌, length, IsNone, IfSome, IfOk, OnOk, is_none, option_copied};
+ghost use Rattle.std.specs.Prelude.{◌≡◌, ◌<◌, ◌≤◌, ◌↔◌, length, IsNone, IfSome, IfOk, OnOk};
+ghost use Rattle.std.specs.Prelude.{is_none, option_copied};
 ghost use Rattle.std.specs.String.{string_bytes};
 ghost use Rattle.std.specs.Str.{chars, encode_utf8_all};
 ghost use Rattle.sporc_delta.specs.Marks.{apply, base_len};
@@ -26,7 +27,8 @@ use std::alloc::Global;
 impl<D: LeafDisk> Client<D> {
     /// The committed text as UTF-8.
     pub fn committed(&self) -> Result<String, Memory>
-        ensures value { IfOk result (λ t. string_bytes t ≡ encode_utf8_all (committed_of (state_of self.now))) }
+        ensures value { IfOk result
+            (λ t. string_bytes t ≡ encode_utf8_all (committed_of (state_of self.now))) }
         ensures within { length (committed_of (state_of self.now)) ≤ MAX_COMMITTED_LEN }
     {
         self.line.text()
@@ -34,7 +36,8 @@ impl<D: LeafDisk> Client<D> {
 
     /// The committed text with the pending edits, as UTF-8.
     pub fn shown(&self) -> Result<String, Memory>
-        ensures value { IfOk result (λ t. string_bytes t ≡ encode_utf8_all (shown_of (state_of self.now))) }
+        ensures value { IfOk result
+            (λ t. string_bytes t ≡ encode_utf8_all (shown_of (state_of self.now))) }
         ensures within { OnOk result (length (shown_of (state_of self.now)) ≤ MAX_SHOWN_LEN) }
     {
         let text = self.line.text()?;
@@ -53,7 +56,8 @@ impl<D: LeafDisk> Client<D> {
         committed_len(&self.line)
     }
 
-    /// How many characters the text had that was shown after `seen` events. None if there are fewer events.
+    /// How many characters the text had that was shown after `seen` events. None if there are fewer
+    /// events.
     pub fn shown_len_at(&self, seen: u64) -> Option<u64>
         ensures some { IfSome result (λ len. len ≡ length (shown_after seen (state_of self.now))) }
         ensures none { IsNone result ↔ (length self.now.log < seen) }
@@ -66,7 +70,9 @@ impl<D: LeafDisk> Client<D> {
 
     /// The key of the last epoch. None if a change removed the member.
     pub fn key(&self) -> Option<&[u8; 32]>
-        ensures value { option_copied result ≡ epoch_key self.now.opening.genesis self.now.opening.kit (state_of self.now).entries (epoch_of (state_of self.now).entries) }
+        ensures value { option_copied result
+            ≡ epoch_key self.now.opening.genesis self.now.opening.kit (state_of self.now).entries
+            (epoch_of (state_of self.now).entries) }
         ensures none { is_none result ≡ is_out (state_of self.now) }
     {
         self.line.key()
@@ -85,7 +91,8 @@ fn committed_len(line: &Line) -> u64
 fn edited(alloc: Global, text: &str, delta: &Delta) -> Result<String, Memory>
     requires base { base_len delta.now ≡ length (chars text.now) }
     requires limit { length text.now ≤ MAX_COUNT }
-    ensures value { IfOk result (λ t. string_bytes t ≡ encode_utf8_all (apply delta.now (chars text.now))) }
+    ensures value { IfOk result
+        (λ t. string_bytes t ≡ encode_utf8_all (apply delta.now (chars text.now))) }
 {
     let all = Delta::insert_at(alloc, 0, 0, text)?;
     let mut doc = Doc::new(alloc);

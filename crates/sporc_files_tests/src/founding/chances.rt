@@ -29,7 +29,8 @@ pub fn push_eight(rt: &impl Abort, words: &mut Words) {
     }
 }
 
-/// A chance of which this call fails, counted from 1, or none with 0, in a box: a function that owns it itself is slow to prove.
+/// A chance of which this call fails, counted from 1, or none with 0, in a box: a function that
+/// owns it itself is slow to prove.
 pub fn chance(rt: &impl Abort, alloc: Global, words: Words, failing: u64) -> Box<ListedChance> {
     let chance = ListedChance::new(words, calls(rt, alloc, failing));
     Box::new(alloc, chance).expect(rt, "memory")

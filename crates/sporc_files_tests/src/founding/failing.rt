@@ -54,7 +54,8 @@ fn each_call_of_keygen_fails<R: Abort + Threads + Sync>(rt: &R, alloc: Global) {
     }
 }
 
-// It reads two files and writes four, and takes a word for the document, one for the key, and one for each of six pairs.
+// It reads two files and writes four, and takes a word for the document, one for the key, and one
+// for each of six pairs.
 fn each_call_of_found_fails<R: Abort + Threads + Sync>(rt: &R, alloc: Global) {
     for call in 1..=6 {
         found_answers(rt, alloc, [call, 0, 0], Err(Fault::Outside));

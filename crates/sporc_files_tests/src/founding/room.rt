@@ -46,13 +46,15 @@ const PARTICIPANTS: [Participant; 3] = [
     },
 ];
 
-/// The calls that fail, one of the folder, one of the chance and one of the sink, counted from 1; with 0 none does.
+/// The calls that fail, one of the folder, one of the chance and one of the sink, counted from 1;
+/// with 0 none does.
 pub type Failing = [u64; 3];
 
 /// No call fails.
 pub const NONE: Failing = [0, 0, 0];
 
-/// What commands are given, in boxes: a function that owns it itself is slow to prove. The sink takes 100 bytes in one call.
+/// What commands are given, in boxes: a function that owns it itself is slow to prove. The sink
+/// takes 100 bytes in one call.
 #[derive(Drop)]
 pub struct Room {
     pub folder: Box<MemoryFolder>,

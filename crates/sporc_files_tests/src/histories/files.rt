@@ -16,7 +16,8 @@ const ENTRIES: [&[u8]; 3] = [b"ab", b"c", b"def"];
 const FILE: &str =
     "535048310707070707070707070707070707070700000003000000026162000000016300000003646566";
 
-// Bytes that are changed: the place of one, and what it is then; how many entries are taken, and where reading stops.
+// Bytes that are changed: the place of one, and what it is then; how many entries are taken, and
+// where reading stops.
 type Change = (usize, u8, usize, Stop);
 
 const CHANGES: [Change; 7] = [
@@ -29,7 +30,8 @@ const CHANGES: [Change; 7] = [
     (38, 4, 2, Stop::Cut(39)),
 ];
 
-// So many bytes of the file, from one number up to another; how many entries are taken of them, and where reading stops.
+// So many bytes of the file, from one number up to another; how many entries are taken of them, and
+// where reading stops.
 type Cut = (usize, usize, usize, Stop);
 
 const CUTS: [Cut; 9] = [

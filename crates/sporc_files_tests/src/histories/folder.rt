@@ -45,7 +45,8 @@ impl Files {
         self.put(rt, alloc, name, history_file(rt, alloc, entries));
     }
 
-    /// A folder with these files, and an empty sink. This call of the folder fails, counted from 1; with 0 none does.
+    /// A folder with these files, and an empty sink. This call of the folder fails, counted from 1;
+    /// with 0 none does.
     pub fn room(self, rt: &impl Abort, alloc: Global, failing: u64) -> Room {
         let folder = MemoryFolder::new(alloc, self.files, calls(rt, alloc, failing));
         let folder = Box::new(alloc, folder).expect(rt, "memory");

@@ -56,7 +56,8 @@ fn founder_ring(rt: &impl Abort, alloc: Global) -> Ring {
     ring
 }
 
-// The empty line of a founder who shares a key with the admin, in a box: a function that owns a line itself is slow to prove.
+// The empty line of a founder who shares a key with the admin, in a box: a function that owns a
+// line itself is slow to prove.
 fn founded(rt: &impl Abort, alloc: Global, cast: &Cast, me: u16) -> Box<Line>
     ensures { result.value.entries ≡ [] }
 {

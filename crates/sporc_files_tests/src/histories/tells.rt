@@ -15,7 +15,8 @@ use std::process::Abort;
 use std::sync::Wait;
 use std::thread::Threads;
 
-// What a sink has of the whole text, if it takes three bytes in one call and fails at the call with this number.
+// What a sink has of the whole text, if it takes three bytes in one call and fails at the call with
+// this number.
 const CUT: [(u64, &[u8]); 4] = [
     (1, b""),
     (2, b"a\xc3\xa9"),
@@ -53,7 +54,8 @@ fn two_edits(rt: &impl Abort, alloc: Global, cast: &Cast) -> History {
     sample
 }
 
-// The room of member 2 with a history of these entries, whose sink takes three bytes in one call and fails at this one.
+// The room of member 2 with a history of these entries, whose sink takes three bytes in one call
+// and fails at this one.
 fn room(rt: &impl Abort, alloc: Global, cast: &Cast, history: &[Vec<u8>], failing: u64) -> Room {
     let mut files = Files::of_member(rt, alloc, cast);
     files.add_history(rt, alloc, "D.2.history", history);

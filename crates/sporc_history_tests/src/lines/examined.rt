@@ -27,7 +27,8 @@ fn key_of(rt: &impl Abort, cast: &Cast, member: u16) -> [u8; 56] {
     cast.member(member).expect(rt, "a member").founder().key
 }
 
-// Whose key examines entry 1, how many bytes it is cut by, the verdict, and the place from which on it is malformed.
+// Whose key examines entry 1, how many bytes it is cut by, the verdict, and the place from which on
+// it is malformed.
 const ROWS: [(u16, usize, bool, Option<usize>); 4] = [
     (1, 0, true, None),
     (2, 0, false, None),

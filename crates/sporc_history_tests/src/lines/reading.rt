@@ -80,7 +80,8 @@ fn removed_twice(rt: &impl Abort, alloc: Global, cast: &Cast, sample: &History) 
     is_removed_again(rt, alloc, &line, sample);
 }
 
-// Member 4 accepts the change that removes it, has no key from then on, and accepts nothing more; its line can begin anew.
+// Member 4 accepts the change that removes it, has no key from then on, and accepts nothing more;
+// its line can begin anew.
 #[test]
 fn members_read_a_history_alike_unless_removed(rt: HostRuntime) {
     let cast = Cast::new(rt.alloc()).expect(&rt, "a cast");
@@ -146,8 +147,8 @@ fn joiner_reads(rt: &impl Abort, alloc: Global, cast: &Cast, sample: &mut Histor
     reads_without_hints(rt, alloc, cast, sample);
 }
 
-// A joiner reads the epochs before it by hints, which it opens backwards from the change that adds it. Without the hint of
-// epoch 1 it refuses the change that starts it.
+// A joiner reads the epochs before it by hints, which it opens backwards from the change that adds
+// it. Without the hint of epoch 1 it refuses the change that starts it.
 #[test]
 fn a_joiner_reads_by_hints(rt: HostRuntime) {
     let cast = Cast::new(rt.alloc()).expect(&rt, "a cast");

@@ -1,4 +1,5 @@
-//! Each check of an entry refuses one that fails it alone, and one that fails all that come after it, too.
+//! Each check of an entry refuses one that fails it alone, and one that fails all that come after
+//! it, too.
 
 use crate::checks::{check, check_at, is_refusal};
 use crate::lines::scene::{change, founded, given, insert, take, unpaired};
@@ -26,8 +27,8 @@ fn state_base(header: &mut Header, hashes: &[Digest32], base: u32) {
     }
 }
 
-// Makes a header name a device that its author does not have, with the number of its first entry unless the number is to be
-// wrong.
+// Makes a header name a device that its author does not have, with the number of its first entry
+// unless the number is to be wrong.
 fn name_a_device(header: &mut Header) {
     header.device = 9;
     if header.number != NO_NUMBER {
@@ -86,7 +87,8 @@ pub(crate) fn tried(
     given(line, position, bytes.as_slice())
 }
 
-// The refusals of an edit's header, by the last check and those before it. The eleventh is that of its author.
+// The refusals of an edit's header, by the last check and those before it. The eleventh is that of
+// its author.
 const REFUSALS: [Refusal; 14] = [
     Refusal::BadSignature,
     Refusal::LeafMismatch,
@@ -113,8 +115,8 @@ pub(crate) fn spoilt(good: &Draft, heads: &Heads) -> Draft {
     draft
 }
 
-// Whether a line refuses an edit that fails a check of its header alone, and one that fails all later checks, too.
-// A body of one byte is no delta.
+// Whether a line refuses an edit that fails a check of its header alone, and one that fails all
+// later checks, too. A body of one byte is no delta.
 fn refuses(
     rt: &impl Abort,
     alloc: Global,
@@ -186,7 +188,8 @@ fn headers_refused(
     }
 }
 
-// Edits of all these kinds at the line of a member who accepted a history, whose text has so many characters.
+// Edits of all these kinds at the line of a member who accepted a history, whose text has so many
+// characters.
 fn edits_refused(
     rt: &impl Abort,
     alloc: Global,
@@ -223,7 +226,8 @@ const TWICE: &[u16] = &[1, 2, 2, 3, 4, 5];
 
 const NOT_MEMBER: Refusal = Refusal::BadChange(ChangeFault::NotMember);
 
-// A change, how far the epoch that its keys end is ahead, the members that its wraps name, and why it is refused.
+// A change, how far the epoch that its keys end is ahead, the members that its wraps name, and why
+// it is refused.
 type Row = (Change, u32, &'static [u16], Refusal);
 
 // Changes that fail one check, at the line of a member who shares a key with their author.
@@ -234,8 +238,8 @@ const ALONE: [Row; 4] = [
     (STRANGER, 0, ALL, NOT_MEMBER),
 ];
 
-// Changes that fail all checks from one on, at the line of a member who shares none. The first fails for want of that
-// key alone.
+// Changes that fail all checks from one on, at the line of a member who shares none. The first
+// fails for want of that key alone.
 const WORSE: [Row; 4] = [
     (EDITOR, 0, ALL, Refusal::NoKey),
     (EDITOR, 1, ALL, Refusal::NoKey),
@@ -315,8 +319,8 @@ const ADMIN: Change = Change::SetRole {
     role: Role::Admin,
 };
 
-// Refused entries behind an Upgrade, which both accept: admin 2, with whom editor 5 shares no key, makes those that fail all checks from
-// one on.
+// Refused entries behind an Upgrade, which both accept: admin 2, with whom editor 5 shares no key,
+// makes those that fail all checks from one on.
 fn refused_behind_an_upgrade(rt: &impl Abort, alloc: Global, cast: &Cast, sample: &mut History) {
     change(rt, alloc, cast, sample, ADMIN, ALL);
     change(rt, alloc, cast, sample, Change::Upgrade, ALL);

@@ -1,6 +1,7 @@
 //! Entries checked, prepared and committed.
 
-ghost use Rattle.std.specs.Prelude.{◌≡◌, ◌+◌, ◌≤◌, ◌∷◌, ◌++◌, [], length, take, drop, Some, None, IfOk, IfSome, OnOk, OnErr};
+ghost use Rattle.std.specs.Prelude.{◌≡◌, ◌+◌, ◌≤◌, ◌∷◌, ◌++◌, [], length, take, drop, Some, None};
+ghost use Rattle.std.specs.Prelude.{IfOk, IfSome, OnOk, OnErr};
 ghost use Rattle.sporc_base.specs.FirstFault.{AnswersUnless, first_of};
 ghost use Rattle.sporc_delta.specs.Marks.{base_len, inserted_len};
 ghost use Rattle.sporc_suffix.specs.Forms.{later_over};
@@ -25,10 +26,11 @@ use sporc_epoch::stream_of;
 use sporc_head::{Checked, Examined, Refusal, Verdict};
 
 impl Line {
-    /// Checks an entry that is to stand at a position, and takes all the memory that its commit needs. The line stays as
-    /// it is; the refusal is the first check that fails.
+    /// Checks an entry that is to stand at a position, and takes all the memory that its commit
+    /// needs. The line stays as it is; the refusal is the first check that fails.
     pub fn prepare(&mut self, pos: u32, bytes: &[u8]) -> Result<Prepared, Refusal>
-        ensures fault { AnswersUnless Refusal.Memory result (first_fault self.old.genesis self.old.kit self.old.entries pos bytes.now) }
+        ensures fault { AnswersUnless Refusal.Memory result
+            (first_fault self.old.genesis self.old.kit self.old.entries pos bytes.now) }
         ensures prepared { IfOk result (IsPrepared self.old.genesis self.old.kit self.old.entries) }
         ensures bytes { IfOk result (λ prepared. prepared.checked.bytes ≡ bytes.now) }
         ensures room { OnOk result (1 ≤ self.new.spare) }
@@ -39,9 +41,11 @@ impl Line {
         self.prepare_known(pos, bytes, None)
     }
 
-    /// Checks and prepares an entry whose signature was examined. It is verified anew if the key isn't that of its author's device here.
+    /// Checks and prepares an entry whose signature was examined. It is verified anew if the key
+    /// isn't that of its author's device here.
     pub fn prepare_examined(&mut self, pos: u32, examined: &Examined) -> Result<Prepared, Refusal>
-        ensures fault { AnswersUnless Refusal.Memory result (first_fault self.old.genesis self.old.kit self.old.entries pos examined.now.entry) }
+        ensures fault { AnswersUnless Refusal.Memory result
+            (first_fault self.old.genesis self.old.kit self.old.entries pos examined.now.entry) }
         ensures prepared { IfOk result (IsPrepared self.old.genesis self.old.kit self.old.entries) }
         ensures bytes { IfOk result (λ prepared. prepared.checked.bytes ≡ examined.now.entry) }
         ensures room { OnOk result (1 ≤ self.new.spare) }
@@ -60,7 +64,8 @@ impl Line {
         known: Option<&Verdict>,
     ) -> Result<Prepared, Refusal>
         requires exact { IfSome known (λ v. IsExact v.now bytes.now) }
-        ensures fault { AnswersUnless Refusal.Memory result (first_fault self.old.genesis self.old.kit self.old.entries pos bytes.now) }
+        ensures fault { AnswersUnless Refusal.Memory result
+            (first_fault self.old.genesis self.old.kit self.old.entries pos bytes.now) }
         ensures prepared { IfOk result (IsPrepared self.old.genesis self.old.kit self.old.entries) }
         ensures bytes { IfOk result (λ prepared. prepared.checked.bytes ≡ bytes.now) }
         ensures room { OnOk result (1 ≤ self.new.spare) }
@@ -96,10 +101,11 @@ impl Line {
         self.key = key;
     }
 
-    /// Appends an entry that is to stand at a position, if no check fails. The refusal is the first that does; the line
-    /// then stays as it is.
+    /// Appends an entry that is to stand at a position, if no check fails. The refusal is the first
+    /// that does; the line then stays as it is.
     pub fn accept(&mut self, pos: u32, bytes: &[u8]) -> Result<(), Refusal>
-        ensures fault { AnswersUnless Refusal.Memory result (first_fault self.old.genesis self.old.kit self.old.entries pos bytes.now) }
+        ensures fault { AnswersUnless Refusal.Memory result
+            (first_fault self.old.genesis self.old.kit self.old.entries pos bytes.now) }
         ensures genesis { self.new.genesis ≡ self.old.genesis }
         ensures kit { self.new.kit ≡ self.old.kit }
         ensures ok { OnOk result (self.new.entries ≡ self.old.entries ++ bytes.now ∷ []) }
@@ -108,9 +114,11 @@ impl Line {
         self.accept_known(pos, bytes, None)
     }
 
-    /// Appends an entry whose signature was examined. It is verified anew if the key isn't that of its author's device here.
+    /// Appends an entry whose signature was examined. It is verified anew if the key isn't that of
+    /// its author's device here.
     pub fn accept_examined(&mut self, pos: u32, examined: &Examined) -> Result<(), Refusal>
-        ensures fault { AnswersUnless Refusal.Memory result (first_fault self.old.genesis self.old.kit self.old.entries pos examined.now.entry) }
+        ensures fault { AnswersUnless Refusal.Memory result
+            (first_fault self.old.genesis self.old.kit self.old.entries pos examined.now.entry) }
         ensures genesis { self.new.genesis ≡ self.old.genesis }
         ensures kit { self.new.kit ≡ self.old.kit }
         ensures ok { OnOk result (self.new.entries ≡ self.old.entries ++ examined.now.entry ∷ []) }
@@ -127,7 +135,8 @@ impl Line {
         known: Option<&Verdict>,
     ) -> Result<(), Refusal>
         requires exact { IfSome known (λ v. IsExact v.now bytes.now) }
-        ensures fault { AnswersUnless Refusal.Memory result (first_fault self.old.genesis self.old.kit self.old.entries pos bytes.now) }
+        ensures fault { AnswersUnless Refusal.Memory result
+            (first_fault self.old.genesis self.old.kit self.old.entries pos bytes.now) }
         ensures genesis { self.new.genesis ≡ self.old.genesis }
         ensures kit { self.new.kit ≡ self.old.kit }
         ensures ok { OnOk result (self.new.entries ≡ self.old.entries ++ bytes.now ∷ []) }
@@ -141,8 +150,10 @@ impl Line {
     // The checks of an entry that need keys, and what the entry does.
     fn effect_of(&self, checked: &Checked) -> Result<Effect, Refusal>
         requires { IsChecked self.now.genesis self.now.entries checked.now }
-        ensures fault { AnswersUnless Refusal.Memory result (first_of (key_checks self.now.genesis self.now.kit self.now.entries checked.now.entry)) }
-        ensures ok { IfOk result (IsEffect self.now.genesis self.now.kit self.now.entries checked.now) }
+        ensures fault { AnswersUnless Refusal.Memory result (first_of
+            (key_checks self.now.genesis self.now.kit self.now.entries checked.now.entry)) }
+        ensures ok { IfOk result
+            (IsEffect self.now.genesis self.now.kit self.now.entries checked.now) }
     {
         match checked.change() {
             None => self.edit_effect(checked),
@@ -154,8 +165,10 @@ impl Line {
     fn edit_effect(&self, checked: &Checked) -> Result<Effect, Refusal>
         requires checked { IsChecked self.now.genesis self.now.entries checked.now }
         requires edit { change_of checked.now.entry ≡ None }
-        ensures fault { AnswersUnless Refusal.Memory result (first_of (key_checks self.now.genesis self.now.kit self.now.entries checked.now.entry)) }
-        ensures ok { IfOk result (IsEffect self.now.genesis self.now.kit self.now.entries checked.now) }
+        ensures fault { AnswersUnless Refusal.Memory result (first_of
+            (key_checks self.now.genesis self.now.kit self.now.entries checked.now.entry)) }
+        ensures ok { IfOk result
+            (IsEffect self.now.genesis self.now.kit self.now.entries checked.now) }
     {
         let header = checked.header();
         // Without a key no body is a delta.
@@ -177,8 +190,10 @@ impl Line {
     fn change_effect(&self, checked: &Checked, body: &ChangeBody) -> Result<Effect, Refusal>
         requires checked { IsChecked self.now.genesis self.now.entries checked.now }
         requires change { change_of checked.now.entry ≡ Some body.now }
-        ensures fault { AnswersUnless Refusal.Memory result (first_of (key_checks self.now.genesis self.now.kit self.now.entries checked.now.entry)) }
-        ensures ok { IfOk result (IsEffect self.now.genesis self.now.kit self.now.entries checked.now) }
+        ensures fault { AnswersUnless Refusal.Memory result (first_of
+            (key_checks self.now.genesis self.now.kit self.now.entries checked.now.entry)) }
+        ensures ok { IfOk result
+            (IsEffect self.now.genesis self.now.kit self.now.entries checked.now) }
     {
         let len = self.len();
         let epoch = self.heads().epoch() + 1;
@@ -192,9 +207,11 @@ impl Line {
     // What marks, stated on the text after `from` entries, become behind all forms.
     fn over_forms(&self, marks: Delta, from: u32) -> Result<Delta, Memory>
         requires in_bounds { from ≤ length self.now.entries }
-        requires base { base_len marks ≡ length (text_of self.now.genesis self.now.kit (take from self.now.entries)) }
+        requires base { base_len marks
+            ≡ length (text_of self.now.genesis self.now.kit (take from self.now.entries)) }
         requires limit { inserted_len marks ≤ MAX_EDIT_BODY }
-        ensures ok { IfOk result (λ form. form ≡ later_over marks (drop from (forms_of self.now.genesis self.now.kit self.now.entries))) }
+        ensures ok { IfOk result (λ form. form ≡ later_over marks
+            (drop from (forms_of self.now.genesis self.now.kit self.now.entries))) }
     {
         pass_forms(&self.forms, marks, from)
     }
@@ -202,7 +219,8 @@ impl Line {
     // Takes the memory of an entry's commit.
     fn ready(&mut self, checked: Checked, effect: Effect) -> Result<Prepared, Memory>
         requires checked { IsChecked self.old.genesis self.old.entries checked }
-        requires passed { first_fault self.old.genesis self.old.kit self.old.entries (length self.old.entries + 1) checked.bytes ≡ None }
+        requires passed { first_fault self.old.genesis self.old.kit self.old.entries
+            (length self.old.entries + 1) checked.bytes ≡ None }
         requires effect { IsEffect self.old.genesis self.old.kit self.old.entries checked effect }
         ensures prepared { IfOk result (IsPrepared self.old.genesis self.old.kit self.old.entries) }
         ensures bytes { IfOk result (λ prepared. prepared.checked.bytes ≡ checked.bytes) }

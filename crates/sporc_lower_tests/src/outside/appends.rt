@@ -6,7 +6,8 @@ use sporc_outside::{AppendFile, Counted, Folder};
 use std::alloc::Global;
 use std::process::Abort;
 
-// A folder without files. Of the next file that it hands out to be appended to, the third call fails.
+// A folder without files. Of the next file that it hands out to be appended to, the third call
+// fails.
 fn folder(rt: &impl Abort, alloc: Global) -> MemoryFolder {
     let mut folder = MemoryFolder::new(alloc, Vec::new(alloc), failing(rt, alloc, &[]));
     folder.fail_append_calls([3].to_vec(alloc).expect(rt, "memory"));

@@ -16,7 +16,8 @@ fn appends<R: Abort + AllocGlobal>(rt: &R, file: &mut RealAppendFile, bytes: &[u
     check(rt, "what is read", is_same(&found, all));
 }
 
-// Of two folders, as of two programs, one has the file, and the other gets it once it was handed back.
+// Of two folders, as of two programs, one has the file, and the other gets it once it was handed
+// back.
 fn lends_once<R: Abort + Files<File = File> + AllocGlobal + Drop>(rt: &R, name: &str) {
     let mut first = RealFolder::new(rt);
     let mut second = RealFolder::new(rt);

@@ -64,7 +64,8 @@ where
     check(rt, "the faults", folder.faults() == 2);
 }
 
-// A folder is no file, and neither is a link that leads to itself; what lies behind a file is not missing either.
+// A folder is no file, and neither is a link that leads to itself; what lies behind a file is not
+// missing either.
 fn fails_for_each<R: Abort + Files<File = File> + AllocGlobal + Drop>(rt: &R, path: &str) {
     let name = format!(in rt.alloc(); "{path}/a").expect(rt, "memory");
     fs::create_dir(rt, name.as_str()).expect(rt, "a folder");

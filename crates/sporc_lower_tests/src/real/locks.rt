@@ -8,7 +8,8 @@ use std::process::Abort;
 use std::rt::Files;
 use std::{fs, process};
 
-// Of two folders, as of two programs, one has the disk, and the other gets it once it was handed back.
+// Of two folders, as of two programs, one has the disk, and the other gets it once it was handed
+// back.
 fn lends_once<R: Abort + Files<File = File> + AllocGlobal + Drop>(rt: &R, name: &str) {
     let mut first = RealFolder::new(rt);
     let mut second = RealFolder::new(rt);

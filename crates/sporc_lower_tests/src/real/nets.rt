@@ -88,8 +88,8 @@ fn a_call_that_nobody_takes_fails(rt: HostRuntime) {
     check(&rt, "the faults", net.faults() == 2);
 }
 
-// A call that came before the net was told its address again is taken afterwards, by another thread. At another address it
-// listens alone.
+// A call that came before the net was told its address again is taken afterwards, by another
+// thread. At another address it listens alone.
 #[test]
 fn a_net_goes_on_listening(rt: HostRuntime) {
     let address = free_address(&rt);

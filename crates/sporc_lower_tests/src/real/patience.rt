@@ -50,7 +50,8 @@ fn silent_peers_are_given_up_and_others_are_not(rt: HostRuntime) {
     check(&rt, "the faults of the net", net.faults() == 0);
 }
 
-// Whether one of many calls that nobody takes is given up: the system answers the first ones for the listener.
+// Whether one of many calls that nobody takes is given up: the system answers the first ones for
+// the listener.
 fn is_given_up<N: Dial>(rt: &impl Wait, net: &mut N, address: &str) -> bool {
     for _ in 0..1000 {
         match net.connect(rt, address) {

@@ -4,7 +4,8 @@ use std::process::Abort;
 use std::rt::{Env, Files};
 use std::{env, fs};
 
-/// Makes a folder of this process and this name in the folder for temporary files, and gives its path.
+/// Makes a folder of this process and this name in the folder for temporary files, and gives its
+/// path.
 pub fn make_folder<R: Abort + Files + Env + AllocGlobal>(
     rt: &R,
     process: u32,

@@ -49,8 +49,8 @@ fn draws_a_block(rt: &impl Abort, leaves: &mut Leaves<MemoryDisk>) {
     }
 }
 
-// The calls of an opening and of a block that is taken: what an opening calls before it reads, and that a block of four leaves
-// is written and synced once.
+// The calls of an opening and of a block that is taken: what an opening calls before it reads, and
+// that a block of four leaves is written and synced once.
 const CALLS: [(&str, bool); 5] = [
     ("sync", true),
     ("len", true),
@@ -76,8 +76,8 @@ fn a_file_is_blank_at_first_and_is_drawn_by_blocks(rt: HostRuntime) {
 
 // ---- crashes
 
-// A call of the disk that fails, and the leaves that a life on a blank file draws until it is stopped there, one bit each.
-// The opening makes three calls, and each block of four leaves two.
+// A call of the disk that fails, and the leaves that a life on a blank file draws until it is
+// stopped there, one bit each. The opening makes three calls, and each block of four leaves two.
 const STOPS: [(u64, u32); 10] = [
     (1, 0),
     (2, 0),
@@ -108,8 +108,8 @@ fn draw(rt: &impl Abort, leaves: &mut Leaves<MemoryDisk>, most: u32, drawn: &mut
     }
 }
 
-// A life on a blank file: it is opened and draws twelve leaves, but is stopped at this call. The disk that it leaves, and the
-// leaves that it drew.
+// A life on a blank file: it is opened and draws twelve leaves, but is stopped at this call. The
+// disk that it leaves, and the leaves that it drew.
 fn stopped(rt: &impl Abort, alloc: Global, call: u64) -> (MemoryDisk, u32) {
     let file = blank(alloc, 5).expect(rt, "memory");
     let disk = MemoryDisk::new(alloc, file, failing(rt, alloc, &[call])).expect(rt, "memory");

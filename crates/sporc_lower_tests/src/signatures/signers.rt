@@ -20,8 +20,8 @@ const C: &str = "390ebb28a8d23139cf32d618b9f87343a1dd9642ac4fc5060e82d01804a9dd6
 
 const DIGEST: &str = "300f995749b6eb6f2be2c3ec91b5fd9d541605ce4e2e64bd348a6dceb9295292";
 
-// A signer all of whose leaves are drawn but those of the last block. It is in a box: a function that owns a signer itself is
-// slow to prove.
+// A signer all of whose leaves are drawn but those of the last block. It is in a box: a function
+// that owns a signer itself is slow to prove.
 fn signer(rt: &impl Abort, alloc: Global) -> Box<Signer<MemoryDisk>> {
     let tree = tree_of(rt, alloc, SEED, ID, LmsType::H5, OtsType::W4);
     let leaves = leaves_of(rt, alloc, &[1, 1, 1, 1, 1, 1, 1, 0]);

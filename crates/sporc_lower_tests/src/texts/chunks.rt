@@ -6,8 +6,8 @@ use sporc_text::Doc;
 use std::alloc::Global;
 use std::process::Abort;
 
-// Edits at and around the borders of chunks, one after the other: from a place on, so many characters go, and so many
-// copies of another come.
+// Edits at and around the borders of chunks, one after the other: from a place on, so many
+// characters go, and so many copies of another come.
 const EDITS: [(usize, usize, usize, char); 22] = [
     (0, 0, 1, 'a'),
     (1, 0, 510, 'é'),

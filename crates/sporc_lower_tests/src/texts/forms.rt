@@ -38,7 +38,8 @@ fn numbered(rt: &impl Abort, alloc: Global, number: u32, len: u64) -> Delta
     delta
 }
 
-// Appends a form. One for which there was no memory leaves the forms as they were, and is appended then.
+// Appends a form. One for which there was no memory leaves the forms as they were, and is appended
+// then.
 fn push_anyway(rt: &impl Abort, blocks: &mut Blocks, form: Delta)
     requires base { base_len form ≡ reached blocks.old.base blocks.old.forms }
     requires limit { length blocks.old.forms ≤ 10000 }

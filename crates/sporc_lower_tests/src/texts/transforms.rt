@@ -254,7 +254,8 @@ const TRANSFORMS: [(&str, &str, &str, &str); 23] = [
     ("KRK", "KYKK", "KKRK", "KYK"),
     ("KRK", "KKXK", "KRKK", "KXK"),
     ("KXK", "KYK", "KXKK", "KKYK"),
-    // Neighbours. Two insertions, a character apart, the first or the second in front; at one place; at both ends.
+    // Neighbours. Two insertions, a character apart, the first or the second in front; at one
+    // place; at both ends.
     ("KaKKK", "KKbKK", "KaKKKK", "KKKbKK"),
     ("KKaKK", "KbKKK", "KKKaKK", "KbKKKK"),
     ("aKK", "bKK", "aKKK", "KbKK"),
@@ -311,8 +312,8 @@ fn worked_rows(rt: HostRuntime) {
     }
 }
 
-// The delta of this number over a text of so many characters: before each character and at the end it
-// inserts or not, and it keeps or removes each.
+// The delta of this number over a text of so many characters: before each character and at the end
+// it inserts or not, and it keeps or removes each.
 fn small_delta(
     rt: &impl Abort,
     alloc: Global,
@@ -337,7 +338,8 @@ fn small_delta(
     marks
 }
 
-// Whether two deltas over one text are transformed by the rules on marks, which give the first of them these.
+// Whether two deltas over one text are transformed by the rules on marks, which give the first of
+// them these.
 fn is_transformed(rt: &impl Abort, alloc: Global, p: &[char], q: &[char], first: &[char]) -> bool {
     let second = plain_later(rt, alloc, q, p);
     let p = delta_of(rt, alloc, p);

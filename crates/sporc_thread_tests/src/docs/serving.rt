@@ -10,8 +10,8 @@ use crate::serve::server::{Outcome as Alone, Peers};
 use crate::serve::streams::{PULL, submit};
 use sporc_base::is_same;
 use sporc_docs::{Docs, DocsServeFault, serve_docs};
-use sporc_order::Order;
 use sporc_memory::MemoryNet;
+use sporc_order::Order;
 use sporc_outside::OpenGate;
 use sporc_samples::{Cast, Draft, EDIT, History, edit_body};
 use sporc_wire::{ToServer, write_to_server};
@@ -20,7 +20,8 @@ use std::process::Abort;
 use std::sync::Wait;
 use std::thread::Threads;
 
-/// What a server of many documents left. It is kept in a box: a function that owns orders or a net itself is slow to prove.
+/// What a server of many documents left. It is kept in a box: a function that owns orders or a net
+/// itself is slow to prove.
 #[derive(Drop)]
 pub struct Outcome {
     orders: Vec<Order>,
@@ -42,8 +43,8 @@ impl Outcome {
         }
     }
 
-    /// Whether the order at a place, and what was written on the link that was taken as the last but so many, are those that a
-    /// server of one document left after one entry in one session.
+    /// Whether the order at a place, and what was written on the link that was taken as the last
+    /// but so many, are those that a server of one document left after one entry in one session.
     pub fn is_as(&self, place: usize, alone: &Alone) -> bool {
         match alone.order.entries() {
             [only] => {

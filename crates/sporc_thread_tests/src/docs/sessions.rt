@@ -27,7 +27,8 @@ fn hello_pull_and_submit(rt: &impl Abort, alloc: Global, number: u8, entry: &[u8
     joined(rt, alloc, &[hello.as_slice(), &PULL, submission.as_slice()])
 }
 
-// A link to document 7, one to document 8 with an entry of document 7, and one to a document that isn't held.
+// A link to document 7, one to document 8 with an entry of document 7, and one to a document that
+// isn't held.
 fn three_peers(rt: &impl Abort, alloc: Global, entry: &[u8]) -> Peers {
     let first = hello_and_submit(rt, alloc, 7, entry);
     let second = hello_pull_and_submit(rt, alloc, 8, entry);
@@ -167,7 +168,8 @@ fn served_alone<R: Threads + Wait + Sync + Abort>(
     served_order(rt, alloc, order, peers, 1, &OpenGate)
 }
 
-// Each document has its own entry alone, and its log and its answers are those of a server of it alone.
+// Each document has its own entry alone, and its log and its answers are those of a server of it
+// alone.
 fn check_all<R: Threads + Wait + Sync + Abort>(
     rt: &R,
     alloc: Global,

@@ -32,7 +32,8 @@ impl Tally {
 
     /// Adds a number, where there is memory for it.
     pub fn add(&mut self, number: u32) -> bool
-        ensures { MatchBool result (self.new.numbers.items ≡ self.old.numbers.items ++ number ∷ []) (self.new.numbers.items ≡ self.old.numbers.items) }
+        ensures { MatchBool result (self.new.numbers.items ≡ self.old.numbers.items ++ number ∷ [])
+            (self.new.numbers.items ≡ self.old.numbers.items) }
     {
         self.numbers.push(number).is_ok()
     }

@@ -12,7 +12,9 @@ use std::thread::{Threads, join};
 /// Adds a number to the value that is held.
 pub fn add_number(held: &mut Held<Tally>, number: u32) -> bool
     ensures turn { IsSameTurn held.old held.new }
-    ensures log { MatchBool result ((value_of held.new).numbers.items ≡ (value_of held.old).numbers.items ++ number ∷ []) ((value_of held.new).numbers.items ≡ (value_of held.old).numbers.items) }
+    ensures log { MatchBool result
+        ((value_of held.new).numbers.items ≡ (value_of held.old).numbers.items ++ number ∷ [])
+        ((value_of held.new).numbers.items ≡ (value_of held.old).numbers.items) }
 {
     held.value().add(number)
 }
@@ -46,7 +48,8 @@ fn rounds_of<R: Wait>(rt: &R, turn: &Turn<Tally>, pass: Pass<u32>, rounds: u32) 
     mine
 }
 
-// Number 0 takes turns in a thread of its own, and so does each of the others, which are split from it and joined back.
+// Number 0 takes turns in a thread of its own, and so does each of the others, which are split from
+// it and joined back.
 fn crowd<R: Threads + Wait + Sync>(
     rt: &R,
     turn: &Turn<Tally>,
@@ -70,12 +73,14 @@ fn crowd<R: Threads + Wait + Sync>(
     let (first, other) = join(
         rt,
         move || -> Pass<u32>
-            requires { IsSync R.row × IsPassOf turn.now first × ((known_of first).number ≡ 0) × ((known_of first).splits + (others - 1) < 2 ^ 32) × (0 < others) }
+            requires { IsSync R.row × IsPassOf turn.now first × ((known_of first).number ≡ 0)
+                × ((known_of first).splits + (others - 1) < 2 ^ 32) × (0 < others) }
             ensures { IsPassOf turn.entry.now result × ((known_of result).number ≡ 0) }
         { crowd(rt, turn, first, others - 1, rounds) },
         move || -> Pass<u32>
             requires { IsPassOf turn.now other }
-            ensures { IsPassOf turn.entry.now result × ((known_of result).number ≡ (known_of other).number) }
+            ensures { IsPassOf turn.entry.now result
+                × ((known_of result).number ≡ (known_of other).number) }
         { rounds_of(rt, turn, other, rounds) },
     );
     turn.join(first, other)

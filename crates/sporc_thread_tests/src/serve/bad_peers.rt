@@ -13,8 +13,9 @@ use std::process::Abort;
 use std::sync::Wait;
 use std::thread::Threads;
 
-// What peers send that are no clients: nothing; a frame that is no message, a frame that never ends, a frame above the
-// limit; another document's Hello; a Pull before a Hello, and a second Hello.
+// What peers send that are no clients: nothing; a frame that is no message, a frame that never
+// ends, a frame above the limit; another document's Hello; a Pull before a Hello, and a second
+// Hello.
 const STREAMS: [&[u8]; 7] = [
     &[],
     &[0, 0, 0, 1, 9, 0, 0, 0, 5, 3, 0, 0, 0, 0],
@@ -73,7 +74,8 @@ fn is_served<R: Threads + Wait + Sync + Abort>(
     only_the_client_is_answered(rt, &outcome);
 }
 
-// A server that is to take one link more than come tells that, and serves the client among the peers.
+// A server that is to take one link more than come tells that, and serves the client among the
+// peers.
 #[test]
 fn bad_peers_end_their_own_sessions_alone(rt: HostRuntime) {
     let cast = Cast::new(rt.alloc()).expect(&rt, "the cast");

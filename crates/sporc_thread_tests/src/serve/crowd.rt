@@ -61,8 +61,8 @@ fn peers(rt: &impl Abort, alloc: Global, entries: &[Vec<u8>]) -> Peers {
     peers
 }
 
-// Whether a session was answered as often as it submitted, by Ordered or Rejected. Those that are Ordered are counted
-// by their positions.
+// Whether a session was answered as often as it submitted, by Ordered or Rejected. Those that are
+// Ordered are counted by their positions.
 fn is_answered(rt: &impl Abort, alloc: Global, link: &MemoryLink, times: &mut [u32]) -> bool {
     let counts = count(rt, alloc, link.written(), times);
     counts.ordered.saturating_add(counts.rejected) == ENTRIES

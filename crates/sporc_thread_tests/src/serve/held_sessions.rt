@@ -17,8 +17,8 @@ const TURNS: u32 = 100_000_000;
 // Of the first entry and of the second it was told once: a byte counts each number.
 const BOTH: u64 = 0x01_01_00;
 
-// Holds a session whose entry was examined until two were, and one whose entry was accepted until both were. Before an entry is
-// answered it looks whether the tail keeps it.
+// Holds a session whose entry was examined until two were, and one whose entry was accepted until
+// both were. Before an entry is answered it looks whether the tail keeps it.
 #[derive(Drop)]
 struct Pairing<'a> {
     // How many entries the tail keeps.
@@ -61,8 +61,8 @@ impl<'a> Pairing<'a> {
         self.given_up.fetch_add(1, Ordering::SeqCst);
     }
 
-    // Whether both sessions examined their entries before either of these was ordered, each was kept before it was answered, it
-    // was told of each once, and nobody waited in vain.
+    // Whether both sessions examined their entries before either of these was ordered, each was
+    // kept before it was answered, it was told of each once, and nobody waited in vain.
     fn went_well(&self) -> bool {
         self.positions.load(Ordering::SeqCst) == 2
             && self.early.load(Ordering::SeqCst) == 0

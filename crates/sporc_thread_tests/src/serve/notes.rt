@@ -4,8 +4,8 @@ use sporc_order::{Tail, Unkept};
 use std::alloc::Global;
 use std::sync::atomic::{AtomicU64, Ordering};
 
-/// A tail in memory, of which one put may fail. A gate may look how many entries it keeps. Its clauses say nothing of what it
-/// keeps, since the tests compare that.
+/// A tail in memory, of which one put may fail. A gate may look how many entries it keeps. Its
+/// clauses say nothing of what it keeps, since the tests compare that.
 #[derive(Drop)]
 pub struct Notes<'a> {
     alloc: Global,
@@ -17,7 +17,8 @@ pub struct Notes<'a> {
 }
 
 impl<'a> Notes<'a> {
-    /// No entries, and none is counted. The put with this number fails, from 1 on, or none if it is 0.
+    /// No entries, and none is counted. The put with this number fails, from 1 on, or none if it is
+    /// 0.
     pub fn new(alloc: Global, kept: &'a AtomicU64, failing: u32) -> Notes<'a> {
         Notes {
             alloc,

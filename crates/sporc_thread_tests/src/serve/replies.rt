@@ -19,7 +19,8 @@ pub struct Counts {
     pub empty: u32,
 }
 
-/// Counts the answers in what a server sent, and at each position in `ordered` those that are Ordered there.
+/// Counts the answers in what a server sent, and at each position in `ordered` those that are
+/// Ordered there.
 pub fn count(rt: &impl Abort, alloc: Global, sent: &[u8], ordered: &mut [u32]) -> Counts {
     let mut counts = Counts {
         ordered: 0,

@@ -7,8 +7,8 @@ ghost use Rattle.sporc_wire.specs.declared.limits.TheConstants.{MAX_SESSIONS};
 use crate::objects::{calls, empty_order, listed_link};
 use crate::serve::notes::Notes;
 use sporc_base::is_same;
-use sporc_order::Order;
 use sporc_memory::{MemoryLink, MemoryNet};
+use sporc_order::Order;
 use sporc_outside::Gate;
 use sporc_samples::Cast;
 use sporc_serve::{ServeFault, serve, serve_kept};
@@ -32,8 +32,8 @@ impl Peers {
         }
     }
 
-    /// One link more, whose other end sends these bytes. At most `piece` bytes move in one call, and the calls with these
-    /// numbers fail.
+    /// One link more, whose other end sends these bytes. At most `piece` bytes move in one call,
+    /// and the calls with these numbers fail.
     pub fn add(
         &mut self,
         rt: &impl Abort,
@@ -54,7 +54,8 @@ impl Peers {
     }
 }
 
-/// What a server left. It is kept in a box: a function that owns an order or a net itself is slow to prove.
+/// What a server left. It is kept in a box: a function that owns an order or a net itself is slow
+/// to prove.
 #[derive(Drop)]
 pub struct Outcome {
     pub order: Order,
@@ -131,7 +132,8 @@ pub fn served_order<R: Threads + Wait + Sync + Abort, G: Gate + Sync>(
     Box::new(alloc, Outcome { order, net, answer }).expect(rt, "memory")
 }
 
-/// Serves so many links from the empty order of the cast's document, with this tail, which is handed back.
+/// Serves so many links from the empty order of the cast's document, with this tail, which is
+/// handed back.
 pub fn served_kept<'a, R: Threads + Wait + Sync + Abort, G: Gate + Sync>(
     rt: &R,
     alloc: Global,

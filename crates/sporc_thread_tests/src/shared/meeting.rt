@@ -17,9 +17,10 @@ const TURNS: u32 = 20_000_000;
 // How many lines wait for an entry, and entries for a line.
 const MEETINGS: u64 = 2;
 
-// Holds the editor's first line until the first entry was accepted, and the return of that accept until the line has begun;
-// and so the second line and the second accept. A session that runs the editor and the receiver one after the other, or in
-// which one has the lock for all of its turns, waits in vain.
+// Holds the editor's first line until the first entry was accepted, and the return of that accept
+// until the line has begun; and so the second line and the second accept. A session that runs the
+// editor and the receiver one after the other, or in which one has the lock for all of its turns,
+// waits in vain.
 #[derive(Drop)]
 struct Meeting {
     begun: AtomicU64,

@@ -2,8 +2,8 @@
 
 ghost use Rattle.std.specs.Prelude.{◌≤◌, ◌<◌, length};
 
-use sporc_order::{Order, Reply, Session};
 use sporc_memory::Calls;
+use sporc_order::{Order, Reply, Session};
 use sporc_outside::{Counted, Failed, Link, Sink, Source, Stream};
 use sporc_wire::{Frames, ToClient, ToServer};
 use std::alloc::Global;

@@ -18,8 +18,8 @@ use sporc_samples::{Cast, History, epoch_key, insertion};
 use std::alloc::Global;
 use std::process::Abort;
 
-/// A leaf file each of whose eight blocks has this byte: 0 if it was not drawn, and 1 if it was. The disk's calls with
-/// these numbers fail.
+/// A leaf file each of whose eight blocks has this byte: 0 if it was not drawn, and 1 if it was.
+/// The disk's calls with these numbers fail.
 #[derive(Clone, Copy)]
 pub(crate) struct LeafFile<'a> {
     pub(crate) byte: u8,
@@ -71,7 +71,8 @@ fn ring(rt: &impl Abort, alloc: Global) -> Ring {
     ring
 }
 
-/// The client of a member, with an empty history. It is in a box: a function that owns a client itself is slow to prove.
+/// The client of a member, with an empty history. It is in a box: a function that owns a client
+/// itself is slow to prove.
 pub(crate) fn opened(
     rt: &impl Abort,
     alloc: Global,

@@ -1,5 +1,6 @@
-//! Each fault of a session. Its objects are handed to it one by one, and how it ends if a call of one fails is known exactly; what
-//! commands do with theirs stands in the tables of `sporc_commands_tests/src/failing.rt`.
+//! Each fault of a session. Its objects are handed to it one by one, and how it ends if a call of
+//! one fails is known exactly; what commands do with theirs stands in the tables of
+//! `sporc_commands_tests/src/failing.rt`.
 
 use crate::checks::{check_at, check_end};
 use crate::shared::scene::{LeafFile, Past};
@@ -43,7 +44,8 @@ fn failing(object: Object, calls: &[u64]) -> Start<'_> {
     }
 }
 
-// A session of two rounds with an order ends by this fault, or well if there is none, where so many editors have these lines.
+// A session of two rounds with an order ends by this fault, or well if there is none, where so many
+// editors have these lines.
 fn ends_so<R: Abort + Threads + Wait + Sync>(
     rt: &R,
     alloc: Global,
@@ -57,7 +59,8 @@ fn ends_so<R: Abort + Threads + Wait + Sync>(
     check_end(rt, outcome.answer.err(), fault);
 }
 
-// An object, how many of its calls come before the session, how many the session makes, and how it ends if one of these fails.
+// An object, how many of its calls come before the session, how many the session makes, and how it
+// ends if one of these fails.
 type Row = (Object, u64, u64, SessionFault);
 
 const CALLS: [Row; 3] = [
@@ -69,7 +72,8 @@ const CALLS: [Row; 3] = [
     (Object::Chance, 0, 4, SessionFault::ChanceFault),
 ];
 
-// Whether a session ends well where this call of an object is to fail, since it makes no such call. Else it ends as its row says.
+// Whether a session ends well where this call of an object is to fail, since it makes no such call.
+// Else it ends as its row says.
 fn ends_without<R: Abort + Threads + Wait + Sync>(
     rt: &R,
     alloc: Global,

@@ -1,7 +1,7 @@
 //! Sessions with an honest order.
 
 use crate::checks::{check, check_end, check_text};
-use crate::shared::staging::{Answer, Deed, FRESH, Outcome, Wanted, Start, TWO_ROUNDS, written};
+use crate::shared::staging::{Answer, Deed, FRESH, Outcome, Start, TWO_ROUNDS, Wanted, written};
 use sporc_samples::Cast;
 use sporc_script::MAX_EDITORS;
 use sporc_shared::SessionFault;
@@ -27,7 +27,8 @@ const LINES: u64 = 100;
 // An editor writes a word.
 const HELLO: &str = "insert 0 \"hello\"\n";
 
-// An admin's lines. The second one counts more characters than there are, and the third is beyond the text's end.
+// An admin's lines. The second one counts more characters than there are, and the third is beyond
+// the text's end.
 const EACH_LINE: &str =
     "insert 0 \"hello\"\nremove 1 9\ninsert 9 \"i\"\nremove 0 1\nrole 2 reader\ndrop 5\n";
 
@@ -44,8 +45,8 @@ const EACH_DEED: [Deed; 6] = [
     Deed::Other(1),
 ];
 
-// A member, its one editor's lines, and how long its session goes; and its end, which is well if there is no fault, with the
-// text and the journal that it leaves.
+// A member, its one editor's lines, and how long its session goes; and its end, which is well if
+// there is no fault, with the text and the journal that it leaves.
 type Row = (
     u8,
     &'static str,

@@ -9,8 +9,8 @@ use crate::objects::{calls, empty_history, empty_order, listed_link};
 use crate::shared::order_link::OrderLink;
 use crate::shared::scene::{BLANK, LeafFile, Past, lived};
 use sporc_client::{Client, Event};
-use sporc_order::Order;
 use sporc_memory::ListedChance;
+use sporc_order::Order;
 use sporc_outside::{Chance, Gate, LeafDisk, Link, OpenGate};
 use sporc_samples::{Cast, History};
 use sporc_script::{EditorScript, MAX_EDITORS, read_editor};
@@ -244,7 +244,8 @@ fn order_of(rt: &impl Abort, alloc: Global, cast: &Cast, sample: &History) -> Bo
     order
 }
 
-// A link to an order that has the entries of a history. It is in a box, so that a function that owns it is quick to prove.
+// A link to an order that has the entries of a history. It is in a box, so that a function that
+// owns it is quick to prove.
 fn order_link(
     rt: &impl Abort,
     alloc: Global,

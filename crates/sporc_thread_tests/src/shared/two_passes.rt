@@ -106,7 +106,8 @@ fn submitted<R: Abort + Wait, D: LeafDisk>(
     }
 }
 
-// The first pass edits at the start and behind front 1, and the second accepts an entry between the two.
+// The first pass edits at the start and behind front 1, and the second accepts an entry between the
+// two.
 fn edit_and_accept<R: Abort + Wait, D: LeafDisk>(
     rt: &R,
     alloc: Global,

@@ -1,6 +1,7 @@
 //! An entry from its draft to its bytes.
 
-ghost use Rattle.std.specs.Prelude.{◌≡◌, true, ◌+◌, ◌≤◌, ◌<◌, ◌^◌, ◌++◌, length, vec_len, vec_capacity, IfOk, IfErr};
+ghost use Rattle.std.specs.Prelude.{◌≡◌, true, ◌+◌, ◌≤◌, ◌<◌, ◌^◌, ◌++◌, length, vec_len};
+ghost use Rattle.std.specs.Prelude.{vec_capacity, IfOk, IfErr};
 ghost use Rattle.lms_tree.specs.LmsType.{height_of};
 ghost use Rattle.lms_tree.specs.Signatures.{lms_signature_of};
 ghost use Rattle.lms_tree.specs.Verification.{lms_signature_len_of};
@@ -27,8 +28,8 @@ pub(crate) struct Made {
     pub(crate) event: Bytes,
 }
 
-/// What the author of an entry signs, and the entry's bytes up to its signature, with room for that, once for each who
-/// keeps them.
+/// What the author of an entry signs, and the entry's bytes up to its signature, with room for
+/// that, once for each who keeps them.
 #[derive(Drop)]
 pub(crate) struct Draft {
     message: Vec<u8>,
@@ -37,7 +38,8 @@ pub(crate) struct Draft {
     event: Vec<u8>,
 }
 
-// Signs an entry by the ticket's leaf, with 32 random bytes. If memory runs out the ticket comes back, and has not signed.
+// Signs an entry by the ticket's leaf, with 32 random bytes. If memory runs out the ticket comes
+// back, and has not signed.
 pub(crate) fn sign_entry<D: LeafDisk>(
     alloc: Global,
     signer: &mut Signer<D>,
@@ -49,7 +51,11 @@ pub(crate) fn sign_entry<D: LeafDisk>(
     requires version { fits_version entry.now.header.version entry.now.header.device ≡ true }
     requires body_limit { length entry.now.body < 2 ^ 32 }
     requires limit { length (signed_string entry.now) ≤ MAX_ENTRY }
-    ensures made { IfOk result (AreCopies (entry_bytes (record entry.now { signature = lms_signature_of signer.old.key ticket randomizer.now (signed_string entry.now) }))) }
+    ensures made { IfOk result
+        (AreCopies (entry_bytes (record entry.now {
+          signature = lms_signature_of signer.old.key
+              ticket randomizer.now (signed_string entry.now);
+        }))) }
     ensures returned { IfErr result (λ back. back.0 ≡ ticket) }
     ensures unchanged { signer.new ≡ signer.old }
 {
@@ -91,7 +97,8 @@ fn signature_len(key: &LmsPublic) -> u32
     8 + key.ots.signature_len() as u32 + 32 * key.lms.height()
 }
 
-// The bytes of an entry up to its signature of `len` bytes, with room for that, by what its author signs.
+// The bytes of an entry up to its signature of `len` bytes, with room for that, by what its author
+// signs.
 fn prefix(alloc: Global, message: &[u8], len: u32) -> Result<Vec<u8>, Memory>
     requires positive { 1 ≤ length message.now }
     requires limit { length message.now ≤ MAX_ENTRY }

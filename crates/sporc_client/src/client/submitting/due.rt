@@ -9,7 +9,8 @@ ghost use Rattle.sporc_member.specs.Roster.{change_fault_of};
 ghost use Rattle.sporc_head.specs.History.{roster_of};
 ghost use Rattle.sporc_client.specs.ClientInvariant.{plain_of};
 ghost use Rattle.sporc_client.specs.Entries.{kind_of};
-ghost use Rattle.sporc_client.specs.Submissions.{change_due, due, item_due, or_due, step_of, submit_checks};
+ghost use Rattle.sporc_client.specs.Submissions.{change_due, due, item_due, or_due, step_of};
+ghost use Rattle.sporc_client.specs.Submissions.{submit_checks};
 ghost use Rattle.sporc_client.specs.Workspace.{WorkspaceModel};
 
 use crate::client::has_right;
@@ -39,7 +40,8 @@ pub(crate) enum Due {
 
 // What is due, or its fault.
 pub(crate) fn find_due(line: &Line, own: &Workspace) -> Result<Due, SubmitFault>
-    ensures value { (key : LmsPrivate) → GivesUnless SubmitFault.Memory (λ d. d) result (step_of (due (plain_of key line.now own.now))) }
+    ensures value { (key : LmsPrivate) → GivesUnless SubmitFault.Memory (λ d. d) result
+        (step_of (due (plain_of key line.now own.now))) }
 {
     if own.flight().is_some() {
         return Ok(Due::Waiting);
@@ -53,7 +55,8 @@ pub(crate) fn find_due(line: &Line, own: &Workspace) -> Result<Due, SubmitFault>
 // What is due of the first pending item.
 fn find_due_first(line: &Line, own: &Workspace, item: &Pending) -> Result<Due, SubmitFault>
     ensures value { (key : LmsPrivate) → GivesUnless SubmitFault.Memory (λ d. d) result
-        (step_of (or_due (first_of (submit_checks (plain_of key line.now own.now) item.now)) (item_due (plain_of key line.now own.now) item.now))) }
+        (step_of (or_due (first_of (submit_checks (plain_of key line.now own.now) item.now))
+        (item_due (plain_of key line.now own.now) item.now))) }
 {
     check_submission(line, own, item)?;
     match item {
@@ -67,7 +70,8 @@ fn find_due_first(line: &Line, own: &Workspace, item: &Pending) -> Result<Due, S
 
 // The checks of a submission of an item, whatever the item says.
 fn check_submission(line: &Line, own: &Workspace, item: &Pending) -> Result<(), SubmitFault>
-    ensures fault { (key : LmsPrivate) → Answers result (first_of (submit_checks (plain_of key line.now own.now) item.now)) }
+    ensures fault { (key : LmsPrivate)
+        → Answers result (first_of (submit_checks (plain_of key line.now own.now) item.now)) }
 {
     if line.removed() {
         return Err(SubmitFault::Removed);
@@ -96,7 +100,8 @@ pub(crate) fn kind_of(item: &Pending) -> u8
 
 // Whether an edit has few enough bytes to be signed.
 fn check_length(delta: &Delta) -> Result<(), SubmitFault>
-    ensures fault { Answers result (unless (nat_le (length (delta_bytes delta.now)) MAX_HEAD_BYTES) (SubmitFault.HeadTooLong (length (delta_bytes delta.now)))) }
+    ensures fault { Answers result (unless (nat_le (length (delta_bytes delta.now)) MAX_HEAD_BYTES)
+        (SubmitFault.HeadTooLong (length (delta_bytes delta.now)))) }
 {
     let bytes = delta.encoded_len();
     if bytes > MAX_HEAD_BYTES {
@@ -105,11 +110,12 @@ fn check_length(delta: &Delta) -> Result<(), SubmitFault>
     Ok(())
 }
 
-// What is due of a change at the head: it is taken off if the members refuse it, and needs a pairwise key with each member
-// after it.
+// What is due of a change at the head: it is taken off if the members refuse it, and needs a
+// pairwise key with each member after it.
 fn find_due_change(line: &Line, change: &Change) -> Result<Due, SubmitFault>
-    ensures value { (key : LmsPrivate) (own : WorkspaceModel) → GivesUnless SubmitFault.Memory (λ d. d) result
-        (step_of (change_due (plain_of key line.now own) change.now (change_fault_of (roster_of line.now.genesis line.now.entries) change.now))) }
+    ensures value { (key : LmsPrivate) (own : WorkspaceModel) → GivesUnless SubmitFault.Memory
+        (λ d. d) result (step_of (change_due (plain_of key line.now own) change.now
+        (change_fault_of (roster_of line.now.genesis line.now.entries) change.now))) }
 {
     let roster = line.heads().roster();
     if let Err(fault) = roster.test(change) {

@@ -1,6 +1,7 @@
 //! The entry that a submission makes.
 
-ghost use Rattle.std.specs.Prelude.{◌≡◌, ℕ, ◌<◌, ◌^◌, ◌∷◌, drop, length, true, None, Some, Ok, IfOk, IfErr, IfSome, IsSomeAnd, is_ok};
+ghost use Rattle.std.specs.Prelude.{◌≡◌, ℕ, ◌<◌, ◌^◌, ◌∷◌, drop, length, true, None, Some, Ok};
+ghost use Rattle.std.specs.Prelude.{IfOk, IfErr, IfSome, IsSomeAnd, is_ok};
 ghost use Rattle.lms_tree.specs.LmsType.{height_of};
 ghost use Rattle.lms_leaf.specs.Leaves.{DrawFaults, Draws};
 ghost use Rattle.sporc_base.specs.Outcome.{GivesUnless};
@@ -25,8 +26,8 @@ use sporc_line::Line;
 use sporc_outside::LeafDisk;
 use std::alloc::Global;
 
-// Makes the entry of the first pending item by the leaf of the kept ticket or, if there is none, of one that it draws. If
-// memory runs out the ticket is kept.
+// Makes the entry of the first pending item by the leaf of the kept ticket or, if there is none, of
+// one that it draws. If memory runs out the ticket is kept.
 pub(crate) fn make_entry<D: LeafDisk>(
     alloc: Global,
     line: &Line,
@@ -38,12 +39,17 @@ pub(crate) fn make_entry<D: LeafDisk>(
     requires due { is_signing (due (plain_of signer.old.key line.now own.now)) ≡ true }
     requires sound { IsSound (plain_of signer.old.key line.now own.now) }
     requires limit { IfSome kept.old (λ leaf. leaf < 2 ^ height_of signer.old.key.lms) }
-    ensures value { GivesUnless SubmitFault.Memory (λ made. Submitted.Entry made.answer) result (submission (plain_of signer.old.key line.now own.now) random.now (leaf_for kept.old signer.old.leaves signer.new.leaves)) }
+    ensures value { GivesUnless SubmitFault.Memory (λ made. Submitted.Entry made.answer) result
+        (submission (plain_of signer.old.key line.now own.now) random.now
+        (leaf_for kept.old signer.old.leaves signer.new.leaves)) }
     ensures made { IfOk result (λ made. AreCopies made.answer made) }
-    ensures submission { IfOk result (λ made. IsSomeAnd (at_hand kept.old signer.old.leaves signer.new.leaves) (λ leaf. IsSubmission (plain_of signer.old.key line.now own.now) leaf made.answer)) }
+    ensures submission { IfOk result
+        (λ made. IsSomeAnd (at_hand kept.old signer.old.leaves signer.new.leaves)
+        (λ leaf. IsSubmission (plain_of signer.old.key line.now own.now) leaf made.answer)) }
     ensures undrawn { (leaf : ℕ) → kept.old ≡ Some leaf → signer.new ≡ signer.old }
     ensures drawn { kept.old ≡ None → IsDraw D.told signer.old.leaves signer.new.leaves }
-    ensures ticket { kept.new ≡ kept_after kept.old signer.old.leaves signer.new.leaves (is_ok result) }
+    ensures ticket { kept.new
+        ≡ kept_after kept.old signer.old.leaves signer.new.leaves (is_ok result) }
     ensures within { IfSome kept.new (λ leaf. leaf < 2 ^ height_of signer.old.key.lms) }
     ensures key { signer.new.key ≡ signer.old.key }
 {
@@ -63,9 +69,11 @@ fn take_ticket<D: LeafDisk>(
     kept: &mut Option<KeptTicket>,
 ) -> Result<Ticket, LeafFault>
     requires limit { IfSome kept.old (λ leaf. leaf < 2 ^ height_of signer.old.key.lms) }
-    ensures undrawn { (leaf : ℕ) → kept.old ≡ Some leaf → (result ≡ Ok leaf) × (signer.new ≡ signer.old) }
+    ensures undrawn { (leaf : ℕ) → kept.old ≡ Some leaf
+        → (result ≡ Ok leaf) × (signer.new ≡ signer.old) }
     ensures draws { kept.old ≡ None → Draws D.told signer.old.leaves result signer.new.leaves }
-    ensures faults { kept.old ≡ None → DrawFaults D.told signer.old.leaves result signer.new.leaves }
+    ensures faults { kept.old ≡ None
+        → DrawFaults D.told signer.old.leaves result signer.new.leaves }
     ensures within { IfOk result (λ ticket. ticket < 2 ^ height_of signer.old.key.lms) }
     ensures key { signer.new.key ≡ signer.old.key }
     ensures taken { kept.new ≡ None }
@@ -79,7 +87,8 @@ fn take_ticket<D: LeafDisk>(
     }
 }
 
-// The entry of the first pending item, signed by the ticket's leaf. The ticket comes back if memory runs out.
+// The entry of the first pending item, signed by the ticket's leaf. The ticket comes back if memory
+// runs out.
 fn make_signed<D: LeafDisk>(
     alloc: Global,
     line: &Line,
@@ -91,9 +100,12 @@ fn make_signed<D: LeafDisk>(
     requires due { is_signing (due (plain_of signer.old.key line.now own.now)) ≡ true }
     requires sound { IsSound (plain_of signer.old.key line.now own.now) }
     requires limit { ticket < 2 ^ height_of signer.old.key.lms }
-    ensures answer { IfOk result (λ made. submission (plain_of signer.old.key line.now own.now) random.now (Ok ticket) ≡ Ok (Submitted.Entry made.answer)) }
+    ensures answer { IfOk result
+        (λ made. submission (plain_of signer.old.key line.now own.now) random.now (Ok ticket)
+        ≡ Ok (Submitted.Entry made.answer)) }
     ensures made { IfOk result (λ made. AreCopies made.answer made) }
-    ensures submission { IfOk result (λ made. IsSubmission (plain_of signer.old.key line.now own.now) ticket made.answer) }
+    ensures submission { IfOk result
+        (λ made. IsSubmission (plain_of signer.old.key line.now own.now) ticket made.answer) }
     ensures returned { IfErr result (λ back. back.0 ≡ ticket) }
     ensures unchanged { signer.new ≡ signer.old }
 {

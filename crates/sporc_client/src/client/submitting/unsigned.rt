@@ -32,8 +32,8 @@ use sporc_line::Line;
 use sporc_member::Change;
 use std::alloc::{AllocError, Global};
 
-// The next entry of an item, unsigned, by the leaf that is to sign it and 32 random bytes, which are the key of the next
-// epoch if it is a change.
+// The next entry of an item, unsigned, by the leaf that is to sign it and 32 random bytes, which
+// are the key of the next epoch if it is a change.
 pub(crate) fn unsigned_entry(
     alloc: Global,
     line: &Line,
@@ -42,9 +42,13 @@ pub(crate) fn unsigned_entry(
     new_key: &[u8; 32],
 ) -> Result<Entry, Memory>
     requires { CanTake line.now item.now }
-    ensures value { IfOk result (λ e. (key : LmsPrivate) (own : WorkspaceModel) → e ≡ unsigned_entry (plain_of key line.now own) (record { leaf = leaf; randomizer = []; new_key = new_key.now }) item.now) }
+    ensures value { IfOk result (λ e. (key : LmsPrivate) (own : WorkspaceModel) → e
+        ≡ unsigned_entry (plain_of key line.now own)
+        (record { leaf = leaf; randomizer = []; new_key = new_key.now }) item.now) }
     ensures header { IfOk result (λ e. IsHeader e.header) }
-    ensures spelled { OnOk result ((key : LmsPrivate) (own : WorkspaceModel) → IsSpelled (plain_of key line.now own) (record { leaf = leaf; randomizer = []; new_key = new_key.now }) item.now) }
+    ensures spelled { OnOk result
+        ((key : LmsPrivate) (own : WorkspaceModel) → IsSpelled (plain_of key line.now own)
+        (record { leaf = leaf; randomizer = []; new_key = new_key.now }) item.now) }
 {
     let header = next_header(line, leaf, kind_of(item));
     let body = entry_body(alloc, line, item, leaf, new_key)?;
@@ -59,9 +63,11 @@ pub(crate) fn unsigned_entry(
 fn next_header(line: &Line, leaf: u32, kind: u8) -> Header
     requires limit { length line.now.entries + 1 ≤ MAX_ENTRIES }
     requires range { (1 ≤ kind) × (kind ≤ 2) }
-    requires live { is_some (key_of_device (roster_of line.now.genesis line.now.entries) line.now.kit.me) ≡ true }
+    requires live { is_some
+        (key_of_device (roster_of line.now.genesis line.now.entries) line.now.kit.me) ≡ true }
     ensures document { result.document ≡ line.now.genesis.document }
-    ensures version { result.version ≡ version_of (roster_of line.now.genesis line.now.entries).upgraded }
+    ensures version { result.version
+        ≡ version_of (roster_of line.now.genesis line.now.entries).upgraded }
     ensures author { author_device result ≡ line.now.kit.me }
     ensures number { result.number ≡ count_of line.now.kit.me line.now.entries + 1 }
     ensures base { result.base ≡ length line.now.entries }
@@ -99,8 +105,12 @@ fn entry_body(
     new_key: &[u8; 32],
 ) -> Result<Bytes, Memory>
     requires { CanTake line.now item.now }
-    ensures value { IfOk result (λ body. (key : LmsPrivate) (own : WorkspaceModel) → body ≡ body_of (plain_of key line.now own) (record { leaf = leaf; randomizer = []; new_key = new_key.now }) item.now) }
-    ensures spelled { OnOk result ((key : LmsPrivate) (own : WorkspaceModel) → IsSpelled (plain_of key line.now own) (record { leaf = leaf; randomizer = []; new_key = new_key.now }) item.now) }
+    ensures value { IfOk result (λ body. (key : LmsPrivate) (own : WorkspaceModel) → body
+        ≡ body_of (plain_of key line.now own)
+        (record { leaf = leaf; randomizer = []; new_key = new_key.now }) item.now) }
+    ensures spelled { OnOk result
+        ((key : LmsPrivate) (own : WorkspaceModel) → IsSpelled (plain_of key line.now own)
+        (record { leaf = leaf; randomizer = []; new_key = new_key.now }) item.now) }
 {
     let Some(key) = line.key() else {
         unreachable!()
@@ -131,9 +141,14 @@ fn change_body(
     new_key: &[u8; 32],
 ) -> Result<Bytes, Memory>
     requires can_take { CanTake line.now (items.Change change.now) }
-    requires key { epoch_key line.now.genesis line.now.kit line.now.entries (epoch_of line.now.entries) ≡ Some old_key.now }
-    ensures value { IfOk result (λ body. (key : LmsPrivate) (own : WorkspaceModel) → body ≡ body_of (plain_of key line.now own) (record { leaf = leaf; randomizer = []; new_key = new_key.now }) (items.Change change.now)) }
-    ensures spelled { OnOk result ((key : LmsPrivate) (own : WorkspaceModel) → IsSpelled (plain_of key line.now own) (record { leaf = leaf; randomizer = []; new_key = new_key.now }) (items.Change change.now)) }
+    requires key { epoch_key line.now.genesis line.now.kit line.now.entries
+        (epoch_of line.now.entries) ≡ Some old_key.now }
+    ensures value { IfOk result (λ body. (key : LmsPrivate) (own : WorkspaceModel) → body ≡ body_of
+        (plain_of key line.now own) (record { leaf = leaf; randomizer = []; new_key = new_key.now })
+        (items.Change change.now)) }
+    ensures spelled { OnOk result ((key : LmsPrivate) (own : WorkspaceModel) → IsSpelled
+        (plain_of key line.now own) (record { leaf = leaf; randomizer = []; new_key = new_key.now })
+        (items.Change change.now)) }
 {
     let body = seal(alloc, line, old_key, change, leaf, new_key)?;
     let bytes = write_change(alloc, &body)?;
@@ -150,9 +165,14 @@ fn seal(
     new_key: &[u8; 32],
 ) -> Result<ChangeBody, Memory>
     requires can_take { CanTake line.now (items.Change change.now) }
-    requires key { epoch_key line.now.genesis line.now.kit line.now.entries (epoch_of line.now.entries) ≡ Some old_key.now }
-    ensures value { IfOk result (λ body. (key : LmsPrivate) (own : WorkspaceModel) → body ≡ body_sealed (sealing_of (plain_of key line.now own) (record { leaf = leaf; randomizer = []; new_key = new_key.now }) change.now) line.now.kit.pairs) }
-    ensures spelled { IfOk result (IsChangeBody (version_of (roster_of line.now.genesis line.now.entries).upgraded)) }
+    requires key { epoch_key line.now.genesis line.now.kit line.now.entries
+        (epoch_of line.now.entries) ≡ Some old_key.now }
+    ensures value { IfOk result (λ body. (key : LmsPrivate) (own : WorkspaceModel)
+        → body ≡ body_sealed (sealing_of (plain_of key line.now own)
+        (record { leaf = leaf; randomizer = []; new_key = new_key.now }) change.now)
+        line.now.kit.pairs) }
+    ensures spelled { IfOk result
+        (IsChangeBody (version_of (roster_of line.now.genesis line.now.entries).upgraded)) }
 {
     let heads = line.heads();
     let members = heads.roster().members_after(change)?;
@@ -175,7 +195,8 @@ fn seal(
     }
 }
 
-// The number of the member that a change is of, 0 if it is of all. What the change says is in range.
+// The number of the member that a change is of, 0 if it is of all. What the change says is in
+// range.
 fn subject_of(change: &Change) -> u16
     ensures typed { IsTypedChange change.now }
 {
