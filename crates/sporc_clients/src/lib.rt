@@ -27,7 +27,7 @@
 //! another no leaf signs twice ([`laws`]).
 //!
 //! Only tested: two members who work with a server, each status that a session ends with, and each
-//! call outside failing in turn (`sporc_commands_tests`). Neither: that the server answers, and,
+//! call outside failing in turn (`sporc_top_tests`). Neither: that the server answers, and,
 //! but for a test on files of the system (`examples/commands/run`), that what is printed is saved
 //! before.
 #![tactic(auto)]

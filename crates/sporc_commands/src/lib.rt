@@ -28,7 +28,7 @@
 //! // `1 1 1 0 edit i"Buy bread."`
 //! list_entries(rt, alloc, files, out, &names, phone, 1, &OpenGate)
 //! compare(alloc, files, out, &names, laptop, phone)         // `2 2.1 forked after 3`
-//! serve(rt, alloc, files, net, out, &names, "localhost:4000", 8, &OpenGate)    // `log 12`
+//! serve(rt, alloc, files, net, out, &names, "localhost:4000", 8, 1, &OpenGate) // `log 12`
 //! ```
 //!
 //! Proved: of `keygen`, `found` and `public`, which files are asked for, which stand after each
@@ -38,7 +38,7 @@
 //! of their bytes (`Checking`, `Telling`, `Comparing`, `Serving`), whose first fault is answered,
 //! unless memory runs out or something outside fails. Only tested: the files of a document in
 //! memory, the names asked for, in their order, each call outside failing in turn, the lines of
-//! histories with real signatures, and that calls succeed with ample memory (`sporc_files_tests`).
+//! histories with real signatures, and that calls succeed with ample memory (`sporc_commands_tests`).
 //! Neither: that a chance is random, that a real folder keeps what is written, and that a client
 //! gets an answer.
 #![tactic(auto)]

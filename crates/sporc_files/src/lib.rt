@@ -22,8 +22,8 @@
 //! Proved: names, statuses and lines to the byte, which are written as far as the sink takes them
 //! and take no memory; that different files of a document have different names ([`laws`]); what is
 //! read of which file, and which fault is answered; that a call asks for the names of its files
-//! alone. Only tested: that reading and writing succeed with ample memory (`sporc_files_tests`,
-//! `sporc_commands_tests`). Neither: that a real folder keeps what is written.
+//! alone. Only tested: that reading and writing succeed with ample memory (`sporc_commands_tests`,
+//! `sporc_top_tests`). Neither: that a real folder keeps what is written.
 #![tactic(auto)]
 
 mod appending;

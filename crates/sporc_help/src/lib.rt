@@ -12,7 +12,7 @@
 //! The texts are constants, which the definitions import, so nothing that is printed stands twice.
 //! Proved: a page is written to the byte, or a prefix of it where the sink fails. Only tested: how
 //! wide and how long the pages are, and that the documents have the same words
-//! (`examples/documents`); each form of a line that asks for one (`sporc_commands_tests`,
+//! (`examples/documents`); each form of a line that asks for one (`sporc_top_tests`,
 //! `examples/commands/help`). Neither: that a page is right.
 #![tactic(auto)]
 

@@ -12,7 +12,7 @@
 //! net as it found and left them, and its answer. Each log is read and saved as `serve` does it, by
 //! the functions and the definitions of `sporc_commands`, and the sessions are those of
 //! `sporc_docs::serve_docs`. Only tested: documents with clients of their own, and that calls
-//! succeed with ample memory (`sporc_commands_tests`). Neither: that a real folder keeps what is
+//! succeed with ample memory (`sporc_top_tests`). Neither: that a real folder keeps what is
 //! written, and that a client gets an answer.
 #![tactic(auto)]
 

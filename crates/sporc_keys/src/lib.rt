@@ -20,7 +20,7 @@
 //! otherwise; that the key file of another device is refused ([`laws`]); what is made of which
 //! words of the chance, and how many a call that failed may have drawn; that each two who are named
 //! share one key, which is in both rings. Only tested: the bytes of small files, spelled by hand,
-//! and that calls succeed with ample memory (`sporc_files_tests`). Neither: that a chance is
+//! and that calls succeed with ample memory (`sporc_commands_tests`). Neither: that a chance is
 //! random, and that keys stay secret.
 #![tactic(auto)]
 

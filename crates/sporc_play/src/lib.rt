@@ -17,7 +17,7 @@
 //! commands on plain records of clients and recompute all from the first entry; each answer names
 //! its cause, and after a fault a prefix of the report was written; each play is a run of its
 //! members' clients ([`laws`]). Only tested: that plays succeed with ample memory
-//! (`sporc_commands_tests`, `examples/`). Neither: how long a play takes.
+//! (`sporc_top_tests`, `examples/`). Neither: how long a play takes.
 #![tactic(auto)]
 
 mod acting;

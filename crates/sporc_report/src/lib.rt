@@ -14,7 +14,7 @@
 //! Proved: a call that succeeds appends the line or the name of the definitions in `specs/`, and
 //! names no `Memory` of the faults that it takes; after out of memory the text begins with what it
 //! was; the text of a history can be followed by the lines of its entries ([`laws`]). Only tested:
-//! that the calls succeed with ample memory (`sporc_commands_tests`). Neither: how long they take.
+//! that the calls succeed with ample memory (`sporc_top_tests`). Neither: how long they take.
 #![tactic(auto, using(crate::proofs::Beginnings::begins_then, crate::proofs::Beginnings::begins_last, crate::proofs::Beginnings::begins_more))]
 
 mod appending;

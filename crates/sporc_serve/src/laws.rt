@@ -1,6 +1,6 @@
 //! What holds of a server's answers.
 
-ghost use Rattle.std.specs.Prelude.{Bool, ◌≡◌, ◌<◌, ◌^◌, length};
+ghost use Rattle.std.specs.Prelude.{Bool, ◌<◌, ◌^◌, length};
 ghost use Rattle.sporc_wire.specs.declared.to_server.ToServer.{ToServer};
 ghost use Rattle.sporc_order.specs.OrderModel.{OrderModel};
 ghost use Rattle.sporc_order.specs.Sessions.{step_of, IsSendable, IsFramed};

@@ -11,7 +11,7 @@
 //! outside it left as they were, what a source that tells its bytes calls for, and that over runs
 //! no leaf signs twice ([`laws`]). Only tested: the reports of worked scripts; commands one after
 //! the other, members who work with a server in another thread, and each call outside failing in
-//! turn; that a run does not run out of memory if there is ample (`sporc_commands_tests`,
+//! turn; that a run does not run out of memory if there is ample (`sporc_top_tests`,
 //! `examples/`). Neither: that a real file, port or terminal gives and keeps the bytes.
 #![tactic(auto)]
 

@@ -1,6 +1,6 @@
 //! Each fault of a session. Its objects are handed to it one by one, and how it ends if a call of
 //! one fails is known exactly; what commands do with theirs stands in the tables of
-//! `sporc_commands_tests/src/failing.rt`.
+//! `sporc_top_tests/src/failing.rt`.
 
 use crate::checks::{check_at, check_end};
 use crate::shared::scene::{LeafFile, Past};

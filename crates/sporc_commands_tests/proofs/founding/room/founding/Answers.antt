@@ -5,7 +5,7 @@ use Rattle.sporc_member.specs.Device.{IsMember}
 use Rattle.sporc_words.specs.declared.standing.Standing.TheVariants.{Founder, Joiner}
 use Rattle.sporc_words.specs.declared.standing.Participant.{Participant}
 use Rattle.sporc_words.specs.Values.{may_found}
-use Rattle.sporc_files_tests.proofs.founding.room.founding.Goals as goal
+use Rattle.sporc_commands_tests.proofs.founding.room.founding.Goals as goal
 
 -- who is named
 abbrev the_three : List Participant
