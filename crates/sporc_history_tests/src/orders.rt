@@ -49,7 +49,7 @@ fn answers(
     message: &ToServer,
     wanted: &str,
 ) {
-    let reply = session.reply(alloc, order, message).expect(rt, "memory");
+    let reply = session.step(alloc, order, message).expect(rt, "memory");
     check(rt, wanted, heard_in(&reply) == wanted);
 }
 

@@ -11,9 +11,9 @@
 //! order.submit_examined(&examined)?;        // answers as submit does
 //! // the longest batch from the first entry on that its limits allow
 //! order.pull(0)
-//! session.reply(&mut order, &message)       // what is sent, nothing, or that the session ends
+//! session.step(&mut order, &message)       // what is sent, nothing, or that the session ends
 //! // a reply where a tail keeps each entry before the order takes it
-//! session.reply_kept(.., &mut tail)
+//! session.step_kept(.., &mut tail)
 //! ```
 //!
 //! Proved: an entry is appended exactly if no check fails, whatever is known of its signature; an

@@ -59,7 +59,7 @@ impl Session {
     /// Answers a message: Close exactly if the first message isn't Hello with the order's document,
     /// or a later one is Hello. Silent for the first Hello. Each entry that is sent is copied once,
     /// into the frame.
-    pub fn reply(
+    pub fn step(
         &mut self,
         alloc: Global,
         order: &mut Order,
@@ -72,11 +72,11 @@ impl Session {
         ensures memory { OnErr result (order.new ≡ order.old) }
         ensures unchanged { OnErr result (self.new ≡ self.old) }
     {
-        self.reply_known(alloc, order, message, None)
+        self.step_known(alloc, order, message, None)
     }
 
-    /// Answers a message as [`Session::reply`] does, where a verdict of its entry may be known.
-    pub fn reply_known(
+    /// Answers a message as [`Session::step`] does, where a verdict of its entry may be known.
+    pub fn step_known(
         &mut self,
         alloc: Global,
         order: &mut Order,
@@ -91,12 +91,12 @@ impl Session {
         ensures memory { OnErr result (order.new ≡ order.old) }
         ensures unchanged { OnErr result (self.new ≡ self.old) }
     {
-        answered(self.reply_kept(alloc, order, message, known, &mut NoTail))
+        answered(self.step_kept(alloc, order, message, known, &mut NoTail))
     }
 
-    /// Answers a message as [`Session::reply_known`] does, where a tail keeps its entry before the
+    /// Answers a message as [`Session::step_known`] does, where a tail keeps its entry before the
     /// order takes it.
-    pub fn reply_kept<T: Tail>(
+    pub fn step_kept<T: Tail>(
         &mut self,
         alloc: Global,
         order: &mut Order,

@@ -107,7 +107,7 @@ impl<T: Tail> Desk<T> {
     {
         self.numbers.reserve(1)?;
         let before = self.order.len();
-        let reply = session.reply_kept(alloc, &mut self.order, message, known, &mut self.tail)?;
+        let reply = session.step_kept(alloc, &mut self.order, message, known, &mut self.tail)?;
         if self.order.len() > before {
             self.numbers.push_reserved(number);
         }

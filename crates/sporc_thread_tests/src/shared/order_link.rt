@@ -40,7 +40,7 @@ impl Server {
 
     // Answers a message.
     fn answer(&mut self, message: &ToServer) -> Result<(), Failed> {
-        match self.session.reply(self.alloc, &mut self.order, message) {
+        match self.session.step(self.alloc, &mut self.order, message) {
             Ok(reply) => put_reply(&mut self.answers, &reply),
             Err(_) => Err(Failed),
         }
