@@ -2,6 +2,7 @@ pub mod Told
 pub mod Streams
 pub mod Counts
 pub mod Uses
+pub mod Reading
 pub mod Writing
 pub mod LeafDisk
 pub mod Files

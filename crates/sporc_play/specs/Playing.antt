@@ -5,9 +5,9 @@ use Rattle.sporc_outside.specs.Counts.{Rose}
 use Rattle.sporc_outside.specs.Uses.{Use}
 use Rattle.sporc_outside.specs.Writing.{AppendsPrefix}
 use Rattle.sporc_outside.specs.Streams.{IsUnwritten, StreamTold}
-use Rattle.sporc_reading.specs.declared.reading.ReadFault.{ReadFault}
-use Rattle.sporc_reading.specs.declared.reading.ReadFault.TheVariants as reading
-use Rattle.sporc_reading.specs.Reading.{ConsumesExactly}
+use Rattle.sporc_outside.specs.declared.reading.ReadFault.{ReadFault}
+use Rattle.sporc_outside.specs.declared.reading.ReadFault.TheVariants as reading
+use Rattle.sporc_outside.specs.Reading.{ConsumesExactly}
 use Rattle.sporc_play.specs.declared.fault.PlayFault.{PlayFault}
 use Rattle.sporc_play.specs.declared.fault.PlayFault.TheVariants as faults
 use Rattle.sporc_play.specs.declared.playing.TheConstants.{MAX_SCRIPT}

@@ -4,8 +4,7 @@ ghost use Rattle.std.specs.Prelude.{◌≡◌};
 ghost use Rattle.sporc_play.specs.Playing.{line_fault, read_fault};
 ghost use Rattle.sporc_play.specs.declared.fault.PlayFault.TheVariants as faults;
 
-use sporc_outside::Failed;
-use sporc_reading::ReadFault;
+use sporc_outside::{Failed, ReadFault};
 use sporc_script::LineFault;
 use std::alloc::AllocError;
 use thiserror::Error;

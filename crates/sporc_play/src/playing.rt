@@ -2,7 +2,7 @@
 
 ghost use Rattle.std.specs.Prelude.{◌≡◌, ◌≢◌, ◌+◌, ◌≤◌, List, IfErr, OnOk, OnErr};
 ghost use Rattle.sporc_outside.specs.Uses.{use_of};
-ghost use Rattle.sporc_reading.specs.Reading.{ConsumesAtMost};
+ghost use Rattle.sporc_outside.specs.Reading.{ConsumesAtMost};
 ghost use Rattle.sporc_play.specs.Cast.{setup_of};
 ghost use Rattle.sporc_play.specs.Lines.{WritesLine, WritesPrefix};
 ghost use Rattle.sporc_play.specs.Playing.{IsShortScript, IsWriteCause, PlayOutcome};
@@ -12,8 +12,7 @@ ghost use Rattle.sporc_play.specs.Stage.{Becomes, CanPerform, StandsFor};
 
 use crate::fault::PlayFault;
 use crate::state::PlayState;
-use sporc_outside::{Sink, Source, write_all};
-use sporc_reading::read_all;
+use sporc_outside::{Sink, Source, read_all, write_all};
 use sporc_script::{Command, PlayLine, read_play};
 use std::alloc::Global;
 

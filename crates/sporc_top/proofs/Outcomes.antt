@@ -7,7 +7,7 @@ use Rattle.sporc_outside.specs.Uses.{Use}
 use Rattle.sporc_outside.specs.Streams.{IsUnwritten, StreamTold}
 use Rattle.sporc_outside.specs.Writing.{AppendsPrefix}
 use Rattle.sporc_outside.specs.LeafDisk.{DiskTold}
-use Rattle.sporc_reading.specs.Reading.{ConsumesExactly}
+use Rattle.sporc_outside.specs.Reading.{ConsumesExactly}
 use Rattle.sporc_script.specs.declared.command.Command.{Command as PlayCommand}
 use Rattle.sporc_script.specs.declared.play_line.PlayLine.{PlayLine}
 use Rattle.sporc_script.specs.Grammar.{IsNext, IsPlayFault, IsPlayScript, play_line}

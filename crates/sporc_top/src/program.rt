@@ -2,7 +2,7 @@
 
 ghost use Rattle.std.specs.Prelude.{◌≡◌, ◌+◌, ◌≤◌, false, map, string_bytes};
 ghost use Rattle.sporc_outside.specs.Uses.{use_of};
-ghost use Rattle.sporc_reading.specs.Reading.{ConsumesAtMost};
+ghost use Rattle.sporc_outside.specs.Reading.{ConsumesAtMost};
 ghost use Rattle.sporc_play.specs.declared.playing.TheConstants.{MAX_SCRIPT};
 ghost use Rattle.sporc_words.specs.Commands.{command_of};
 ghost use Rattle.sporc_files.specs.Faults.{WritesFaultLine, status_of};

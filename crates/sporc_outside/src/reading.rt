@@ -3,10 +3,11 @@
 ghost use Rattle.std.specs.Prelude.{◌≡◌, ◌+◌, ◌^◌, ◌<◌, ◌≤◌, length, Err, IfOk};
 ghost use Rattle.std.specs.Io.KnownBytes.{Consumes, IsAtEnd};
 ghost use Rattle.sporc_outside.specs.Counts.{Rose};
-ghost use Rattle.sporc_reading.specs.Reading.{ConsumesAtMost, ConsumesExactly};
-ghost use Rattle.sporc_reading.specs.declared.reading.ReadFault.TheVariants as faults;
+ghost use Rattle.sporc_outside.specs.Reading.{ConsumesAtMost, ConsumesExactly};
+ghost use Rattle.sporc_outside.specs.declared.reading.ReadFault.TheVariants as faults;
 
-use sporc_outside::{Failed, Source};
+use crate::counted::Failed;
+use crate::source::Source;
 use std::alloc::{AllocError, Global};
 use thiserror::Error;
 
