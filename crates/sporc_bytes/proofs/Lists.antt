@@ -1,7 +1,7 @@
 -- Values read one after another, as a loop reads them.
 use Rattle.std.proofs.Common.{◌≡◌, ℕ, suc, ◌-◌, ◌+◌, ◌≤◌, ◌<◌, List, [], ◌∷◌, ◌++◌, Result, Ok, Err, refl, sym, ap, ◌∙◌, append_assoc, arith}
 use Rattle.std.proofs.lemmas.List.{append-nil}
-use Rattle.sporc_bytes.specs.Fields.{◌>>=◌, values_at}
+use Rattle.sporc_bytes.specs.Fields.{Reading, ◌>>=◌, ascending_at, next_of, values_at}
 
 -- the values read before, and those that are read from here on
 abbrev pub with_front : {A S : Type 0} → List A → Result (List A × S) ℕ → Result (List A × S) ℕ
@@ -34,3 +34,41 @@ is_done {A} {S} read front count i s total le so_far =
     let made : List A → Result (List A × S) ℕ = λ xs. Ok (xs, s) in
     let one : with_front front (values_at read (count - i) s) ≡ Ok (front, s) = rw k (ap made (append-nil front)) in
     sym so_far ∙ one
+
+-- ---- values in ascending order of their numbers
+
+-- the values that were read up to a moment, and those from there on, are all of them
+pub record AreSoFar {A : Type 0} (read : ℕ → Reading → Result (A × Reading) ℕ) (number : A → ℕ) (first count : ℕ) (r : Reading) (front : List A) (i least : ℕ) (now : Reading) : Type 0 where
+  pub total : with_front front (values_at (next_of read number) (count - i) (least, now)) ≡ values_at (next_of read number) count (first, r)
+
+front_none : {A S : Type 0} (read : Result (List A × S) ℕ) → with_front [] read ≡ read
+front_none (Ok x) = refl
+front_none (Err at) = refl
+
+pub ascending_begins : {A : Type 0} (read : ℕ → Reading → Result (A × Reading) ℕ) (number : A → ℕ) (first count : ℕ) (r : Reading) → AreSoFar read number first count r [] 0 first r
+ascending_begins read number first count r =
+    let k : count - 0 ≡ count = omega arith in
+    let all = values_at (next_of read number) count (first, r) in
+    record { total = ap (λ (n : ℕ). with_front [] (values_at (next_of read number) n (first, r))) k ∙ front_none all }
+
+pub ascending_goes_on : {A : Type 0} {read : ℕ → Reading → Result (A × Reading) ℕ} {number : A → ℕ} {first count : ℕ} {r : Reading} {front : List A} {i least : ℕ} {now : Reading} (a : A) (after : Reading)
+    → i < count → read least now ≡ Ok (a, after) → AreSoFar read number first count r front i least now → AreSoFar read number first count r (front ++ a ∷ []) (i + 1) (number a + 1) after
+unfolding next_of
+ascending_goes_on {A} {read} {number} {first} {count} {r} {front} {i} {least} {now} a after lt h so_far =
+    let one : next_of read number (least, now) ≡ Ok (a, (number a + 1, after)) = rw h refl in
+    record { total = goes_on (next_of read number) front count i (least, now) a (number a + 1, after) (values_at (next_of read number) count (first, r)) lt one so_far.total }
+
+pub ascending_ends : {A : Type 0} {read : ℕ → Reading → Result (A × Reading) ℕ} {number : A → ℕ} {first count : ℕ} {r : Reading} {front : List A} {i least : ℕ} {now : Reading} (at : ℕ)
+    → i < count → read least now ≡ Err at → AreSoFar read number first count r front i least now → ascending_at read number first count r ≡ Err at
+unfolding ascending_at next_of
+ascending_ends {A} {read} {number} {first} {count} {r} {front} {i} {least} {now} at lt h so_far =
+    let one : next_of read number (least, now) ≡ Err at = rw h refl in
+    let all = ends (next_of read number) front count i (least, now) at (values_at (next_of read number) count (first, r)) lt one so_far.total in
+    rw all refl
+
+pub ascending_is_done : {A : Type 0} {read : ℕ → Reading → Result (A × Reading) ℕ} {number : A → ℕ} {first count : ℕ} {r : Reading} {front : List A} {i least : ℕ} {now : Reading}
+    → count ≤ i → AreSoFar read number first count r front i least now → ascending_at read number first count r ≡ Ok (front, now)
+unfolding ascending_at
+ascending_is_done {A} {read} {number} {first} {count} {r} {front} {i} {least} {now} le so_far =
+    let all = is_done (next_of read number) front count i (least, now) (values_at (next_of read number) count (first, r)) le so_far.total in
+    rw all refl

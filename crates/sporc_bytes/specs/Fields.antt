@@ -69,6 +69,22 @@ values_at read (suc n) s = do
   others ← values_at read n first.1
   Ok (first.0 ∷ others.0, others.1)
 
+-- a value whose number is at least this, and the least number of the one after it
+unfoldable pub next_of :
+    {A : Type 0} → (ℕ → Reading → Result (A × Reading) ℕ) → (A → ℕ)
+    → ℕ × Reading → Result (A × (ℕ × Reading)) ℕ
+next_of read number (least, r) = do
+  value ← read least r
+  Ok (value.0, (number value.0 + 1, value.1))
+
+-- so many values in ascending order of their numbers, the first of which is at least this
+unfoldable pub ascending_at :
+    {A : Type 0} → (ℕ → Reading → Result (A × Reading) ℕ) → (A → ℕ)
+    → ℕ → ℕ → Reading → Result (List A × Reading) ℕ
+ascending_at read number first n r = do
+  values ← values_at (next_of read number) n (first, r)
+  Ok (values.0, values.1.1)
+
 -- nothing is left
 abbrev pub end_at : Reading → Result (Unit {0}) ℕ
 end_at r = elim r.rest [ [] ↦ Ok tt | b ∷ bs ↦ Err r.at ]

@@ -1,41 +1,16 @@
 -- Every run keeps the headline.
 use Rattle.std.proofs.Common.{◌≡◌, ℕ, ◌+◌, ◌≤◌, Bool, true, false, cond, List, ◌++◌, length, take, refl, ap, sym, ◌∙◌, subst, arith, Option, None, Some}
-use Rattle.std.specs.Prelude.{◌↔◌, fold, slice_get, IsSome, IsSomeAnd, Ok}
+use Rattle.sporc_client.proofs.Common.{fold, IsSomeAnd, Ok, public_key_in, verifies, same_device, same_one, take_all, CollisionFree, Device, Member, key_of_device, member_at, Entry, Genesis}
+use Rattle.sporc_client.proofs.Common.{author_device, entry_of, signed_string, Refusal, allows, allows_member, verifies_device, verifies_under, changes, epoch_of, hash_of, roster_of, epoch_key}
+use Rattle.sporc_client.proofs.Common.{first_fault, line_strings, operations, text_of, Good, Meets, Passes, good_entry, has_left, keys_meet, PlainClient, after_pending, committed_of, is_out}
+use Rattle.sporc_client.proofs.Common.{journal_has_room, or_full, refusal_of, Setup, World, Signing, Move, start, IsRun, given, world_at, HasSigned, IsReached, accepted, IsWellFormed}
+use Rattle.std.specs.Prelude.{◌↔◌, slice_get, IsSome}
 use Rattle.lms_tree.specs.declared.public_key.LmsPublic.{LmsPublic}
-use Rattle.lms_tree.specs.LmsPublic.{public_key_in}
-use Rattle.lms_tree.specs.Verification.{verifies}
-use Rattle.sporc_member.specs.Device.{same_device}
-use Rattle.sporc_member.proofs.SameDevice.{same_one}
-use Rattle.std.proofs.lemmas.List.{take_all}
-use Rattle.sporc_hash.specs.Strings.{CollisionFree}
-use Rattle.sporc_member.specs.declared.device.Device.{Device}
-use Rattle.sporc_member.specs.declared.member.Member.{Member}
-use Rattle.sporc_member.specs.Roster.{key_of as key_of_device, member_at}
-use Rattle.sporc_entry.specs.declared.entry.Entry.{Entry}
-use Rattle.sporc_entry.specs.declared.genesis.Genesis.{Genesis}
-use Rattle.sporc_entry.specs.Entry.{author_device, entry_of, signed_string}
-use Rattle.sporc_head.specs.declared.refusal.Refusal.{Refusal}
-use Rattle.sporc_head.specs.HeadChecks.{allows, allows_member, verifies_device, verifies_under}
-use Rattle.sporc_head.specs.History.{changes, epoch_of, hash_of, roster_of}
-use Rattle.sporc_line.specs.Keys.{epoch_key}
-use Rattle.sporc_line.specs.LineChecks.{first_fault}
-use Rattle.sporc_line.specs.LineStrings.{line_strings}
-use Rattle.sporc_line.specs.Operations.{operations}
 use Rattle.sporc_line.specs.Commitments.{commitment_after}
-use Rattle.sporc_line.specs.Document.{text_of}
-use Rattle.sporc_line.specs.Good.{Good, Meets}
-use Rattle.sporc_line.proofs.Passes.{Passes}
-use Rattle.sporc_line.proofs.Goods.{good_entry}
-use Rattle.sporc_line.proofs.SameKeys.{has_left, has_right, keys_meet, one_reading, one_text, same_key}
+use Rattle.sporc_line.proofs.SameKeys.{has_right, one_reading, one_text, same_key}
 use Rattle.sporc_client.specs.declared.fault.AcceptFault.TheVariants.{Refused}
-use Rattle.sporc_client.specs.PlainClient.{PlainClient, after_pending, committed_of}
-use Rattle.sporc_client.specs.Answers.{accept_fault, is_out, journal_has_room, or_full, refusal_of}
-use Rattle.sporc_client.specs.Run.{Setup, World, Signing, Move, start, IsRun, given, world_at}
-use Rattle.sporc_client.specs.Genuine.{HasSigned}
+use Rattle.sporc_client.specs.Answers.{accept_fault}
 use Rattle.sporc_client.specs.Agree.{Agree, NoCollision, IsClient, IsRightful, SameHistoryAndText, StandsBehind}
-use Rattle.sporc_client.specs.Reached.{IsReached}
-use Rattle.sporc_client.specs.Step.{accepted}
-use Rattle.sporc_client.specs.WellFormed.{IsWellFormed}
 use Rattle.sporc_client.proofs.Worlds.{gives_to, with_client}
 use Rattle.sporc_client.proofs.InHistories.{named_prefix, one_hash, one_place, one_prefix, same_base}
 use Rattle.sporc_client.proofs.Reached.{reached_at}
@@ -85,12 +60,11 @@ same_history s i j c d one two free h =
     let gc = genesis_of s i c one in
     let gd = genesis_of s j d two in
     let same = alike g c d (good_of s i c one) (good_of s j d two) (free_of s i j c d one two free) h in
-    let text : committed_of c ≡ committed_of d =
-    ap (λ (g : Genesis). text_of g c.opening.kit c.entries) gc ∙ same.text ∙ sym (ap (λ (g : Genesis). text_of g d.opening.kit d.entries) gd) in
+    let text : committed_of c ≡ committed_of d = rw (gc, gd) same.text in
     record {
       entries = same.entries;
-      operations = ap (λ (g : Genesis). operations g c.opening.kit c.entries) gc ∙ same.operations ∙ sym (ap (λ (g : Genesis). operations g d.opening.kit d.entries) gd);
-      members = ap (λ (g : Genesis). roster_of g c.entries) gc ∙ ap (roster_of g) same.entries ∙ sym (ap (λ (g : Genesis). roster_of g d.entries) gd);
+      operations = rw (gc, gd) same.operations;
+      members = rw (gc, gd) (ap (roster_of g) same.entries);
       text = text;
       shown = λ p q. ap (fold after_pending (committed_of c)) p ∙ text ∙ sym (ap (fold after_pending (committed_of d)) q);
     }

@@ -1,20 +1,10 @@
 -- Every call of a client is moves of it, or changes nothing.
 use Rattle.std.proofs.Common.{◌≡◌, ℕ, ◌≤◌, Bool, true, false, cond, List, [], ◌∷◌, ◌++◌, length, take, refl, ap, sym, ◌∙◌, subst, Option, Some}
-use Rattle.std.specs.Prelude.{◌≢◌, Contains, IsSomeAnd}
-use Rattle.std.specs.FinMap.{get}
-use Rattle.std.proofs.lemmas.Bool.{and_parts}
-use Rattle.std.proofs.lemmas.List.Sums.{fold-append}
-use Rattle.sporc_member.specs.declared.device.Device.{Device}
-use Rattle.sporc_member.specs.Device.{same_device}
-use Rattle.sporc_member.proofs.SameDevice.{same_one}
-use Rattle.sporc_epoch.specs.Keys.{Keys}
-use Rattle.sporc_line.specs.Good.{Meets}
-use Rattle.sporc_client.specs.Allowed.{can_log, can_log_all, is_allowed}
+use Rattle.sporc_client.proofs.Common.{◌≢◌, Contains, IsSomeAnd, get, and_parts, fold-append, Device, same_device, same_one, Keys, Meets, can_log, can_log_all, Logged, Opening, PlainClient, opened}
+use Rattle.sporc_client.proofs.Common.{Setup, World, Move, Open, Restart, IsRun, after, after_all, opening_of, log_of_entries, replay_from, step}
+use Rattle.sporc_client.specs.Allowed.{is_allowed}
 use Rattle.sporc_client.specs.Calls.{LeadTo, events_of}
-use Rattle.sporc_client.specs.Log.{Logged}
-use Rattle.sporc_client.specs.PlainClient.{Opening, PlainClient, opened}
-use Rattle.sporc_client.specs.Run.{Setup, World, Move, Open, Restart, IsRun, after, after_all, opening_of}
-use Rattle.sporc_client.specs.Step.{log_of_entries, replay, replay_from, step}
+use Rattle.sporc_client.specs.Step.{replay}
 use Rattle.sporc_client.proofs.Worlds.{happens_to, restarted, restarts, with_client}
 use Rattle.sporc_client.proofs.Kept.{step_opening}
 use Rattle.sporc_client.proofs.Reached.{put_same}

@@ -1,14 +1,10 @@
 -- What passing the checks of a call tells.
-use Rattle.std.specs.Prelude.{◌≡◌, ℕ, ◌<◌, ◌≤◌, nat_le, nat_lt, ◌==◌, Bool, true, false, not, List, [], ◌∷◌, length, None, refl}
-use Rattle.std.proofs.lemmas.Bool.{eqb-true, le-leb, leb-true, ltb-true}
-use Rattle.sporc_base.specs.FirstFault.{first_of, unless}
-use Rattle.sporc_delta.specs.Format.{delta_bytes}
-use Rattle.sporc_delta.specs.Marks.{Mark, base_len}
-use Rattle.sporc_member.proofs.Checks.{passes}
+use Rattle.sporc_client.proofs.Common.{◌≡◌, ℕ, ◌<◌, ◌≤◌, nat_le, nat_lt, ◌==◌, Bool, true, false, not, List, length, None, refl, Option, Some, is_none, ◌+◌, eqb-true, le-leb, leb-true, ltb-true}
+use Rattle.sporc_client.proofs.Common.{first_of, unless, delta_bytes, Mark, base_len, passes, MAX_EDIT_BYTES, MAX_EVENTS, MAX_PENDING, change_checks, edit_checks, has_right, is_out, restart_fault}
+use Rattle.sporc_client.proofs.Common.{discard_fault, journal_has_room, or_full, refusal_of, PlainClient, shown_after, Edit, Change, Accept, Discard, MemberChange, Refusal}
 use Rattle.sporc_client.specs.declared.fault.EditFault.TheVariants as edits
-use Rattle.sporc_client.specs.declared.limits.TheConstants.{MAX_EDIT_BYTES, MAX_EVENTS, MAX_PENDING}
-use Rattle.sporc_client.specs.Answers.{change_checks, change_fault, edit_checks, edit_fault, has_right, is_out, restart_fault, room_checks}
-use Rattle.sporc_client.specs.PlainClient.{PlainClient, shown_after}
+use Rattle.sporc_client.specs.Answers.{change_fault, edit_fault, room_checks, accept_fault}
+use Rattle.sporc_client.specs.Allowed.{can_log}
 
 -- one more item may be pending, and one more event be
 pub record HasRoom (c : PlainClient) : Type 0 where
@@ -17,16 +13,14 @@ pub record HasRoom (c : PlainClient) : Type 0 where
 
 room_passed : (c : PlainClient) → first_of (room_checks (length c.pending) (length c.shown)) ≡ None → HasRoom c
 room_passed c h =
-    let events = unless (nat_lt (length c.shown) MAX_EVENTS) edits.JournalFull ∷ [] in
-    let a = passes (nat_lt (length c.pending) MAX_PENDING) edits.PendingFull events h in
-    let b = passes (nat_lt (length c.shown) MAX_EVENTS) edits.JournalFull [] a.1 in
+    let a = passes (nat_lt (length c.pending) MAX_PENDING) edits.PendingFull _ h in
+    let b = passes (nat_lt (length c.shown) MAX_EVENTS) edits.JournalFull _ a.1 in
     record { pending = ltb-true (length c.pending) MAX_PENDING a.0; events = ltb-true (length c.shown) MAX_EVENTS b.0 }
 
 pub change_passed : (c : PlainClient) → first_of (change_checks c) ≡ None → HasRoom c
 change_passed c h =
-    let room = room_checks (length c.pending) (length c.shown) in
-    let a = passes (not (is_out c)) edits.Removed (unless (has_right c 2) edits.NoRight ∷ room) h in
-    let b = passes (has_right c 2) edits.NoRight room a.1 in
+    let a = passes (not (is_out c)) edits.Removed _ h in
+    let b = passes (has_right c 2) edits.NoRight _ a.1 in
     room_passed c b.1
 
 pub record EditPassed (c : PlainClient) (seen : ℕ) (marks : List Mark) : Type 0 where
@@ -37,15 +31,11 @@ pub record EditPassed (c : PlainClient) (seen : ℕ) (marks : List Mark) : Type 
 
 pub edit_passed : (c : PlainClient) (seen : ℕ) (marks : List Mark) → first_of (edit_checks c seen marks) ≡ None → EditPassed c seen marks
 edit_passed c seen marks h =
-    let room = room_checks (length c.pending) (length c.shown) in
-    let long = unless (nat_le (length (delta_bytes marks)) MAX_EDIT_BYTES) (edits.TooLong (length (delta_bytes marks))) ∷ room in
-    let wrong = unless (base_len marks == length (shown_after seen c)) edits.WrongLength ∷ long in
-    let ahead = unless (nat_le seen (length c.shown)) (edits.SeenAhead (length c.shown)) ∷ wrong in
-    let a = passes (not (is_out c)) edits.Removed (unless (has_right c 1) edits.NoRight ∷ ahead) h in
-    let b = passes (has_right c 1) edits.NoRight ahead a.1 in
-    let d = passes (nat_le seen (length c.shown)) (edits.SeenAhead (length c.shown)) wrong b.1 in
-    let e = passes (base_len marks == length (shown_after seen c)) edits.WrongLength long d.1 in
-    let f = passes (nat_le (length (delta_bytes marks)) MAX_EDIT_BYTES) (edits.TooLong (length (delta_bytes marks))) room e.1 in
+    let a = passes (not (is_out c)) edits.Removed _ h in
+    let b = passes (has_right c 1) edits.NoRight _ a.1 in
+    let d = passes (nat_le seen (length c.shown)) (edits.SeenAhead (length c.shown)) _ b.1 in
+    let e = passes (base_len marks == length (shown_after seen c)) edits.WrongLength _ d.1 in
+    let f = passes (nat_le (length (delta_bytes marks)) MAX_EDIT_BYTES) (edits.TooLong (length (delta_bytes marks))) _ e.1 in
     record {
       within = leb-true seen (length c.shown) d.0;
       base = eqb-true (base_len marks) (length (shown_after seen c)) e.0;
@@ -71,3 +61,33 @@ has_room false h = absurd cc
 
 pub events_left : (events : ℕ) → unless (nat_lt events MAX_EVENTS) edits.JournalFull ≡ None → events < MAX_EVENTS
 events_left events h = ltb-true events MAX_EVENTS (has_room (nat_lt events MAX_EVENTS) h)
+
+room_left : (room : Bool) (refusal : Option Refusal) → or_full room refusal ≡ None → room ≡ true
+room_left true refusal h = refl
+room_left false None h = absurd cc
+room_left false (Some refusal) h = absurd cc
+
+pub accept_room : (events : ℕ) (refusal : Option Refusal) → or_full (nat_lt events MAX_EVENTS) refusal ≡ None → events < MAX_EVENTS
+accept_room events refusal h = ltb-true events MAX_EVENTS (room_left (nat_lt events MAX_EVENTS) refusal h)
+
+-- ---- and what an event that is allowed tells
+
+pub none_of : {X : Type 0} (o : Option X) → is_none o ≡ true → o ≡ None
+none_of None h = refl
+none_of (Some x) h = absurd cc
+
+pub edit_may : (c : PlainClient) (by seen : ℕ) (marks : List Mark) → can_log c (Edit by seen marks) ≡ true → EditPassed c seen marks
+unfolding can_log edit_fault
+edit_may c by seen marks may = edit_passed c seen marks (none_of (first_of (edit_checks c seen marks)) may)
+
+pub change_may : (c : PlainClient) (by : ℕ) (change : MemberChange) → can_log c (Change by change) ≡ true → HasRoom c
+unfolding can_log change_fault
+change_may c by change may = change_passed c (none_of (first_of (change_checks c)) may)
+
+pub accept_may : (c : PlainClient) (by : ℕ) (bytes : List ℕ) → can_log c (Accept by bytes) ≡ true → length c.shown < MAX_EVENTS
+unfolding can_log accept_fault
+accept_may c by bytes may = accept_room (length c.shown) (refusal_of c (length c.entries + 1) bytes) (none_of (or_full (journal_has_room c) (refusal_of c (length c.entries + 1) bytes)) may)
+
+pub discard_may : (c : PlainClient) (by : ℕ) → can_log c (Discard by) ≡ true → length c.shown < MAX_EVENTS
+unfolding can_log
+discard_may c by may = events_left (length c.shown) (none_of (discard_fault c) may)

@@ -1,45 +1,21 @@
 -- What an entry that comes does, by its kinds, with what the fields become.
 use Rattle.std.proofs.Common.{◌≡◌, ℕ, ◌<◌, Bool, true, false, if◌then◌else◌, List, [], ◌∷◌, ◌++◌, length, Option, None, Some, Ok, refl, ap, sym, ◌∙◌, subst, arith}
+use Rattle.sporc_client.proofs.Common.{IsErr, Result, Err, append_nil, SignerModel, Mark, apply, base_len, out_len, Follow, reached, Device, same_device, ChangeBody, Entry, Genesis, author_device}
+use Rattle.sporc_client.proofs.Common.{change_of, entry_of, change_in, committed_by, is_read_by, Kit, LineModel, length-apply, Event, MAX_EVENTS, Pending, journal_has_room, or_full, refusal_of}
+use Rattle.sporc_client.proofs.Common.{ClientInvariant, client_model, plain_of, ClientModel, Effect, coming_of, effect, flight_after, pending_after, shown_form, Logged, Accept, log_of, Opening}
+use Rattle.sporc_client.proofs.Common.{PlainClient, committed_of, me_of, shown_of, AreOver, AreStated, beyond, rebased, accepted, change_comes, form_coming, is_flight, own_comes, SameOwn}
+use Rattle.sporc_client.proofs.Common.{WorkspaceModel}
 use Rattle.std.specs.Option.{is_some}
-use Rattle.std.specs.Prelude.{IsErr, nat_lt, Result, Err}
-use Rattle.std.proofs.lemmas.Bool.{ltb-true}
-use Rattle.std.proofs.lemmas.List.{append-nil as append_nil}
-use Rattle.lms_sign.specs.Signer.{SignerModel}
-use Rattle.sporc_delta.specs.Marks.{Mark, apply, base_len, inserted_len, out_len}
-use Rattle.sporc_suffix.specs.Forms.{Follow, reached}
-use Rattle.sporc_member.specs.declared.device.Device.{Device}
-use Rattle.sporc_member.specs.Device.{same_device}
-use Rattle.sporc_entry.specs.declared.change.ChangeBody.{ChangeBody}
-use Rattle.sporc_entry.specs.declared.entry.Entry.{Entry}
-use Rattle.sporc_entry.specs.declared.genesis.Genesis.{Genesis}
-use Rattle.sporc_entry.specs.Entry.{author_device, change_of, entry_of}
-use Rattle.sporc_head.specs.declared.refusal.Refusal.{Refusal}
-use Rattle.sporc_head.specs.History.{change_in, committed_by, is_by, is_read_by}
-use Rattle.sporc_line.specs.Document.{text_after}
-use Rattle.sporc_line.specs.Kit.{Kit}
-use Rattle.sporc_line.specs.LineModel.{LineModel}
+use Rattle.sporc_head.specs.History.{is_by}
 use Rattle.sporc_line.specs.Prepared.{IsPrepared, PreparedModel}
-use Rattle.sporc_line.proofs.FormLengths.{length-apply}
 use Rattle.sporc_client.specs.declared.coming.Coming.{Coming}
-use Rattle.sporc_client.specs.declared.event.Event.{Event}
-use Rattle.sporc_client.specs.declared.limits.TheConstants.{MAX_EVENTS}
-use Rattle.sporc_client.specs.declared.pending.Pending.{Pending}
 use Rattle.sporc_client.specs.declared.pending.Pending.TheVariants as items
-use Rattle.sporc_client.specs.Answers.{accept_fault, added, journal_has_room, or_full, refusal_of}
-use Rattle.sporc_client.specs.ClientInvariant.{ClientInvariant, client_model, plain_of}
-use Rattle.sporc_client.specs.ClientModel.{ClientModel}
-use Rattle.sporc_client.specs.Coming.{Effect, coming_of, effect, flight_after, pending_after, shown_form}
-use Rattle.sporc_client.specs.Log.{Logged, Accept, log_of}
-use Rattle.sporc_client.specs.PlainClient.{Opening, PlainClient, committed_of, me_of, shown_of}
-use Rattle.sporc_client.specs.Rebasing.{AreOver, AreStated, beyond, rebased}
-use Rattle.sporc_client.specs.Step.{accepted, change_comes, form_coming, is_flight, is_same_as, own_comes}
+use Rattle.sporc_client.specs.Answers.{accept_fault, added}
 use Rattle.sporc_client.specs.Taking.{CanSettle, Takes, coming_at, form_at}
-use Rattle.sporc_client.specs.Workspace.{SameOwn, WorkspaceModel}
-use Rattle.sporc_client.proofs.Accepting.{accepted_small, accepted_sound, allowed_accept, change_in_is}
-use Rattle.sporc_client.proofs.Events.{length_of_shown, rises, shown_length}
-use Rattle.sporc_client.proofs.Kept.{Recorded, Records, opening_of, recorded}
+use Rattle.sporc_client.proofs.Soundness.{accepted_sound, allowed_accept, change_in_is, comes}
+use Rattle.sporc_client.proofs.Events.{length_of_shown, shown_length}
+use Rattle.sporc_client.proofs.Kept.{Recorded, Records, opening_of, recorded_unsigned}
 use Rattle.sporc_client.proofs.Small.{lengths}
-use Rattle.sporc_client.proofs.Soundness.{comes}
 
 -- ---- by the kinds of an entry
 
@@ -106,9 +82,9 @@ follow_last base (f ∷ fs) form h = follow_last (out_len f) fs form h.1
 
 -- ---- an entry that was prepared
 
-module _ {D : Type 0} (line : LineModel) (signer : SignerModel D) (ticket : Option ℕ) (own : WorkspaceModel) (known : ClientInvariant line signer ticket own) (p : PreparedModel) (prepared : IsPrepared line.genesis line.kit line.entries p) where
+module _ {D : Type 0} {line : LineModel} {signer : SignerModel D} {ticket : Option ℕ} {own : WorkspaceModel} (known : ClientInvariant line signer ticket own) (p : PreparedModel) (prepared : IsPrepared line.genesis line.kit line.entries p) where
   -- the definition's step
-  accepted_here : accepted (plain_of signer.key line own) p.checked.bytes ≡ after_coming (plain_of signer.key line own) p.checked.bytes (coming_at line own p) (form_at own p)
+  accepted_here : accepted (plain_of signer.key line own) p.checked.bytes ≡ after_coming (plain_of signer.key line own) p.checked.bytes (coming_at line.kit.me own p.checked.bytes p) (form_at own p.checked.bytes p)
   accepted_here =
       let c = plain_of signer.key line own in
       let bytes = p.checked.bytes in
@@ -117,7 +93,7 @@ module _ {D : Type 0} (line : LineModel) (signer : SignerModel D) (ticket : Opti
       λ form len. after_coming c bytes (coming_of (is_flight c bytes) (is_some (change_of e)) (same_device (author_device e.header) (me_of c)) form c.pending) (shown_form (is_flight c bytes) (is_some (change_of e)) len form c.pending) in
       accepted_is c bytes e prepared.checked.read
       ∙ ap (λ (form : List Mark). became form (length (shown_of c))) (sym prepared.form_is)
-      ∙ ap (λ (len : ℕ). became p.form len) (sym (length_of_shown line signer ticket own known))
+      ∙ ap (λ (len : ℕ). became p.form len) (sym (length_of_shown known))
 
   pub can_settle : length own.shown < MAX_EVENTS → CanSettle own p
   can_settle room =
@@ -129,29 +105,24 @@ module _ {D : Type 0} (line : LineModel) (signer : SignerModel D) (ticket : Opti
       let F : PlainClient → Type 0 = λ d. Follow 0 d.shown in
       record {
         follow = known.sound.follow;
-        short = omega (arith, shown_length line signer ticket own known);
+        short = omega (arith, shown_length known);
         over = subst P (sym base) (stated_over (committed_of c) own.pending known.sound.stated);
         limit = omega (arith, base, l.committed, l.pending, prepared.small);
-        base = follow_last 0 own.shown (form_at own p) (subst F accepted_here (accepted_sound c p.checked.bytes known.sound prepared.passed).follow);
+        base = follow_last 0 own.shown (form_at own p.checked.bytes p) (subst F accepted_here (accepted_sound c p.checked.bytes known.sound prepared.passed).follow);
         room = room;
       }
 
-  pub accept_records : (line' : LineModel) (own' : WorkspaceModel) (by : ℕ) → length own.shown < MAX_EVENTS → Takes line line' own own' by p
-      → Records line line' signer signer ticket own own' (Accept by p.checked.bytes)
-  accept_records line' own' by room takes =
-      let c = plain_of signer.key line own in
-      let bytes = p.checked.bytes in
-      record {
+  pub accept_recorded : (line' : LineModel) (own' : WorkspaceModel) (by : ℕ) → length own.shown < MAX_EVENTS → Takes line line' own own' by p → Recorded line line' signer signer ticket own own' (Accept by p.checked.bytes)
+  accept_recorded line' own' by room takes =
+      let records : Records line line' signer signer own own' (Accept by p.checked.bytes) = record {
         key = refl;
         entries = takes.entries;
         journal = takes.journal;
         state = rw (takes.genesis, takes.kit, takes.entries, takes.pending, takes.flight, takes.shown) (sym accepted_here);
-        allowed = allowed_accept c by bytes prepared.passed room;
-        sound = accepted_sound c bytes known.sound prepared.passed;
-        small = accepted_small c bytes known.sound known.small prepared.passed (omega (arith, prepared.small, ap inserted_len prepared.form_is)) room;
-        unspent = known.unspent;
-        leaves = rises line signer ticket own known (Accept by bytes) refl;
-      }
+        allowed = allowed_accept (plain_of signer.key line own) by p.checked.bytes prepared.passed room;
+        of_item = tt;
+      } in
+      recorded_unsigned known records refl
 
 -- ---- fields that say the same
 
@@ -173,35 +144,26 @@ pub same_own : {own : WorkspaceModel} → SameOwn own own
 same_own = record { pending = refl; flight = refl; shown = refl; journal = refl }
 
 line_same : (line line' : LineModel) → SameLine line line' → line_with line'.spare line.genesis line.kit line.entries ≡ line'
-line_same line line' same =
-    ap (λ (g : Genesis). line_with line'.spare g line.kit line.entries) (sym same.genesis)
-    ∙ ap (λ (k : Kit). line_with line'.spare line'.genesis k line.entries) (sym same.kit)
-    ∙ ap (λ (es : List (List ℕ)). line_with line'.spare line'.genesis line'.kit es) (sym same.entries)
+line_same line line' same = rw (← same.genesis, ← same.kit, ← same.entries) refl
 
 own_same : (own own' : WorkspaceModel) → SameOwn own own' → own_with own'.spare own.pending own.flight own.shown own.journal ≡ own'
-own_same own own' same =
-    ap (λ (ps : List Pending). own_with own'.spare ps own.flight own.shown own.journal) (sym same.pending)
-    ∙ ap (λ (f : Option (List ℕ)). own_with own'.spare own'.pending f own.shown own.journal) (sym same.flight)
-    ∙ ap (λ (fs : List (List Mark)). own_with own'.spare own'.pending own'.flight fs own.journal) (sym same.shown)
-    ∙ ap (λ (es : List Event). own_with own'.spare own'.pending own'.flight own'.shown es) (sym same.journal)
+own_same own own' same = rw (← same.pending, ← same.flight, ← same.shown, ← same.journal) refl
 
 -- how much may be added without memory makes no difference
-module _ {D : Type 0} (line : LineModel) (signer : SignerModel D) (ticket : Option ℕ) (own : WorkspaceModel) (known : ClientInvariant line signer ticket own) where
-  with_spare : (s t : ℕ) → ClientInvariant (line_with s line.genesis line.kit line.entries) signer ticket (own_with t own.pending own.flight own.shown own.journal)
-  with_spare s t = record {
-    stores = record { entries = known.stores.entries; journal = known.stores.journal };
-    state = known.state;
-    allowed = known.allowed;
-    sound = known.sound;
-    small = known.small;
-    unspent = known.unspent;
-    leaves = known.leaves;
-  }
-
-  pub same_fields : (line' : LineModel) (own' : WorkspaceModel) → SameLine line line' → SameOwn own own' → ClientInvariant line' signer ticket own'
-  same_fields line' own' lines owns =
-      subst (λ (l : LineModel). ClientInvariant l signer ticket own') (line_same line line' lines)
-      (subst (λ (w : WorkspaceModel). ClientInvariant (line_with line'.spare line.genesis line.kit line.entries) signer ticket w) (own_same own own' owns) (with_spare line'.spare own'.spare))
+pub same_fields : {D : Type 0} {line : LineModel} {signer : SignerModel D} {ticket : Option ℕ} {own : WorkspaceModel} → ClientInvariant line signer ticket own
+    → (line' : LineModel) (own' : WorkspaceModel) → SameLine line line' → SameOwn own own' → ClientInvariant line' signer ticket own'
+same_fields {line = line} {signer = signer} {ticket = ticket} {own = own} known line' own' lines owns =
+    let with_spare : ClientInvariant (line_with line'.spare line.genesis line.kit line.entries) signer ticket (own_with own'.spare own.pending own.flight own.shown own.journal) = record {
+      stores = record { entries = known.stores.entries; journal = known.stores.journal };
+      state = known.state;
+      allowed = known.allowed;
+      sound = known.sound;
+      small = known.small;
+      unspent = known.unspent;
+      leaves = known.leaves;
+    } in
+    subst (λ (l : LineModel). ClientInvariant l signer ticket own') (line_same line line' lines)
+    (subst (λ (w : WorkspaceModel). ClientInvariant (line_with line'.spare line.genesis line.kit line.entries) signer ticket w) (own_same own own' owns) with_spare)
 
 -- nor to what contracts see
 pub same_model : {D : Type 0} (line line' : LineModel) (signer : SignerModel D) (ticket : Option ℕ) (own own' : WorkspaceModel) → SameLine line line' → SameOwn own own'
@@ -219,9 +181,9 @@ more_with line signer ticket own event = record (client_model line signer ticket
 abbrev model_with : {D : Type 0} → SignerModel D → Option ℕ → Opening → List Logged → ClientModel D
 model_with signer ticket opening log = record { opening = opening; log = log; leaves = signer.leaves; ticket = ticket }
 
-pub model_more : {D : Type 0} (line line' : LineModel) (signer : SignerModel D) (ticket : Option ℕ) (own own' : WorkspaceModel) (event : Logged) → Recorded line line' signer signer ticket own own' event
+pub model_more : {D : Type 0} {line line' : LineModel} {signer : SignerModel D} {ticket : Option ℕ} {own own' : WorkspaceModel} {event : Logged} → Recorded line line' signer signer ticket own own' event
     → client_model line' signer ticket own' ≡ more_with line signer ticket own event
-model_more line line' signer ticket own own' event did =
+model_more {line = line} {line' = line'} {signer = signer} {ticket = ticket} {own' = own'} did =
     ap (λ (o : Opening). model_with signer ticket o (log_of line'.entries own'.journal)) did.opening_is ∙ ap (model_with signer ticket (opening_of line signer)) did.log_is
 
 -- no event more
@@ -233,44 +195,28 @@ pub accept_fault_is : (c : PlainClient) (position : ℕ) (bytes : List ℕ) → 
 unfolding accept_fault
 accept_fault_is c position bytes = refl
 
-room_left : (room : Bool) (refusal : Option Refusal) → or_full room refusal ≡ None → room ≡ true
-room_left true refusal h = refl
-room_left false None h = absurd cc
-room_left false (Some refusal) h = absurd cc
-
-pub accept_room : (events : ℕ) (refusal : Option Refusal) → or_full (nat_lt events MAX_EVENTS) refusal ≡ None → events < MAX_EVENTS
-accept_room events refusal h = ltb-true events MAX_EVENTS (room_left (nat_lt events MAX_EVENTS) refusal h)
-
 -- fields that are the same lead to one entry on its way
 pub same_flight : (coming : Coming) (ps qs : List Pending) (f g : Option (List ℕ)) → ps ≡ qs → f ≡ g → flight_after (effect coming ps) f ≡ flight_after (effect coming qs) g
-same_flight coming ps qs f g one other = ap (λ (l : List Pending). flight_after (effect coming l) f) one ∙ ap (flight_after (effect coming qs)) other
+same_flight coming ps qs f g one other = rw (one, other) refl
 
 -- what the code settles on is what the definition does
 pub coming_there : (line : LineModel) (own : WorkspaceModel) (p : PreparedModel) (bytes : List ℕ) (me : Device) (coming : Coming) → p.checked.bytes ≡ bytes → me ≡ line.kit.me
-    → effect coming own.pending ≡ coming_of (is_same_as own.flight bytes) (is_some (change_of p.checked.entry)) (same_device (author_device p.checked.entry.header) me) p.form own.pending → effect coming own.pending ≡ coming_at line own p
-coming_there line own p bytes me coming is me_is settled =
-    settled
-    ∙ ap (λ (b : List ℕ). coming_of (is_same_as own.flight b) (is_some (change_of p.checked.entry)) (same_device (author_device p.checked.entry.header) me) p.form own.pending) (sym is)
-    ∙ ap (λ (me : Device). coming_of (is_same_as own.flight p.checked.bytes) (is_some (change_of p.checked.entry)) (same_device (author_device p.checked.entry.header) me) p.form own.pending) me_is
+    → effect coming own.pending ≡ coming_at me own bytes p → effect coming own.pending ≡ coming_at line.kit.me own p.checked.bytes p
+coming_there line own p bytes me coming is me_is settled = rw (is, ← me_is) settled
 
-pub form_there : (own : WorkspaceModel) (p : PreparedModel) (bytes : List ℕ) (form : List Mark) → p.checked.bytes ≡ bytes
-    → form ≡ shown_form (is_same_as own.flight bytes) (is_some (change_of p.checked.entry)) (length (text_after own.shown)) p.form own.pending → form ≡ form_at own p
-form_there own p bytes form is settled =
-    settled ∙ ap (λ (b : List ℕ). shown_form (is_same_as own.flight b) (is_some (change_of p.checked.entry)) (length (text_after own.shown)) p.form own.pending) (sym is)
+pub form_there : (own : WorkspaceModel) (p : PreparedModel) (bytes : List ℕ) (form : List Mark) → p.checked.bytes ≡ bytes → form ≡ form_at own bytes p → form ≡ form_at own p.checked.bytes p
+form_there own p bytes form is settled = rw is settled
 
 -- an entry that was prepared is taken
-module _ {D : Type 0} (line line1 : LineModel) (signer : SignerModel D) (ticket : Option ℕ) (own : WorkspaceModel) (known : ClientInvariant line signer ticket own) (p : PreparedModel) (lines : SameLine line line1) (prepared : IsPrepared line.genesis line.kit line.entries p) where
+module _ {D : Type 0} {line : LineModel} {signer : SignerModel D} {ticket : Option ℕ} {own : WorkspaceModel} (known : ClientInvariant line signer ticket own) (line1 : LineModel) (p : PreparedModel) (lines : SameLine line line1) (prepared : IsPrepared line.genesis line.kit line.entries p) where
   pub prepared_there : IsPrepared line1.genesis line1.kit line1.entries p
   prepared_there = subst (λ (l : LineModel). IsPrepared l.genesis l.kit l.entries p) (line_same line line1 lines) prepared
 
-  pub accept_recorded : (line' : LineModel) (own' : WorkspaceModel) (by : ℕ) → length own.shown < MAX_EVENTS → Takes line1 line' own own' by p
-      → Recorded line1 line' signer signer ticket own own' (Accept by p.checked.bytes)
-  accept_recorded line' own' by room takes =
-      let known1 = same_fields line signer ticket own known line1 own lines same_own in
-      recorded line1 line' signer signer ticket ticket own own' (Accept by p.checked.bytes) known1 (accept_records line1 signer ticket own known1 p prepared_there line' own' by room takes)
+  pub accepted_there : (line' : LineModel) (own' : WorkspaceModel) (by : ℕ) → length own.shown < MAX_EVENTS → Takes line1 line' own own' by p → Recorded line1 line' signer signer ticket own own' (Accept by p.checked.bytes)
+  accepted_there line' own' by room takes = accept_recorded (same_fields known line1 own lines same_own) p prepared_there line' own' by room takes
 
   pub accept_model : (line' : LineModel) (own' : WorkspaceModel) (by : ℕ) → length own.shown < MAX_EVENTS → Takes line1 line' own own' by p
       → client_model line' signer ticket own' ≡ more_with line signer ticket own (Accept by p.checked.bytes)
   accept_model line' own' by room takes =
       let M : ClientModel D → ClientModel D = λ m. record m { log = m.log ++ Accept by p.checked.bytes ∷ [] } in
-      model_more line1 line' signer ticket own own' (Accept by p.checked.bytes) (accept_recorded line' own' by room takes) ∙ ap M (same_model line line1 signer ticket own own lines same_own)
+      model_more (accepted_there line' own' by room takes) ∙ ap M (same_model line line1 signer ticket own own lines same_own)

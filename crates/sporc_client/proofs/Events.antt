@@ -1,35 +1,20 @@
 -- Each event of a call, with what the fields become.
-use Rattle.std.proofs.Common.{◌≡◌, ℕ, ◌+◌, ◌<◌, ◌≤◌, ◌^◌, true, List, [], ◌∷◌, ◌++◌, length, take, drop, None, Option, refl, ap, sym, ◌∙◌, subst, arith}
-use Rattle.std.proofs.lemmas.Bool.{lt-ltb}
-use Rattle.std.proofs.lemmas.List.{append-nil as append_nil, take-append-drop}
-use Rattle.std.proofs.lemmas.List.Elements.{filter_map-append}
-use Rattle.lms_sign.specs.Signer.{SignerModel}
-use Rattle.sporc_base.specs.FirstFault.{first_of}
-use Rattle.sporc_delta.specs.declared.limits.TheConstants.{MAX_TEXT_LEN}
-use Rattle.sporc_delta.specs.Marks.{Mark, base_len, inserted_len, replacement, keep_marks}
-use Rattle.sporc_delta.proofs.Lengths.{base_len-keep_marks}
-use Rattle.sporc_suffix.specs.Forms.{all_inserted, later_over, reached}
-use Rattle.sporc_suffix.proofs.Following.{all_inserted-append, Follow-take}
-use Rattle.sporc_member.specs.declared.change.Change.{Change as MemberChange}
-use Rattle.sporc_line.specs.Document.{text_after}
-use Rattle.sporc_line.specs.LineModel.{LineModel}
-use Rattle.sporc_line.proofs.FormLengths.{length-text, reached-le}
+use Rattle.std.proofs.Common.{◌≡◌, ℕ, ◌+◌, ◌<◌, ◌≤◌, ◌^◌, true, List, [], ◌∷◌, ◌++◌, length, take, drop, None, Option, refl, ap, sym, ◌∙◌, subst, arith, Some, Result}
+use Rattle.sporc_client.proofs.Common.{lt-ltb, eq-eqb, append_nil, take-append-drop, filter_map-append, SignerModel, first_of, MAX_TEXT_LEN, Mark, base_len, inserted_len, replacement, all_inserted}
+use Rattle.sporc_client.proofs.Common.{later_over, reached, all_inserted-append, Follow-take, MemberChange, text_after, LineModel, length-text, reached-le, MAX_EVENTS, MAX_SHOWN_LEN, is_drop}
+use Rattle.sporc_client.proofs.Common.{change_checks, edit_checks, ClientInvariant, plain_of, client_model, AreInOrder, leaf_in, leaves_of, ClientModel, state_of, Logged, Edit, Change, Discard}
+use Rattle.sporc_client.proofs.Common.{log_of, Dropped, Submit, entries_by, stored_event, PlainClient, committed_of, shown_of, keeps, restated, step, WorkspaceModel, IfSome, LmsPrivate, height_of}
+use Rattle.sporc_client.proofs.Common.{LeavesModel, ChangeFault, IsSubmission, Drop, due, step_of, submission, LeafFault, SubmitFault, Step}
 use Rattle.sporc_client.specs.declared.event.Event.TheVariants as events
-use Rattle.sporc_client.specs.declared.limits.TheConstants.{MAX_EVENTS, MAX_SHOWN_LEN}
 use Rattle.sporc_client.specs.declared.pending.Pending.TheVariants as items
 use Rattle.sporc_client.specs.Allowed.{can_log}
-use Rattle.sporc_client.specs.Answers.{change_checks, edit_checks}
-use Rattle.sporc_client.specs.ClientInvariant.{ClientInvariant, plain_of}
-use Rattle.sporc_client.specs.ClientModel.{AreInOrder, leaf_in, leaves_of}
-use Rattle.sporc_client.specs.Log.{Logged, Edit, Change, Discard, log_of}
-use Rattle.sporc_client.specs.PlainClient.{PlainClient, committed_of, shown_of}
-use Rattle.sporc_client.specs.Step.{keeps, restated}
-use Rattle.sporc_client.specs.Workspace.{WorkspaceModel}
-use Rattle.sporc_client.proofs.Checked.{EditPassed, change_fault_is, change_passed, edit_fault_is, edit_passed}
-use Rattle.sporc_client.proofs.Kept.{Records}
+use Rattle.sporc_client.proofs.Checked.{EditPassed, change_fault_is, edit_fault_is}
+use Rattle.sporc_client.proofs.Kept.{Records, IsOfItem, Recorded, recorded, recorded_unsigned, state_is}
 use Rattle.sporc_client.proofs.Shown.{LeadTo, base_len-replacement, base_restated, length_shown}
-use Rattle.sporc_client.proofs.Small.{change_small, discard_small, edit_small, inserted_len-bytes, length-shown, lengths}
-use Rattle.sporc_client.proofs.Soundness.{change_sound, discard_sound, edit_sound}
+use Rattle.sporc_client.proofs.Small.{inserted_len-bytes, length-shown, lengths}
+use Rattle.sporc_member.specs.ChangeFault.{change_fault_code_of}
+use Rattle.sporc_client.proofs.SubmitLeaves.{signed_kept}
+use Rattle.sporc_client.proofs.Submitting.{answer_for, answers}
 
 allowed_change : (c : PlainClient) (by : ℕ) (change : MemberChange) → first_of (change_checks c) ≡ None → can_log c (Change by change) ≡ true
 unfolding can_log
@@ -39,13 +24,17 @@ allowed_edit : (c : PlainClient) (by seen : ℕ) (marks : List Mark) → first_o
 unfolding can_log
 allowed_edit c by seen marks checks = rw (edit_fault_is c seen marks, checks) refl
 
--- the leaves of a log, behind an event that signs nothing
-leaves_same : (log : List Logged) (event : Logged) → leaf_in event ≡ None → leaves_of (log ++ event ∷ []) ≡ leaves_of log
-leaves_same log event none = filter_map-append leaf_in log (event ∷ []) ∙ ap (λ (ns : List ℕ). leaves_of log ++ ns) (rw none refl) ∙ append_nil (leaves_of log)
-
 allowed_discard : (c : PlainClient) (by : ℕ) → length c.shown < MAX_EVENTS → can_log c (Discard by) ≡ true
 unfolding can_log
 allowed_discard c by room = rw (lt-ltb (length c.shown) MAX_EVENTS room) refl
+
+drop_allowed : (c : PlainClient) (by : ℕ) (fault : ChangeFault) → due c ≡ Drop fault → can_log c (Dropped by fault) ≡ true
+unfolding can_log
+drop_allowed c by fault is = ap (is_drop fault) is ∙ eq-eqb (change_fault_code_of fault) (change_fault_code_of fault) refl
+
+submit_allowed : (c : PlainClient) (by leaf : ℕ) (bytes : List ℕ) → IsSubmission c leaf bytes → can_log c (Submit by bytes) ≡ true
+unfolding can_log
+submit_allowed c by leaf bytes is = is.allowed
 
 -- what restating an edit asks of the shown deltas
 pub record EditLimits (shown : List (List Mark)) (seen : ℕ) (marks : List Mark) : Type 0 where
@@ -54,30 +43,11 @@ pub record EditLimits (shown : List (List Mark)) (seen : ℕ) (marks : List Mark
   pub limit : base_len marks + inserted_len marks + all_inserted (drop seen shown) ≤ MAX_TEXT_LEN
   pub restated_base : base_len (later_over marks (drop seen shown)) ≡ reached 0 shown
 
-module _ {D : Type 0} (line : LineModel) (signer : SignerModel D) (ticket : Option ℕ) (own : WorkspaceModel) (known : ClientInvariant line signer ticket own) where
-  pub rises : (event : Logged) → leaf_in event ≡ None → AreInOrder signer.leaves.next_at_open signer.leaves.next ticket (leaves_of (log_of line.entries own.journal ++ event ∷ []))
-  rises event none =
-      let L : List ℕ → Type 0 = λ ns. AreInOrder signer.leaves.next_at_open signer.leaves.next ticket ns in
-      subst L (sym (leaves_same (log_of line.entries own.journal) event none)) known.leaves
+-- the leaves of a log, behind an event that signs with one
+leaves_more : (log : List Logged) (event : Logged) (leaf : ℕ) → leaf_in event ≡ Some leaf → leaves_of (log ++ event ∷ []) ≡ leaves_of log ++ leaf ∷ []
+leaves_more log event leaf is = filter_map-append leaf_in log (event ∷ []) ∙ ap (λ (ns : List ℕ). leaves_of log ++ ns) (rw is refl)
 
-  pub change_records : (own' : WorkspaceModel) (by : ℕ) (change : MemberChange) → first_of (change_checks (plain_of signer.key line own)) ≡ None
-      → own'.pending ≡ own.pending ++ items.Change change ∷ [] → own'.flight ≡ own.flight → own'.shown ≡ own.shown ++ keeps (plain_of signer.key line own) ∷ []
-      → own'.journal ≡ own.journal ++ events.Change by change ∷ [] → Records line line signer signer ticket own own' (Change by change)
-  change_records own' by change checks pending flight shown journal =
-      let c = plain_of signer.key line own in
-      let room = change_passed c checks in
-      record {
-        key = refl;
-        entries = sym (append_nil line.entries);
-        journal = journal;
-        state = rw (pending, flight, shown) refl;
-        allowed = allowed_change c by change checks;
-        sound = change_sound c by change known.sound;
-        small = change_small c by change known.small room.pending room.events;
-        unspent = known.unspent;
-        leaves = rises (Change by change) refl;
-      }
-
+module _ {D : Type 0} {line : LineModel} {signer : SignerModel D} {ticket : Option ℕ} {own : WorkspaceModel} (known : ClientInvariant line signer ticket own) where
   -- ---- lengths
 
   pub length_of_shown : length (text_after own.shown) ≡ length (shown_of (plain_of signer.key line own))
@@ -89,11 +59,7 @@ module _ {D : Type 0} (line : LineModel) (signer : SignerModel D) (ticket : Opti
       let l = lengths c known.small in
       omega (arith, length_of_shown, length-shown (committed_of c) c.pending known.sound.stated, l.committed, l.pending)
 
-  -- a delta that keeps all of the shown text is stated on it
-  pub kept_base : (form : List Mark) (n : ℕ) → form ≡ keep_marks n → n ≡ length (text_after own.shown) → base_len form ≡ reached 0 own.shown
-  kept_base form n is len = rw is (base_len-keep_marks n ∙ len ∙ length-text own.shown known.sound.follow)
-
-  -- and so is one that replaces it
+  -- a delta that replaces the shown text is stated on it
   pub replaced_base : (form : List Mark) (n : ℕ) (text : List ℕ) → form ≡ replacement n text → n ≡ length (text_after own.shown) → base_len form ≡ reached 0 own.shown
   replaced_base form n text is len = rw is (base_len-replacement n text ∙ len ∙ length-text own.shown known.sound.follow)
 
@@ -119,38 +85,80 @@ module _ {D : Type 0} (line : LineModel) (signer : SignerModel D) (ticket : Opti
         restated_base = base_restated own.shown (shown_of c) seen marks sound_leads passed.base ∙ sym reached_is;
       }
 
-  pub edit_records : (own' : WorkspaceModel) (by seen : ℕ) (marks : List Mark) → first_of (edit_checks (plain_of signer.key line own) seen marks) ≡ None
+  -- ---- what each event makes of the fields
+
+  -- one that leaves the history
+  own_recorded : (own' : WorkspaceModel) (event : Logged) → entries_by event ≡ [] → leaf_in event ≡ None → own'.journal ≡ own.journal ++ stored_event (length line.entries) event ∷ []
+      → plain_of signer.key line own' ≡ step (plain_of signer.key line own) event → can_log (plain_of signer.key line own) event ≡ true → IsOfItem (plain_of signer.key line own) event
+      → Recorded line line signer signer ticket own own' event
+  own_recorded own' event no_entry unsigned journal state allowed of =
+      let records : Records line line signer signer own own' event =
+      record { key = refl; entries = rw no_entry (sym (append_nil line.entries)); journal = journal; state = state; allowed = allowed; of_item = of } in
+      recorded_unsigned known records unsigned
+
+  pub change_recorded : (own' : WorkspaceModel) (by : ℕ) (change : MemberChange) → first_of (change_checks (plain_of signer.key line own)) ≡ None
+      → own'.pending ≡ own.pending ++ items.Change change ∷ [] → own'.flight ≡ own.flight → own'.shown ≡ own.shown ++ keeps (plain_of signer.key line own) ∷ []
+      → own'.journal ≡ own.journal ++ events.Change by change ∷ [] → Recorded line line signer signer ticket own own' (Change by change)
+  change_recorded own' by change checks pending flight shown journal =
+      own_recorded own' (Change by change) refl refl journal (rw (pending, flight, shown) refl) (allowed_change (plain_of signer.key line own) by change checks) tt
+
+  pub edit_recorded : (own' : WorkspaceModel) (by seen : ℕ) (marks : List Mark) → first_of (edit_checks (plain_of signer.key line own) seen marks) ≡ None
       → own'.pending ≡ own.pending ++ items.Edit (restated (plain_of signer.key line own) seen marks) ∷ [] → own'.flight ≡ own.flight
       → own'.shown ≡ own.shown ++ restated (plain_of signer.key line own) seen marks ∷ []
-      → own'.journal ≡ own.journal ++ events.Edit by seen marks ∷ [] → Records line line signer signer ticket own own' (Edit by seen marks)
-  edit_records own' by seen marks checks pending flight shown journal =
-      let c = plain_of signer.key line own in
-      let passed = edit_passed c seen marks checks in
-      record {
-        key = refl;
-        entries = sym (append_nil line.entries);
-        journal = journal;
-        state = rw (pending, flight, shown) refl;
-        allowed = allowed_edit c by seen marks checks;
-        sound = edit_sound c by seen marks known.sound passed.base;
-        small = edit_small c by seen marks known.small passed.room.pending passed.room.events passed.bytes;
-        unspent = known.unspent;
-        leaves = rises (Edit by seen marks) refl;
-      }
+      → own'.journal ≡ own.journal ++ events.Edit by seen marks ∷ [] → Recorded line line signer signer ticket own own' (Edit by seen marks)
+  edit_recorded own' by seen marks checks pending flight shown journal =
+      own_recorded own' (Edit by seen marks) refl refl journal (rw (pending, flight, shown) refl) (allowed_edit (plain_of signer.key line own) by seen marks checks) tt
 
-  pub discard_records : (own' : WorkspaceModel) (by : ℕ) → length own.shown < MAX_EVENTS → own'.pending ≡ [] → own'.flight ≡ None
+  pub discard_recorded : (own' : WorkspaceModel) (by : ℕ) → length own.shown < MAX_EVENTS → own'.pending ≡ [] → own'.flight ≡ None
       → own'.shown ≡ own.shown ++ replacement (length (shown_of (plain_of signer.key line own))) (committed_of (plain_of signer.key line own)) ∷ []
-      → own'.journal ≡ own.journal ++ events.Discard by ∷ [] → Records line line signer signer ticket own own' (Discard by)
-  discard_records own' by room pending flight shown journal =
-      let c = plain_of signer.key line own in
-      record {
-        key = refl;
+      → own'.journal ≡ own.journal ++ events.Discard by ∷ [] → Recorded line line signer signer ticket own own' (Discard by)
+  discard_recorded own' by room pending flight shown journal =
+      own_recorded own' (Discard by) refl refl journal (rw (pending, flight, shown) refl) (allowed_discard (plain_of signer.key line own) by room) tt
+
+  pub drop_recorded : (own' : WorkspaceModel) (by : ℕ) (fault : ChangeFault) → due (plain_of signer.key line own) ≡ Drop fault → own'.pending ≡ drop 1 own.pending → own'.flight ≡ own.flight
+      → own'.shown ≡ own.shown ++ keeps (plain_of signer.key line own) ∷ [] → own'.journal ≡ own.journal ++ events.Dropped by fault ∷ [] → Recorded line line signer signer ticket own own' (Dropped by fault)
+  drop_recorded own' by fault is pending flight shown journal =
+      own_recorded own' (Dropped by fault) refl refl journal (rw (pending, flight, shown) refl) (drop_allowed (plain_of signer.key line own) by fault is) tt
+
+  pub submit_recorded : (signer' : SignerModel D) (own' : WorkspaceModel) (by leaf : ℕ) (bytes : List ℕ) → signer'.key ≡ signer.key → IsSubmission (plain_of signer.key line own) leaf bytes
+      → AreInOrder signer'.leaves.next_at_open signer'.leaves.next (Some leaf) (leaves_of (log_of line.entries own.journal))
+      → own'.pending ≡ own.pending → own'.flight ≡ Some bytes → own'.shown ≡ own.shown ++ keeps (plain_of signer.key line own) ∷ []
+      → own'.journal ≡ own.journal ++ events.Submit by bytes ∷ [] → Recorded line line signer signer' None own own' (Submit by bytes)
+  submit_recorded signer' own' by leaf bytes key is order pending flight shown journal =
+      let log = log_of line.entries own.journal in
+      let L : List ℕ → Type 0 = λ ns. AreInOrder signer'.leaves.next_at_open signer'.leaves.next None ns in
+      let records : Records line line signer signer' own own' (Submit by bytes) = record {
+        key = key;
         entries = sym (append_nil line.entries);
         journal = journal;
-        state = rw (pending, flight, shown) refl;
-        allowed = allowed_discard c by room;
-        sound = discard_sound c by known.sound;
-        small = discard_small c by known.small room;
-        unspent = known.unspent;
-        leaves = rises (Discard by) refl;
-      }
+        state = rw (key, pending, flight, shown) refl;
+        allowed = submit_allowed (plain_of signer.key line own) by leaf bytes is;
+        of_item = is.in_flight;
+      } in
+      recorded known records tt (subst L (sym (leaves_more log (Submit by bytes) leaf is.leaf_is)) (signed_kept signer'.leaves.next_at_open signer'.leaves.next leaf (leaves_of log) order))
+
+  -- ---- what a submission answers, by what the code found due
+
+  pub answers_there : {c : ClientModel D} → client_model line signer ticket own ≡ c → (random : List ℕ) (leaf : Result ℕ LeafFault) (found : Result Step SubmitFault)
+      → step_of (due (plain_of signer.key line own)) ≡ found → submission (state_of c) random leaf ≡ answer_for found (submission (state_of c) random leaf)
+  answers_there {c} view random leaf found is = answers (state_of c) random leaf found (ap (λ (p : PlainClient). step_of (due p)) (state_is known view) ∙ is)
+
+  -- ---- leaves drawn, and tickets kept
+
+  with_leaves : (leaves' : LeavesModel D) (ticket' : Option ℕ) → IfSome ticket' (λ leaf. leaf < 2 ^ height_of signer.key.lms)
+      → AreInOrder leaves'.next_at_open leaves'.next ticket' (leaves_of (log_of line.entries own.journal)) → ClientInvariant line (record { key = signer.key; leaves = leaves' }) ticket' own
+  with_leaves leaves' ticket' unspent order = record {
+    stores = known.stores;
+    state = known.state;
+    allowed = known.allowed;
+    sound = known.sound;
+    small = known.small;
+    unspent = unspent;
+    leaves = order;
+  }
+
+  pub same_key : (signer' : SignerModel D) (ticket' : Option ℕ) → signer'.key ≡ signer.key → IfSome ticket' (λ leaf. leaf < 2 ^ height_of signer.key.lms)
+      → AreInOrder signer'.leaves.next_at_open signer'.leaves.next ticket' (leaves_of (log_of line.entries own.journal)) → ClientInvariant line signer' ticket' own
+  same_key signer' ticket' same unspent order =
+      let P : LmsPrivate → Type 0 = λ key. ClientInvariant line (record { key = key; leaves = signer'.leaves }) ticket' own in
+      subst P (sym same) (with_leaves signer'.leaves ticket' unspent order)

@@ -1,17 +1,11 @@
 -- Worked examples: logs, pending edits that another's edit passes, what events do to a client, and what a run keeps.
 use Rattle.std.proofs.Common.{◌≡◌, List, [], ◌∷◌, ◌++◌, None, refl}
-use Rattle.sporc_delta.specs.Marks.{Keep, Remove, Insert}
-use Rattle.sporc_member.specs.declared.device.Device.{Device}
-use Rattle.sporc_member.specs.Device.{first_device}
-use Rattle.sporc_epoch.specs.Keys.{Keys}
+use Rattle.sporc_client.proofs.Common.{Keep, Insert, Device, first_device, Keys, journal_of, Opening, PlainClient, opened, beyond, rebased, Setup, Move, Open, Happen, Give, Restart, after_all}
+use Rattle.sporc_client.proofs.Common.{opening_of, start, replay_from}
+use Rattle.sporc_delta.specs.Marks.{Remove}
 use Rattle.sporc_client.specs.declared.event.Event.TheVariants as stored
 use Rattle.sporc_client.specs.declared.pending.Pending.TheVariants as items
-use Rattle.sporc_client.specs.Log.{journal_of}
 use Rattle.sporc_client.specs.Log as events
-use Rattle.sporc_client.specs.PlainClient.{Opening, PlainClient, opened}
-use Rattle.sporc_client.specs.Rebasing.{beyond, rebased}
-use Rattle.sporc_client.specs.Run.{Setup, Move, Open, Happen, Give, Restart, after_all, opening_of, start}
-use Rattle.sporc_client.specs.Step.{replay_from}
 
 -- a journal names accepted entries by their places
 places_count_on :

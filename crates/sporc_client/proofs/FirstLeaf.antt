@@ -1,13 +1,8 @@
 -- The leaf that was next as a client's log began.
-use Rattle.std.proofs.Common.{◌≡◌, ℕ, ◌+◌, ◌-◌, ◌≤◌, inl, inr, List, [], ◌∷◌, ◌++◌, length, refl, ap, sym, ◌∙◌, subst, arith, append-nil, length-append, Option, None, Some, Result, Ok, Err, filter_map, option_to_list}
-use Rattle.std.proofs.lemmas.List.Elements.{filter_map-append}
-use Rattle.lms_leaf.specs.Leaves.{LeavesModel}
-use Rattle.sporc_client.specs.ClientModel.{AreInOrder, ClientModel, Rise, first_leaf_of, kept_count, leaf_in, leaves_of}
+use Rattle.std.proofs.Common.{◌≡◌, ℕ, ◌+◌, ◌-◌, ◌≤◌, inl, inr, List, [], ◌∷◌, ◌++◌, length, refl, ap, sym, ◌∙◌, subst, arith, append-nil, length-append, Option, None, Some, Result, Ok, filter_map, option_to_list}
+use Rattle.sporc_client.proofs.Common.{filter_map-append, LeavesModel, AreInOrder, ClientModel, Rise, first_leaf_of, kept_count, leaf_in, leaves_of, Logged, Submit, Opening, submission_added}
+use Rattle.sporc_client.proofs.Common.{SubmitFault}
 use Rattle.sporc_client.specs.LeafUses.{IsUse, LeafSupply, Uses, leaf_given, supply_of}
-use Rattle.sporc_client.specs.Log.{Logged, Submit}
-use Rattle.sporc_client.specs.PlainClient.{Opening}
-use Rattle.sporc_client.specs.Submissions.{submission_added}
-use Rattle.sporc_client.specs.declared.fault.SubmitFault.{SubmitFault}
 use Rattle.sporc_client.specs.declared.submitted.Submitted.{Submitted}
 use Rattle.sporc_client.specs.declared.submitted.Submitted.TheVariants as submitted
 
@@ -67,12 +62,9 @@ module _ {D : Type 0} where
       ap (λ (n : ℕ). new.leaves.next - (n + kept_count new.ticket)) count ∙ first_used (supply_of old) (supply_of new) (leaf_given result) (length (leaves_of old.log)) did
     where
       leaf_added : (by : ℕ) (r : Result Submitted SubmitFault) → leaves_of (submission_added by r) ≡ option_to_list (leaf_given r)
-      leaf_added by (Ok submitted.Waiting) = refl
-      leaf_added by (Ok submitted.Nothing) = refl
-      leaf_added by (Ok (submitted.Dropped fault)) = refl
       leaf_added by (Ok (submitted.Entry bytes)) = one (leaf_in (Submit 0 bytes))
         where
           one : (o : Option ℕ) → filter_map (λ (x : Option ℕ). x) (o ∷ []) ≡ option_to_list o
           one None = refl
           one (Some n) = refl
-      leaf_added by (Err fault) = refl
+      leaf_added by r = refl

@@ -1,103 +1,33 @@
 -- An entry that a client signs passes at each client with its history, followed by edits of others.
-use Rattle.std.proofs.Common.{◌≡◌, ℕ, ◌+◌, ◌<◌, ◌≤◌, Bool, true, false, cond, List, [], ◌∷◌, ◌++◌, length, take, drop, map, refl, ap, sym, ◌∙◌, subst, arith, Option, None, Some, IfSome, Ok, length-append}
-use Rattle.std.specs.Prelude.{Contains, is_some, unwrap_or, ◌==◌}
-use Rattle.std.specs.FinMap.{get}
-use Rattle.std.specs.List.{AllByRecursion, list_any}
-use Rattle.std.proofs.lemmas.List.{drop_at, length-drop, length-take-le, take_at}
-use Rattle.sporc_base.specs.Bytes.{IsBytes}
-use Rattle.sporc_base.specs.FirstFault.{first_of}
-use Rattle.sporc_hash.specs.Strings.{CollisionFree, key_string}
-use Rattle.lms_tree.specs.LmsPrivate.{lms_public_of}
-use Rattle.lms_tree.specs.LmsPublic.{public_key_bytes}
-use Rattle.lms_tree.specs.Signatures.{lms_signature_of}
-use Rattle.sporc_delta.specs.Format.{Spells, delta_bytes}
-use Rattle.sporc_delta.specs.Marks.{Mark, base_len}
-use Rattle.sporc_member.specs.declared.device.Device.{Device}
-use Rattle.sporc_member.specs.declared.change.Change.{Change as MemberChange}
-use Rattle.sporc_member.specs.Roster.{Roster, after_change, key_of as key_of_device, member_at, removes, roster_after}
-use Rattle.sporc_entry.specs.declared.change.ChangeBody.{ChangeBody}
-use Rattle.sporc_entry.specs.declared.entry.Entry.{Entry}
-use Rattle.sporc_entry.specs.declared.genesis.Genesis.{Genesis}
-use Rattle.sporc_entry.specs.declared.header.Header.{Header}
-use Rattle.sporc_entry.specs.declared.wrap.Wrap.{Wrap}
-use Rattle.sporc_entry.specs.ChangeBody.{IsChange, IsChangeBody, change_body_bytes}
-use Rattle.sporc_entry.specs.Genesis.{IsFounder}
-use Rattle.sporc_entry.specs.Entry.{IsEntry, author_device, change_of, entry_of, signed_string}
-use Rattle.sporc_entry.specs.Version.{version_of}
-use Rattle.sporc_epoch.specs.Keys.{Keys}
-use Rattle.sporc_epoch.specs.Sealing.{Sealing, body_sealed}
-use Rattle.sporc_epoch.specs.Streams.{stream_of}
-use Rattle.sporc_epoch.specs.Wraps.{wrap_opened}
-use Rattle.sporc_head.specs.declared.limits.TheConstants.{MAX_ENTRIES}
-use Rattle.sporc_head.specs.HeadChecks.{allows_member, names_leaf, roster_checks, verifies_device}
-use Rattle.sporc_head.specs.History.{CommittedChange, change_in, changes, count_of, epoch_of, hash_of, is_removed, roster_of}
-use Rattle.sporc_head.proofs.Grows.{change_in_read}
-use Rattle.sporc_line.specs.Kit.{Kit}
-use Rattle.sporc_line.specs.Keys.{key_after, epoch_key}
-use Rattle.sporc_line.specs.LineStrings.{line_strings}
-use Rattle.sporc_line.specs.LineChecks.{first_fault, is_new_key, key_checks, key_checks_of, new_key_checks}
-use Rattle.sporc_line.specs.Operations.{Operation, edit_marks}
-use Rattle.sporc_line.specs.Document.{forms_from, text_after, text_of}
-use Rattle.sporc_line.specs.Good.{Good}
-use Rattle.sporc_line.proofs.Passes.{no_fault}
-use Rattle.sporc_line.proofs.Goods.{good_take}
+use Rattle.std.proofs.Common.{◌≡◌, ℕ, ◌+◌, ◌<◌, ◌≤◌, Bool, true, false, cond, List, [], ◌∷◌, ◌++◌, length, take, map, refl, ap, sym, ◌∙◌, subst, arith, Option, None, Some, IfSome, Ok, length-append}
+use Rattle.sporc_client.proofs.Common.{Contains, is_some, unwrap_or, ◌==◌, get, AllByRecursion, list_any, drop_at, take_at, IsBytes, first_of, CollisionFree, key_string, lms_public_of}
+use Rattle.sporc_client.proofs.Common.{public_key_bytes, lms_signature_of, Spells, delta_bytes, Mark, base_len, Device, MemberChange, Roster, after_change, key_of_device, member_at, removes}
+use Rattle.sporc_client.proofs.Common.{roster_after, ChangeBody, Entry, Genesis, Header, Wrap, IsEntry, author_device, change_of, entry_of, signed_string, version_of, Keys, Sealing, body_sealed}
+use Rattle.sporc_client.proofs.Common.{stream_of, wrap_opened, MAX_ENTRIES, allows_member, names_leaf, roster_checks, verifies_device, CommittedChange, change_in, changes, count_of, epoch_of, hash_of}
+use Rattle.sporc_client.proofs.Common.{is_removed, roster_of, change_in_read, Kit, key_after, epoch_key, line_strings, first_fault, is_new_key, new_key_checks, Operation, edit_marks, forms_from}
+use Rattle.sporc_client.proofs.Common.{text_after, text_of, Good, no_fault, good_take, has_left, Pending, new_key_in, new_key_of, randomizer_in, refusal_of, Chosen, current_key, entry_made, kind_of}
+use Rattle.sporc_client.proofs.Common.{next_header, sealing_of, Opening, PlainClient, committed_of, me_of, IsReached, AreStated, IsAt, Move, Setup, IsTypedRun, IsWellFormed}
+use Rattle.sporc_line.specs.LineChecks.{key_checks, key_checks_of}
 use Rattle.sporc_line.proofs.NextEntry.{started_by_wraps}
 use Rattle.sporc_line.proofs.Effects.{edit_passes}
-use Rattle.sporc_line.proofs.SameKeys.{HasKeys, committed, has_left, has_right, same_epoch_keys, same_operations}
-use Rattle.sporc_client.specs.declared.pending.Pending.{Pending}
+use Rattle.sporc_line.proofs.SameKeys.{HasKeys, committed, has_right, same_epoch_keys, same_operations}
 use Rattle.sporc_client.specs.declared.pending.Pending.TheVariants as items
-use Rattle.sporc_client.specs.Allowed.{new_key_in, new_key_of, randomizer_in}
-use Rattle.sporc_client.specs.Answers.{refusal_of}
-use Rattle.sporc_client.specs.Entries.{Chosen, current_key, entry_made, kind_of, next_header, sealing_of}
 use Rattle.sporc_client.specs.HonestEntries.{CanLearnKey, CanReceive, HasOwnKey, IsOthersEdit, SubmitsUnderOwnKey}
-use Rattle.sporc_client.specs.PlainClient.{Opening, PlainClient, committed_of, me_of}
-use Rattle.sporc_client.specs.Reached.{IsReached}
-use Rattle.sporc_client.specs.Rebasing.{AreStated}
-use Rattle.sporc_client.specs.Run.{IsAt, Move, Setup}
-use Rattle.sporc_client.specs.Typed.{IsTypedChange, IsTypedRun}
-use Rattle.sporc_client.specs.WellFormed.{IsWellFormed}
-use Rattle.sporc_client.proofs.HonestChanges.{key_is_new, keys_fine, member_opens, new_key_size, read_as_sealed, roster_fine, sealed_for}
-use Rattle.sporc_client.proofs.HonestSignatures.{names_own_leaf, signature_len, verifies_own}
-use Rattle.sporc_client.proofs.LaterEdits.{barrier_before, changes_stay, count_stays, last_before}
+use Rattle.sporc_client.proofs.HonestChanges.{key_is_new, keys_fine, member_opens, roster_fine, sealed_for}
+use Rattle.sporc_client.proofs.HonestSignatures.{names_own_leaf, verifies_own}
+use Rattle.sporc_client.proofs.InHistories.{barrier_before, changes_stay, count_stays, last_before}
 use Rattle.sporc_client.proofs.Reached.{reached_at}
-use Rattle.sporc_client.proofs.SameSpelling.{ChangeRead, body_change_same, change_read_of, typed_of}
 use Rattle.sporc_client.proofs.SignedEntries.{header_made, leaf_small}
-use Rattle.sporc_client.proofs.SoundClients.{HasKey, IsSoundAndTyped, body_of_change, edit_spelled, entry_read, header_of_made, key_there, no_change, reads_edit, sealed_change}
-use Rattle.sporc_client.proofs.SoundRuns.{sound_and_typed_at}
-use Rattle.sporc_client.proofs.Spellings.{AreTypedItems}
+use Rattle.sporc_client.proofs.SoundRuns.{HasKey, IsSoundAndTyped, change_made_is, due_spelled, edit_spelled, entry_read, key_there, new_size, no_change, reads_edit, sealed_change, shown_size, signature_of, sound_and_typed_at}
 use Rattle.sporc_client.proofs.Submitting.{IsDue, IsMadeBy, chosen_in, is_there, made_by_submission}
-use Rattle.sporc_client.proofs.TypedHistories.{IsSmallMember, changes_typed, key_size, small_change, small_roster}
 
 -- ---- the signature of an entry that a client made
 
-signature_of : (c : PlainClient) (chosen : Chosen) (item : Pending)
-    → (entry_made c chosen item).signature ≡ lms_signature_of c.opening.key chosen.leaf chosen.randomizer (signed_string (entry_made c chosen item))
-unfolding entry_made signed_string
-signature_of c chosen item = refl
-
--- the randomizer that an entry shows has its length
-pub shown_size : (c : PlainClient) (bytes : List ℕ) (makes : IsMadeBy c bytes) → makes.entry ≡ entry_made c (chosen_in c makes.entry) makes.item → length (randomizer_in makes.entry) ≡ 32
-shown_size c bytes makes same =
-    let e = makes.entry in
-    let message = signed_string (entry_made c (chosen_in c e) makes.item) in
-    let long = signature_len c.opening.key (chosen_in c e).leaf (chosen_in c e).randomizer message in
-    let is : e.signature ≡ lms_signature_of c.opening.key (chosen_in c e).leaf (chosen_in c e).randomizer message =
-    ap (λ (e : Entry). e.signature) same ∙ signature_of c (chosen_in c e) makes.item in
-    let whole : 1096 ≤ length e.signature = omega (arith, long, ap length is) in
-    length-take-le 32 (drop 8 e.signature) (omega (arith, whole, length-drop 8 e.signature))
-
--- and so has the one that it was made with
+-- the randomizer that it was made with has its length
 randomizer_size : (c : PlainClient) (bytes : List ℕ) (makes : IsMadeBy c bytes) → makes.entry ≡ entry_made c (chosen_in c makes.entry) makes.item → length (chosen_in c makes.entry).randomizer ≡ 32
 randomizer_size c bytes makes same =
     let shown = shown_size c bytes makes same in
     ap length (take_at (randomizer_in makes.entry) (new_key_in c.opening.kit.pairs makes.entry) 32 shown) ∙ shown
-
--- the key of the epoch has its length
-pub current_size : (c : PlainClient) → IsSoundAndTyped c → HasKey c → length (current_key c) ≡ 32
-current_size c known has =
-    let size = key_size c.opening.genesis c.opening.kit (changes c.entries) (epoch_of c.entries) known.ring (changes_typed c.entries known.bytes) in
-    let current : current_key c ≡ has.key = ap (λ (key : Option (List ℕ)). unwrap_or key []) has.is in
-    ap length current ∙ subst (λ (o : Option (List ℕ)). IfSome o (λ key. length key ≡ 32)) has.is size
 
 -- ---- what passes wherever the history is followed by edits of others
 
@@ -345,30 +275,15 @@ module _ (s : Setup) (i j : Device) (c d : PlainClient) (bytes : List ℕ) (sent
   abbrev roster : Roster
   roster = roster_of c.opening.genesis c.entries
 
-  is_entry : IsEntry sent.makes.entry
-  is_entry = (entry_read s i c bytes sent.well sent.sender sent.typed sent.makes).0
-
-  typed : IsTypedChange change
-  typed = (subst AreTypedItems due.first sent.known.typed).0
-
-  kind : sent.makes.entry.header.kind ≡ 2
-  kind = ap (λ (e : Entry). e.header.kind) same ∙ ap (λ (h : Header). h.kind) (header_of_made c chosen (items.Change change))
-
-  read : ChangeRead sent.makes.entry
-  read = change_read_of sent.makes.entry is_entry kind
+  read : IsEntry sent.makes.entry × (sent.makes.entry ≡ entry_made c chosen sent.makes.item)
+  read = entry_read s i c bytes sent.well sent.sender sent.typed sent.makes
 
   -- the key that the author chose
   abbrev new_key : List ℕ
   new_key = new_key_in pairs sent.makes.entry
 
   shown_new : chosen.new_key ≡ new_key
-  shown_new = drop_at (randomizer_in sent.makes.entry) new_key 32 (shown_size c bytes sent.makes (entry_read s i c bytes sent.well sent.sender sent.typed sent.makes).1)
-
-  new_size : length chosen.new_key ≡ 32
-  new_size =
-      let version = sent.makes.entry.header.version in
-      let body : IfSome (change_of sent.makes.entry) (IsChangeBody version) = subst (λ (o : Option ChangeBody). IfSome o (IsChangeBody version)) (sym read.read) read.is in
-      ap length shown_new ∙ new_key_size version pairs (stream_of sent.makes.entry.header) (change_of sent.makes.entry) body
+  shown_new = drop_at (randomizer_in sent.makes.entry) new_key 32 (shown_size c bytes sent.makes read.1)
 
   has : HasKey c
   has = key_there c sent.sender.good due.not_removed
@@ -376,29 +291,9 @@ module _ (s : Setup) (i j : Device) (c d : PlainClient) (bytes : List ℕ) (sent
   current : current_key c ≡ has.key
   current = ap (λ (key : Option (List ℕ)). unwrap_or key []) has.is
 
-  old_size : length (current_key c) ≡ 32
-  old_size = current_size c sent.known has
-
-  members_small : AllByRecursion IsSmallMember (after_change roster change).members
-  members_small =
-      let founders : AllByRecursion IsFounder c.opening.genesis.founders =
-      subst (λ (o : Opening). AllByRecursion IsFounder o.genesis.founders) (sym sent.sender.opening) sent.well.genesis.founders in
-      let its : IsChange change = subst IsChange (read_change ∙ refl) read.is.change in
-      small_change roster change its (small_roster c.opening.genesis c.entries founders sent.known.bytes)
-    where
-      read_change : read.body.change ≡ change
-      read_change =
-          let of : change_body_bytes read.body ≡ change_body_bytes sealed = sym read.bytes ∙ ap (λ (e : Entry). e.body) same ∙ body_of_change c chosen change in
-          body_change_same read.body sealed (typed_of read.body.change read.is.change) (subst IsTypedChange (sym (sealed_change sealing pairs)) typed) of ∙ sealed_change sealing pairs
-
   -- the change is read as it was sealed
-  body_is : read.body ≡ sealed
-  body_is =
-      let of : change_body_bytes read.body ≡ change_body_bytes sealed = sym read.bytes ∙ ap (λ (e : Entry). e.body) same ∙ body_of_change c chosen change in
-      read_as_sealed sent.makes.entry.header.version read.body sealing pairs (after_change roster change).members read.is typed old_size new_size refl members_small of
-
   change_is : change_of sent.makes.entry ≡ Some sealed
-  change_is = read.read ∙ ap Some body_is
+  change_is = ap change_of same ∙ change_made_is c chosen change (due_spelled s i c chosen (items.Change change) sent.well sent.sender sent.known (new_size c bytes sent.makes read) due)
 
   fine : first_of (roster_checks roster (Some sealed)) ≡ None
   fine = roster_fine roster sealing pairs due.fits.0 refl due.fits.1
@@ -429,8 +324,7 @@ module _ (s : Setup) (i j : Device) (c d : PlainClient) (bytes : List ℕ) (sent
       let e = sent.makes.entry in
       let header = header_made s i c bytes sent.well sent.sender sent.makes in
       let by_wraps = started_by_wraps c.opening.genesis d.opening.kit (c.entries ++ sent.can.edits) bytes e sealed sent.makes.reads change_is roster_there in
-      by_wraps ∙ ap (λ (t : Bool). cond t None (cond (list_any (λ (w : Wrap). w.member == (me_of d).member) sealed.wraps) (wrap_opened sealed e.header.author (stream_of e.header) (me_of d).member d.opening.kit.pairs) (get d.opening.kit.ring (epoch_of (c.entries ++ sent.can.edits) + 1)))) stays
-      ∙ go e.header header (is_some (member_at (after_change roster change) (me_of d).member)) refl
+      rw (by_wraps, stays) (go e.header header (is_some (member_at (after_change roster change) (me_of d).member)) refl)
     where
       wrap_there : is_some (member_at (after_change roster change) (me_of d).member) ≡ list_any (λ (w : Wrap). w.member == (me_of d).member) sealed.wraps
       wrap_there = sealed_for roster sealing pairs (me_of d).member refl due.fits.1
@@ -443,16 +337,11 @@ module _ (s : Setup) (i j : Device) (c d : PlainClient) (bytes : List ℕ) (sent
       go h by true is =
           let after : is_some (member_at (after_change roster sealed.change) (me_of d).member) ≡ true = ap (λ (x : MemberChange). is_some (member_at (after_change roster x) (me_of d).member)) its_change ∙ is in
           let wrap : list_any (λ (w : Wrap). w.member == (me_of d).member) sealed.wraps ≡ true = sym wrap_there ∙ is in
-          ap (λ (t : Bool). cond t (wrap_opened sealed h.author (stream_of h) (me_of d).member d.opening.kit.pairs) (get d.opening.kit.ring (epoch_of (c.entries ++ sent.can.edits) + 1))) wrap
-          ∙ ap (λ (h : Header). wrap_opened sealed h.author (stream_of h) (me_of d).member d.opening.kit.pairs) by
-          ∙ member_opens roster sealing pairs d.opening.kit.pairs (me_of d).member refl due.fits.1 is ((can_learn stays).paired after)
+          rw (wrap, by) (member_opens roster sealing pairs d.opening.kit.pairs (me_of d).member refl due.fits.1 is ((can_learn stays).paired after))
       go h by false is =
           let after : is_some (member_at (after_change roster sealed.change) (me_of d).member) ≡ false = ap (λ (x : MemberChange). is_some (member_at (after_change roster x) (me_of d).member)) its_change ∙ is in
           let wrap : list_any (λ (w : Wrap). w.member == (me_of d).member) sealed.wraps ≡ false = sym wrap_there ∙ is in
-          ap (λ (t : Bool). cond t (wrap_opened sealed h.author (stream_of h) (me_of d).member d.opening.kit.pairs) (get d.opening.kit.ring (epoch_of (c.entries ++ sent.can.edits) + 1))) wrap
-          ∙ ap (λ (n : ℕ). get d.opening.kit.ring (n + 1)) epoch_there
-          ∙ (can_learn stays).hinted after
-          ∙ ap Some (ap (new_key_of pairs (stream_of sent.makes.entry.header)) (sym change_is) ∙ sym shown_new)
+          rw (wrap, epoch_there) ((can_learn stays).hinted after ∙ ap Some (ap (new_key_of pairs (stream_of sent.makes.entry.header)) (sym change_is) ∙ sym shown_new))
 
   old_there : epoch_key c.opening.genesis d.opening.kit (c.entries ++ sent.can.edits) (epoch_of (c.entries ++ sent.can.edits)) ≡ Some sealing.old
   old_there =
@@ -462,16 +351,7 @@ module _ (s : Setup) (i j : Device) (c d : PlainClient) (bytes : List ℕ) (sent
       → (is_some (key_after c.opening.genesis d.opening.kit (changes (c.entries ++ sent.can.edits) ++ committed sent.makes.entry sealed ∷ []) (epoch_of (c.entries ++ sent.can.edits) + 1)) ≡ true)
       × (is_new_key c.opening.genesis.document (epoch_of (c.entries ++ sent.can.edits) + 1) sealed (epoch_key c.opening.genesis d.opening.kit (c.entries ++ sent.can.edits) (epoch_of (c.entries ++ sent.can.edits)))
       (key_after c.opening.genesis d.opening.kit (changes (c.entries ++ sent.can.edits) ++ committed sent.makes.entry sealed ∷ []) (epoch_of (c.entries ++ sent.can.edits) + 1)) ≡ true)
-  new_there stays =
-      let key = found stays in (
-        ap is_some key,
-        ap (λ (n : ℕ). is_new_key c.opening.genesis.document (n + 1) sealed (epoch_key c.opening.genesis d.opening.kit (c.entries ++ sent.can.edits) (epoch_of (c.entries ++ sent.can.edits)))
-            (key_after c.opening.genesis d.opening.kit (changes (c.entries ++ sent.can.edits) ++ committed sent.makes.entry sealed ∷ []) (epoch_of (c.entries ++ sent.can.edits) + 1))) epoch_there
-            ∙ ap (λ (o : Option (List ℕ)). is_new_key c.opening.genesis.document (epoch_of c.entries + 1) sealed o
-            (key_after c.opening.genesis d.opening.kit (changes (c.entries ++ sent.can.edits) ++ committed sent.makes.entry sealed ∷ []) (epoch_of (c.entries ++ sent.can.edits) + 1))) old_there
-            ∙ ap (is_new_key c.opening.genesis.document (epoch_of c.entries + 1) sealed (Some sealing.old)) key
-            ∙ key_is_new sealing pairs due.fits.1,
-      )
+  new_there stays = let key = found stays in (ap is_some key, rw (key, old_there, epoch_there) (key_is_new sealing pairs due.fits.1))
 
   pub change_passes_there : refusal_of d (length d.entries + 1) bytes ≡ None
   change_passes_there =

@@ -1,36 +1,69 @@
--- What a client signs verifies under its device's key in its history.
-use Rattle.std.proofs.Common.{◌≡◌, ℕ, zero, suc, ◌^◌, ◌<◌, ◌≤◌, true, List, ◌++◌, length, refl, ap, ◌∙◌, arith, Some, length-append}
-use Rattle.std.specs.Prelude.{IsTrue}
-use Rattle.std.specs.Int.{w32, from_be_bytes, to_be_bytes}
-use Rattle.std.proofs.lemmas.Bool.{and_from, eq-eqb, le-leb}
+-- The signature of an entry that a client makes: how long it is, the random bytes that it shows, and that it verifies.
+use Rattle.std.proofs.Common.{◌≡◌, ℕ, ◌^◌, ◌<◌, ◌≤◌, List, ◌++◌, length, take, drop, ap, ◌∙◌, arith, append_assoc, length-append, zero, suc, true, refl, Some}
+use Rattle.sporc_client.proofs.Common.{w32, to_be_bytes, from_be_bytes, drop_at, take_at, LmsPrivate, lms_public_of, sibling_value, height_of, lms_code_of, lms_signature_len_of, verifies}
+use Rattle.sporc_client.proofs.Common.{MAX_SIGNATURE, IsTrue, and_from, eq-eqb, le-leb, public_key_bytes, public_key_in, names_leaf, verifies_device, verifies_under}
+use Rattle.lms_ots.specs.declared.ots_type.OtsType.{OtsType}
+use Rattle.lms_ots.specs.declared.ots_type.OtsType.TheVariants.{W1}
+use Rattle.lms_ots.specs.OtsType.{ots_code_of, ots_signature_len_of, part_count_of, width_of}
+use Rattle.lms_ots.specs.Chains.{concatenated}
+use Rattle.lms_ots.specs.Coefficients.{with_checksum, coef_of}
+use Rattle.lms_ots.specs.Signatures.{message_digest, ots_signature_of, signed_part}
+use Rattle.lms_tree.specs.declared.lms_type.LmsType.{LmsType}
+use Rattle.lms_tree.specs.declared.lms_type.LmsType.TheVariants.{H5}
+use Rattle.lms_tree.specs.declared.public_key.LmsPublic.{LmsPublic}
+use Rattle.lms_tree.specs.Signatures.{lms_signature_of}
+use Rattle.lms_tree.specs.Verification.{leaf_in}
+use Rattle.lms_tree.proofs.SignatureLemmas.{signatures_verify, field_one}
 use Rattle.std.proofs.lemmas.Nat.{from_be_bytes-to_be_bytes_4}
 use Rattle.sha2.proofs.Facts256.{length-sha256}
-use Rattle.lms_ots.specs.declared.ots_type.OtsType.{OtsType}
-use Rattle.lms_ots.specs.declared.ots_type.OtsType.TheVariants.{W1, W2, W4, W8}
-use Rattle.lms_ots.specs.OtsType.{ots_code_of, part_count_of, width_of}
-use Rattle.lms_ots.specs.Chains.{concatenated}
-use Rattle.lms_ots.specs.Coefficients.{coef_of, with_checksum}
-use Rattle.lms_ots.specs.Signatures.{message_digest, ots_signature_of, signed_part}
 use Rattle.lms_ots.proofs.ChainLemmas.{length-chain_of}
 use Rattle.lms_ots.proofs.ConcatenatedLemmas.{length-concatenated}
-use Rattle.lms_tree.specs.LmsPrivate.{LmsPrivate, lms_public_of, sibling_value}
-use Rattle.lms_tree.specs.LmsPublic.{public_key_bytes, public_key_in}
-use Rattle.lms_tree.specs.LmsType.{height_of, lms_code_of}
 use Rattle.lms_tree.specs.Nodes.{node_of}
-use Rattle.lms_tree.specs.Signatures.{lms_signature_of}
-use Rattle.lms_tree.specs.Verification.{leaf_in, verifies}
 use Rattle.lms_tree.proofs.PublicKeyLemmas.{public_key_read_back}
-use Rattle.lms_tree.proofs.SignatureLemmas.{field_one, signatures_verify}
 use Rattle.lms_tree.proofs.VerificationLemmas.{verifies_decides}
-use Rattle.sporc_head.specs.HeadChecks.{names_leaf, verifies_device, verifies_under}
+
+-- ---- how long it is
+
+most_parts : (t : OtsType) → ots_signature_len_of t ≤ 8516
+most_parts W1 = omega arith
+most_parts t = omega arith
+
+most_height : (t : LmsType) → height_of t ≤ 25
+most_height H5 = omega arith
+most_height t = omega arith
+
+pub signature_small : (key : LmsPublic) → lms_signature_len_of key ≤ MAX_SIGNATURE
+signature_small key = omega (arith, most_parts key.ots, most_height key.lms)
+
+pub signature_size : (key : LmsPrivate) (q : ℕ) (c message : List ℕ) → length c ≡ 32 → q < 2 ^ height_of key.lms → length (lms_signature_of key q c message) ≤ MAX_SIGNATURE
+signature_size key q c message size within =
+    let v = signatures_verify key q c message size within in
+    omega (arith, v.form.size, signature_small (lms_public_of key))
+
+-- ---- its random bytes stand behind its leaf and the type of its one-time key
+
+fields : (front code c parts types path : List ℕ) → front ++ (code ++ c ++ parts) ++ types ++ path ≡ (front ++ code) ++ (c ++ (parts ++ (types ++ path)))
+fields front code c parts types path = simp append_assoc
+
+pub shown_randomizer : (key : LmsPrivate) (q : ℕ) (c message : List ℕ) → length c ≡ 32 → take 32 (drop 8 (lms_signature_of key q c message)) ≡ c
+unfolding lms_signature_of ots_signature_of
+shown_randomizer key q c message size =
+    let front = to_be_bytes w32 q in
+    let code = to_be_bytes w32 (ots_code_of key.ots) in
+    let parts = concatenated (signed_part key.ots key.id q key.seed (with_checksum (message_digest key.id q c message) key.ots)) (part_count_of key.ots) in
+    let types = to_be_bytes w32 (lms_code_of key.lms) in
+    let path = concatenated (sibling_value key q) (height_of key.lms) in
+    let rest = parts ++ (types ++ path) in
+    let eight : length (front ++ code) ≡ 8 = omega (arith, length-append front code) in
+    ap (λ (bytes : List ℕ). take 32 (drop 8 bytes)) (fields front code c parts types path)
+    ∙ ap (take 32) (drop_at (front ++ code) (c ++ rest) 8 eight)
+    ∙ take_at c rest 32 size
 
 -- ---- how long a signature is at least
 
 few_parts : (t : OtsType) → 34 ≤ part_count_of t
 few_parts W1 = omega arith
-few_parts W2 = omega arith
-few_parts W4 = omega arith
-few_parts W8 = omega arith
+few_parts t = omega arith
 
 signed_part_len : (t : OtsType) (id : List ℕ) (q : ℕ) (seed string : List ℕ) (i : ℕ) → length (signed_part t id q seed string i) ≡ 32
 signed_part_len t id q seed string i = length-chain_of id q i 0 (coef_of string i (width_of t)) _ (length-sha256 _)

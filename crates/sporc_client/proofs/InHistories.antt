@@ -1,29 +1,15 @@
--- What an entry of a good history says of the history before it, and of the entries of its author's device.
-use Rattle.std.proofs.Common.{◌≡◌, ℕ, suc, ◌+◌, ◌<◌, ◌≤◌, Bool, true, List, [], ◌∷◌, ◌++◌, length, take, drop, ap, sym, ◌∙◌, subst, arith, Some, Ok, inl, inr}
-use Rattle.std.specs.Prelude.{cond}
-use Rattle.std.specs.List.{Contains, slice_get, count_by}
-use Rattle.std.proofs.lemmas.List.{take-append-drop, take-take, length-take-le}
-use Rattle.std.proofs.lemmas.List.Sums.{sum_by-append}
-use Rattle.std.proofs.lemmas.List.Elements.{Contains-append_left, Contains-append_right, Contains-append_cases}
+-- What an entry of a good history says of the history before it and of the entries of its author's device, and what edits of others behind it leave.
+use Rattle.std.proofs.Common.{◌≡◌, ℕ, suc, ◌+◌, ◌<◌, ◌≤◌, Bool, true, List, [], ◌∷◌, ◌++◌, length, take, drop, ap, sym, ◌∙◌, subst, arith, Some, Ok, inl, inr, false, cond, refl, Option}
+use Rattle.sporc_client.proofs.Common.{fold, is_some, slice_get, AllByRecursion, cons_option, take-append-drop, take-take, length-take-le, append-nil, sum_by-append, fold-append, Contains-append_left}
+use Rattle.sporc_client.proofs.Common.{Contains-append_right, Contains-append_cases, filter_map-append, cases_order, Device, one_same, CollisionFree, chain_strings, key_strings, Entry, Genesis}
+use Rattle.sporc_client.proofs.Common.{author_device, entry_of, genesis_bytes, count_of, epoch_of, hash_of, is_read_by, CommittedChange, barrier_of, change_in, changes, last_from, last_of, Kit}
+use Rattle.sporc_client.proofs.Common.{epoch_key, line_strings, Good, take_slice_get_more, Passes, good_entry}
+use Rattle.std.specs.List.{Contains, count_by}
 use Rattle.std.proofs.lemmas.Option.{slice_get_within}
-use Rattle.std.proofs.lemmas.Bool.{cases_order}
-use Rattle.sporc_member.specs.declared.device.Device.{Device}
-use Rattle.sporc_member.proofs.SameDevice.{one_same}
-use Rattle.sporc_hash.specs.Strings.{CollisionFree, chain_strings, key_strings}
 use Rattle.sporc_hash.proofs.SameHistory.{one_value_one_history}
 use Rattle.sporc_hash.proofs.Prefixes.{one_value_one_prefix}
-use Rattle.sporc_entry.specs.declared.entry.Entry.{Entry}
-use Rattle.sporc_entry.specs.declared.genesis.Genesis.{Genesis}
-use Rattle.sporc_entry.specs.Entry.{author_device, entry_of}
-use Rattle.sporc_entry.specs.Genesis.{genesis_bytes}
-use Rattle.sporc_head.specs.History.{count_of, epoch_of, hash_of, is_by, is_read_by}
-use Rattle.sporc_line.specs.Kit.{Kit}
-use Rattle.sporc_line.specs.Keys.{epoch_key}
-use Rattle.sporc_line.specs.LineStrings.{line_strings}
-use Rattle.sporc_line.specs.Good.{Good}
-use Rattle.sporc_line.proofs.Lists.{take_slice_get_more}
-use Rattle.sporc_line.proofs.Passes.{Passes}
-use Rattle.sporc_line.proofs.Goods.{good_entry}
+use Rattle.sporc_head.specs.History.{is_by}
+use Rattle.sporc_client.specs.HonestEntries.{IsOthersEdit}
 
 -- ---- one value, one history
 
@@ -110,3 +96,54 @@ one_place g kit A x y b c e f good at at' is is' same number = elim (cases_order
   | inr (inl h) ↦ absurd (omega (arith, numbers_grow g kit A x y b c e f good at at' is is' same h, number))
   | inr (inr h) ↦ absurd (omega (arith, numbers_grow g kit A y x c b f e good at' at is' is (sym same) h, number))
 ]
+
+-- ---- a history followed by edits of others says the same of its changes and of a device
+
+changes_none : (author : Device) (edits : List (List ℕ)) → AllByRecursion (IsOthersEdit author) edits → changes edits ≡ []
+changes_none author [] h = refl
+changes_none author (bytes ∷ edits) h = ap (λ (o : Option CommittedChange). cons_option o (changes edits)) h.0.edit ∙ changes_none author edits h.1
+
+pub changes_stay : (author : Device) (entries edits : List (List ℕ)) → AllByRecursion (IsOthersEdit author) edits → changes (entries ++ edits) ≡ changes entries
+changes_stay author entries edits h =
+    filter_map-append change_in entries edits ∙ ap (λ (cs : List CommittedChange). changes entries ++ cs) (changes_none author edits h) ∙ append-nil (changes entries)
+
+counted_none : (author : Device) (n : ℕ) (edits : List (List ℕ)) → AllByRecursion (IsOthersEdit author) edits → fold (λ (m : ℕ) (b : List ℕ). m + cond (is_by author b) 1 0) n edits ≡ n
+counted_none author n [] h = refl
+counted_none author n (bytes ∷ edits) h =
+    let z : n + cond (is_by author bytes) 1 0 ≡ n = ap (λ (t : Bool). n + cond t 1 0) h.0.others ∙ omega arith in
+    ap (λ (k : ℕ). fold (λ (m : ℕ) (b : List ℕ). m + cond (is_by author b) 1 0) k edits) z ∙ counted_none author n edits h.1
+
+pub count_stays : (author : Device) (entries edits : List (List ℕ)) → AllByRecursion (IsOthersEdit author) edits → count_of author (entries ++ edits) ≡ count_of author entries
+count_stays author entries edits h =
+    fold-append (λ (m : ℕ) (b : List ℕ). m + cond (is_by author b) 1 0) 0 entries edits ∙ counted_none author (count_of author entries) edits h
+
+-- the last position of a test that none of the further entries passes
+last_from_none : (p : List ℕ → Bool) (found at : ℕ) (entries edits : List (List ℕ)) → AllByRecursion (λ b. p b ≡ false) edits → last_from p found at (entries ++ edits) ≡ last_from p found at entries
+last_from_none p found at [] [] h = refl
+last_from_none p found at [] (b ∷ edits) h = ap (λ (t : Bool). last_from p (cond t (suc at) found) (suc at) edits) h.0 ∙ last_from_none p found (suc at) [] edits h.1
+last_from_none p found at (a ∷ entries) edits h = last_from_none p (cond (p a) (suc at) found) (suc at) entries edits h
+
+last_from_le : (p : List ℕ → Bool) (found at : ℕ) (entries : List (List ℕ)) → found ≤ at → last_from p found at entries ≤ at + length entries
+last_from_le p found at [] h = omega (arith, h)
+last_from_le p found at (a ∷ entries) h = go (p a) (last_from_le p (suc at) (suc at) entries (omega arith)) (last_from_le p found (suc at) entries (omega (arith, h)))
+  where
+    go : (t : Bool) → last_from p (suc at) (suc at) entries ≤ suc at + length entries → last_from p found (suc at) entries ≤ suc at + length entries
+        → last_from p (cond t (suc at) found) (suc at) entries ≤ at + suc (length entries)
+    go true a b = omega (arith, a)
+    go false a b = omega (arith, b)
+
+no_changes : (author : Device) (edits : List (List ℕ)) → AllByRecursion (IsOthersEdit author) edits → AllByRecursion (λ b. is_some (change_in b) ≡ false) edits
+no_changes author [] h = tt
+no_changes author (b ∷ edits) h = (ap (λ (o : Option CommittedChange). is_some o) h.0.edit, no_changes author edits h.1)
+
+not_own : (author : Device) (edits : List (List ℕ)) → AllByRecursion (IsOthersEdit author) edits → AllByRecursion (λ b. is_by author b ≡ false) edits
+not_own author [] h = tt
+not_own author (b ∷ edits) h = (h.0.others, not_own author edits h.1)
+
+pub barrier_before : (author : Device) (entries edits : List (List ℕ)) → AllByRecursion (IsOthersEdit author) edits → barrier_of (entries ++ edits) ≤ length entries
+barrier_before author entries edits h =
+    omega (arith, last_from_none (λ b. is_some (change_in b)) 0 0 entries edits (no_changes author edits h), last_from_le (λ b. is_some (change_in b)) 0 0 entries (omega arith))
+
+pub last_before : (author : Device) (entries edits : List (List ℕ)) → AllByRecursion (IsOthersEdit author) edits → last_of author (entries ++ edits) ≤ length entries
+last_before author entries edits h =
+    omega (arith, last_from_none (is_by author) 0 0 entries edits (not_own author edits h), last_from_le (is_by author) 0 0 entries (omega arith))

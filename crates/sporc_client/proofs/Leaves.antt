@@ -1,8 +1,7 @@
 -- The leaves of a client's submissions are different ones.
-use Rattle.std.proofs.Common.{◌≡◌, ℕ, zero, suc, ◌+◌, ◌<◌, ◌≤◌, ◌⊎◌, inl, inr, List, [], ◌∷◌, refl, ap, sym, ◌∙◌, subst, arith, Option, None, Some}
-use Rattle.std.specs.List.{slice_get}
-use Rattle.sporc_client.specs.ClientModel.{Rise}
-use Rattle.sporc_client.specs.LeafUses.{AreUses, IsReopening, IsUse, LeafSupply, LeafUse, Uses, leaves_used}
+use Rattle.std.proofs.Common.{◌≡◌, ℕ, zero, suc, ◌+◌, ◌<◌, ◌≤◌, inl, inr, List, [], ◌∷◌, refl, ap, arith, Option, None, Some}
+use Rattle.sporc_client.proofs.Common.{slice_get, cons_option, Rise}
+use Rattle.sporc_client.specs.LeafUses.{AreUses, IsReopening, LeafSupply, LeafUse, Uses, leaves_used}
 
 -- numbers of which each is above all before it, from the first on
 abbrev Climb : ℕ → List ℕ → Type 0
@@ -51,59 +50,42 @@ unfolding least
 least-le (Some kept) next was = omega (arith, was)
 least-le None next was = omega arith
 
--- what calls from a supply on give, if its ticket was drawn
-abbrev ClimbsFrom : LeafSupply → List ℕ → Type 0
-ClimbsFrom s ns = WasDrawn s.ticket s.next → Climb (least s.ticket s.next) ns
+-- by the leaf that a call gave, how the least one before it stands to the least one after it
+abbrev Rises : ℕ → Option ℕ → ℕ → Type 0
+Rises low (Some leaf) high = (low ≤ leaf) × (leaf < high)
+Rises low None high = low ≤ high
 
--- before a call that gave an entry
-before_entry : (ticket : Option ℕ) (next leaf : ℕ) (after : LeafSupply) (ns : List ℕ) → WasDrawn ticket next → Uses ticket next (Some leaf) after → ClimbsFrom after ns
-    → Climb (least ticket next) (leaf ∷ ns)
+-- what a call does to a supply whose ticket was drawn
+record Goes (ticket : Option ℕ) (next : ℕ) (leaf : Option ℕ) (after : LeafSupply) : Type 0 where
+  drawn : WasDrawn after.ticket after.next
+  rises : Rises (least ticket next) leaf (least after.ticket after.next)
+
+use_goes : (ticket : Option ℕ) (next : ℕ) (leaf : Option ℕ) (after : LeafSupply) → WasDrawn ticket next → Uses ticket next leaf after → Goes ticket next leaf after
 unfolding least
-before_entry (Some kept) next leaf after ns was call rest =
-    let from = subst (λ (s : LeafSupply). ClimbsFrom s ns) call.1 rest in
-    (omega (arith, call.0), climb_lower next (leaf + 1) ns (from tt) (omega (arith, was, call.0)))
-before_entry None next leaf after ns was call rest =
-    let from = subst (λ (s : LeafSupply). ClimbsFrom s ns) call.1 rest in
-    (omega (arith, call.0), climb_lower (next + 1) (leaf + 1) ns (from tt) (omega (arith, call.0)))
+use_goes (Some kept) next (Some leaf) after was did = rw did.1 (record { drawn = tt; rises = (omega (arith, did.0), omega (arith, was, did.0)) })
+use_goes None next (Some leaf) after was did = rw did.1 (record { drawn = tt; rises = (omega (arith, did.0), omega (arith, did.0)) })
+use_goes (Some kept) next None after was did = rw did (record { drawn = was; rises = omega arith })
+use_goes None next None after was (inl did) = rw did (record { drawn = tt; rises = omega arith })
+use_goes None next None after was (inr did) = rw did (record { drawn = omega arith; rises = omega arith })
 
--- before one that gave none
-before_none : (ticket : Option ℕ) (next : ℕ) (after : LeafSupply) (ns : List ℕ) → WasDrawn ticket next → Uses ticket next None after → ClimbsFrom after ns
-    → Climb (least ticket next) ns
+-- and to one that is opened again
+opening_goes : (s : LeafSupply) (call : LeafUse) → WasDrawn s.ticket s.next → IsReopening s call → Goes s.ticket s.next call.leaf call.after
 unfolding least
-before_none (Some kept) next after ns was call rest = (subst (λ (s : LeafSupply). ClimbsFrom s ns) call rest) was
-before_none None next after ns was (inl call) rest = (subst (λ (s : LeafSupply). ClimbsFrom s ns) call rest) tt
-before_none None next after ns was (inr call) rest =
-    let from = subst (λ (s : LeafSupply). ClimbsFrom s ns) call rest in
-    from (omega arith)
+opening_goes s call was is =
+    rw is.none (record { drawn = rw is.given_up tt; rises = rw is.given_up (omega (arith, is.forward, least-le s.ticket s.next was)) })
 
-before_use : (s : LeafSupply) (leaf : Option ℕ) (after : LeafSupply) (uses : List LeafUse) → WasDrawn s.ticket s.next → IsUse s leaf after → ClimbsFrom after (leaves_used uses)
-    → Climb (least s.ticket s.next) (leaves_used (record { leaf = leaf; after = after } ∷ uses))
-before_use s (Some leaf) after uses was call rest = before_entry s.ticket s.next leaf after (leaves_used uses) was call rest
-before_use s None after uses was call rest = before_none s.ticket s.next after (leaves_used uses) was call rest
+climb_on : (leaf : Option ℕ) (low high : ℕ) (ns : List ℕ) → Rises low leaf high → Climb high ns → Climb low (cons_option leaf ns)
+climb_on (Some leaf) low high ns rises climb = (rises.0, climb_lower high (leaf + 1) ns climb (omega (arith, rises.1)))
+climb_on None low high ns rises climb = climb_lower high low ns climb rises
 
--- and before the client is opened again
-before_opening : (s : LeafSupply) (next : ℕ) (uses : List LeafUse) → WasDrawn s.ticket s.next → s.next ≤ next → ClimbsFrom (record { next = next; ticket = None }) (leaves_used uses)
-    → Climb (least s.ticket s.next) (leaves_used (record { leaf = None; after = record { next = next; ticket = None } } ∷ uses))
-unfolding least
-before_opening s next uses was forward rest = climb_lower next (least s.ticket s.next) (leaves_used uses) (rest tt) (omega (arith, forward, least-le s.ticket s.next was))
-
-reopened : (s : LeafSupply) (call : LeafUse) → IsReopening s call → call ≡ record { leaf = None; after = record { next = call.after.next; ticket = None } }
-reopened s call is =
-    let opens : Option ℕ → Option ℕ → LeafUse = λ leaf ticket. record { leaf = leaf; after = record { next = call.after.next; ticket = ticket } } in
-    ap (λ (leaf : Option ℕ). opens leaf call.after.ticket) is.none ∙ ap (opens None) is.given_up
-
-before : (s : LeafSupply) (call : LeafUse) (uses : List LeafUse) → WasDrawn s.ticket s.next → (IsUse s call.leaf call.after ⊎ IsReopening s call) → ClimbsFrom call.after (leaves_used uses)
-    → Climb (least s.ticket s.next) (leaves_used (call ∷ uses))
-before s call uses was (inl is) rest = before_use s call.leaf call.after uses was is rest
-before s call uses was (inr is) rest =
-    let same = reopened s call is in
-    let opening : LeafUse = record { leaf = None; after = record { next = call.after.next; ticket = None } } in
-    let from = subst (λ (u : LeafUse). ClimbsFrom u.after (leaves_used uses)) same rest in
-    subst (λ (u : LeafUse). Climb (least s.ticket s.next) (leaves_used (u ∷ uses))) (sym same) (before_opening s call.after.next uses was is.forward from)
-
-uses_climb : (s : LeafSupply) (uses : List LeafUse) → AreUses s uses → ClimbsFrom s (leaves_used uses)
+uses_climb : (s : LeafSupply) (uses : List LeafUse) → AreUses s uses → WasDrawn s.ticket s.next → Climb (least s.ticket s.next) (leaves_used uses)
 uses_climb s [] are was = tt
-uses_climb s (call ∷ uses) are was = before s call uses was are.0 (uses_climb call.after uses are.1)
+uses_climb s (call ∷ uses) are was =
+    let goes : Goes s.ticket s.next call.leaf call.after = elim (are.0) [
+      | inl is ↦ use_goes s.ticket s.next call.leaf call.after was is
+      | inr is ↦ opening_goes s call was is
+    ] in
+    climb_on call.leaf (least s.ticket s.next) (least call.after.ticket call.after.next) (leaves_used uses) goes.rises (uses_climb call.after uses are.1 goes.drawn)
 
 pub uses_once : (next : ℕ) (uses : List LeafUse) (i j leaf : ℕ) → AreUses (record { next = next; ticket = None }) uses
     → slice_get (leaves_used uses) i ≡ Some leaf → slice_get (leaves_used uses) j ≡ Some leaf → i ≡ j

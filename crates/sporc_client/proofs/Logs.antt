@@ -1,15 +1,10 @@
 -- One more event of a log.
 use Rattle.std.proofs.Common.{◌≡◌, ℕ, ◌+◌, ◌-◌, true, List, [], ◌∷◌, ◌++◌, length, refl, ap, sym, ◌∙◌, subst, arith, append_assoc, length-append}
-use Rattle.std.proofs.lemmas.Bool.{and_parts}
-use Rattle.std.proofs.lemmas.List.{append-nil as append_nil, length-map}
+use Rattle.sporc_client.proofs.Common.{and_parts, append_nil, length-map, slice_index_or, Event, Logged, Accept, accepted_in, entries_by, filled_event, journal_from, journal_of, log_of, stored_event}
+use Rattle.sporc_client.proofs.Common.{Opening, PlainClient, opened, replay_from, step, can_log, can_log_all, fold_push}
 use Rattle.std.proofs.Math.Seq.{get_or-append_seam}
-use Rattle.std.specs.List.{slice_index_or}
-use Rattle.sporc_client.specs.declared.event.Event.{Event}
-use Rattle.sporc_client.specs.Log.{Logged, Edit, Change, Submit, Dropped, Accept, Discard, accepted_in, entries_by, filled_event, journal_from, journal_of, log_of, stored_event}
-use Rattle.sporc_client.specs.PlainClient.{Opening, PlainClient, opened}
-use Rattle.sporc_client.specs.Step.{replay, replay_from, step}
-use Rattle.sporc_client.specs.Allowed.{can_log, can_log_all, is_allowed}
-use Rattle.sporc_client.proofs.Shown.{fold_more}
+use Rattle.sporc_client.specs.Step.{replay}
+use Rattle.sporc_client.specs.Allowed.{is_allowed}
 
 -- ---- the journal and the entries
 
@@ -21,7 +16,7 @@ accepted_more (e ∷ log) event = ap (λ (es : List (List ℕ)). entries_by e ++
 pub events_logged : (entries : List (List ℕ)) (journal found : List Event) → found ≡ journal → length found ≡ length (log_of entries journal)
 events_logged entries journal found is = ap length is ∙ sym (length-map journal (filled_event entries))
 
-journal_more : (n : ℕ) (log : List Logged) (event : Logged) → journal_from n (log ++ event ∷ []) ≡ journal_from n log ++ stored_event (n + length (accepted_in log)) event ∷ []
+pub journal_more : (n : ℕ) (log : List Logged) (event : Logged) → journal_from n (log ++ event ∷ []) ≡ journal_from n log ++ stored_event (n + length (accepted_in log)) event ∷ []
 journal_more n [] event = ap (λ (k : ℕ). stored_event k event ∷ []) (omega arith)
 journal_more n (e ∷ log) event =
     ap (λ (es : List Event). stored_event n e ∷ es)
@@ -29,14 +24,10 @@ journal_more n (e ∷ log) event =
     ∙ ap (λ (k : ℕ). journal_from (n + length (entries_by e)) log ++ stored_event k event ∷ []) (omega (arith, length-append (entries_by e) (accepted_in log))))
 
 filled_one : (all pre rest : List (List ℕ)) (event : Logged) → all ≡ pre ++ (entries_by event ++ rest) → filled_event all (stored_event (length pre) event) ≡ event
-filled_one all pre rest (Edit by seen marks) is = refl
-filled_one all pre rest (Change by change) is = refl
-filled_one all pre rest (Submit by entry) is = refl
-filled_one all pre rest (Dropped by fault) is = refl
 filled_one all pre rest (Accept by entry) is =
     let place : length pre + 1 - 1 ≡ length pre = omega arith in
     ap (Accept by) (ap (λ (n : ℕ). slice_index_or all n []) place ∙ ap (λ (es : List (List ℕ)). slice_index_or es (length pre) []) is ∙ get_or-append_seam pre entry rest [])
-filled_one all pre rest (Discard by) is = refl
+filled_one all pre rest event is = refl
 
 filled_all : (all pre more : List (List ℕ)) (log : List Logged) → all ≡ pre ++ (accepted_in log ++ more) → log_of all (journal_from (length pre) log) ≡ log
 filled_all all pre more [] is = refl
@@ -76,7 +67,7 @@ stores_more log event entries journal is journal_is =
 
 pub replay_more : (opening : Opening) (log : List Logged) (event : Logged) → replay opening (log ++ event ∷ []) ≡ step (replay opening log) event
 unfolding replay
-replay_more opening log event = fold_more step (opened opening) log event
+replay_more opening log event = fold_push step (opened opening) log event
 
 pub allowed_more : (c : PlainClient) (log : List Logged) (event : Logged) → can_log_all c log ≡ true → can_log (replay_from c log) event ≡ true → can_log_all c (log ++ event ∷ []) ≡ true
 allowed_more c [] event so_far here = rw here refl

@@ -1,29 +1,19 @@
 -- Each move of a run keeps what holds of every client.
-use Rattle.std.proofs.Common.{◌≡◌, ℕ, zero, suc, ◌+◌, Bool, true, false, cond, List, [], ◌∷◌, ◌++◌, length, take, refl, ap, sym, ◌∙◌, subst, Option, None, Some, ◌⊎◌, inl, inr}
-use Rattle.std.specs.Prelude.{IsSomeAnd, Contains}
-use Rattle.std.specs.FinMap.{get}
-use Rattle.sporc_member.specs.declared.device.Device.{Device}
-use Rattle.sporc_member.specs.Device.{same_device}
-use Rattle.sporc_member.proofs.SameDevice.{one_same, same_one}
-use Rattle.sporc_epoch.specs.Keys.{Keys}
-use Rattle.sporc_head.specs.declared.refusal.Refusal.{Refusal}
+use Rattle.std.proofs.Common.{◌≡◌, ℕ, zero, suc, ◌+◌, Bool, true, false, cond, List, [], ◌∷◌, ◌++◌, length, take, refl, ap, sym, ◌∙◌, subst, arith, Option, None, Some, ◌⊎◌, inl, inr}
+use Rattle.sporc_client.proofs.Common.{IsSomeAnd, Contains, ⊤, Contains-append_cases, get, Device, same_device, one_same, same_one, Keys, Refusal, Good, Meets, good_none, good_push, good_take, Logged}
+use Rattle.sporc_client.proofs.Common.{Submit, Accept, Opening, PlainClient, opened, journal_has_room, refusal_of, can_log, accepted, log_of_entries, step, Setup, World, Signing, Move, Open, Happen}
+use Rattle.sporc_client.proofs.Common.{Give, Restart, start, after, after_all, May, IsRun, IsAt, given, opening_of, signings, IsReached}
 use Rattle.sporc_line.specs.Keys.{key_after}
-use Rattle.sporc_line.specs.Good.{Good, Meets}
-use Rattle.sporc_line.proofs.Goods.{good_none, good_push, good_take}
-use Rattle.sporc_client.specs.Log.{Logged, Edit, Change, Submit, Dropped, Accept, Discard}
-use Rattle.sporc_client.specs.PlainClient.{Opening, PlainClient, opened}
-use Rattle.sporc_client.specs.Answers.{journal_has_room, refusal_of}
-use Rattle.sporc_client.specs.Allowed.{can_log, is_allowed}
-use Rattle.sporc_client.specs.Step.{accepted, log_of_entries, replay, step}
-use Rattle.sporc_client.specs.Run.{Setup, World, Signing, Move, Open, Happen, Give, Restart, start, after, after_all, May, IsRun, IsAt, given, opening_of, signings}
-use Rattle.sporc_client.specs.Reached.{IsReached}
+use Rattle.sporc_client.specs.Allowed.{is_allowed}
+use Rattle.sporc_client.specs.Step.{replay}
 use Rattle.sporc_client.proofs.Worlds.{gives_to, happens_to, restarted, restarts, with_client}
 use Rattle.sporc_client.proofs.Logs.{is_allowed_more, replay_more}
-use Rattle.sporc_client.proofs.AcceptedHistories.{accept_allowed, accepted_as, accepts_all, accept_passes}
+use Rattle.sporc_client.proofs.AcceptedHistories.{accept_allowed, accepts_all, accept_passes}
+use Rattle.sporc_client.proofs.Kept.{accepted_as}
 
 -- ---- one client
 
-reached_opened : (s : Setup) (who : Device) (ring : Keys) → Contains s.devices who → Meets s.genesis 0 (get ring 0) s.genesis.commitment → IsReached s who (opened (opening_of s who ring))
+pub reached_opened : (s : Setup) (who : Device) (ring : Keys) → Contains s.devices who → Meets s.genesis 0 (get ring 0) s.genesis.commitment → IsReached s who (opened (opening_of s who ring))
 unfolding key_after replay is_allowed
 reached_opened s who ring is opens = record {
   is_device = is;
@@ -50,12 +40,8 @@ accepted_leaves c bytes good none =
     }
 
 step_leaves : (c : PlainClient) (event : Logged) → Good c.opening.genesis c.opening.kit c.entries → can_log c event ≡ true → Leaves c (step c event)
-step_leaves c (Edit by seen marks) good may = record { opening = refl; good = good }
-step_leaves c (Change by change) good may = record { opening = refl; good = good }
-step_leaves c (Submit by bytes) good may = record { opening = refl; good = good }
-step_leaves c (Dropped by fault) good may = record { opening = refl; good = good }
 step_leaves c (Accept by bytes) good may = accepted_leaves c bytes good (accept_passes c by bytes may)
-step_leaves c (Discard by) good may = record { opening = refl; good = good }
+step_leaves c event good may = record { opening = refl; good = good }
 
 -- an event that a client allows
 pub reached_step : (s : Setup) (who : Device) (c : PlainClient) (event : Logged) → IsReached s who c → can_log c event ≡ true → IsReached s who (step c event)
@@ -72,18 +58,6 @@ reached_step s who c event reached may =
       allowed = ap (λ (o : Opening). is_allowed o log) next.opening ∙ is_allowed_more c.opening reached.log event reached.allowed here;
       state = ap (λ (d : PlainClient). step d event) reached.state ∙ sym (replay_more c.opening reached.log event) ∙ ap (λ (o : Opening). replay o log) (sym next.opening);
     }
-
--- bytes that are handed to it
-reached_given : (s : Setup) (who : Device) (position : ℕ) (c : PlainClient) (bytes : List ℕ) → IsReached s who c → IsReached s who (given c bytes (refusal_of c position bytes))
-reached_given s who position c bytes reached = go (refusal_of c position bytes) refl
-  where
-    room : (has : Bool) → journal_has_room c ≡ has → refusal_of c position bytes ≡ None → IsReached s who (cond has (accepted c bytes) c)
-    room true has none = reached_step s who c (Accept 0 bytes) reached (accept_allowed c 0 position bytes none has)
-    room false has none = reached
-
-    go : (r : Option Refusal) → refusal_of c position bytes ≡ r → IsReached s who (given c bytes r)
-    go (Some refusal) is = reached
-    go None is = room (journal_has_room c) refl is
 
 -- its history up to some entry, as one that was accepted anew
 reached_restarted : (s : Setup) (who : Device) (k : ℕ) (c : PlainClient) → IsReached s who c → IsReached s who (restarted c k)
@@ -115,32 +89,103 @@ with_client_cases clients i j c d = go (same_device j i) refl
 pub put_same : (clients : Device → Option PlainClient) (i : Device) (c : PlainClient) → with_client clients i c i ≡ Some c
 put_same clients i c = ap (λ (same : Bool). cond same (Some c) (clients i)) (one_same i)
 
-abbrev pub AllReached : Setup → World → Type 0
-AllReached s w = (who : Device) (c : PlainClient) → w.clients who ≡ Some c → IsReached s who c
+-- what is meant to hold of each client of a world, by its device
+abbrev pub AllClients : (Device → PlainClient → Type 0) → World → Type 0
+AllClients P w = (who : Device) (c : PlainClient) → w.clients who ≡ Some c → P who c
 
-reached_with : (s : Setup) (w : World) (i : Device) (c : PlainClient) (signed : List Signing) → AllReached s w → IsReached s i c → AllReached s (record { clients = with_client w.clients i c; signed = signed })
-reached_with s w i c signed all reached j d at = elim (with_client_cases w.clients i j c d at) [
-  | inl p ↦ subst (λ (j : Device). IsReached s j d) (sym p.0) (subst (IsReached s i) p.1 reached)
+-- it holds of the client that a move makes: of one that is opened, of one behind an event that it allows, or of one that goes back
+abbrev pub Keeps : (Device → PlainClient → Type 0) → Setup → World → Move → Type 0
+Keeps P s w (Open who ring) = P who (opened (opening_of s who ring))
+Keeps P s w (Happen who event) = (c : PlainClient) → w.clients who ≡ Some c → can_log c event ≡ true → (after s w (Happen who event)).clients who ≡ Some (step c event) → P who (step c event)
+Keeps P s w (Give who position bytes) =
+    (c : PlainClient) → w.clients who ≡ Some c → can_log c (Accept 0 bytes) ≡ true → (after s w (Give who position bytes)).clients who ≡ Some (accepted c bytes) → P who (accepted c bytes)
+Keeps P s w (Restart who k) = (c : PlainClient) → w.clients who ≡ Some c → P who (restarted c k)
+
+put_keeps : (P : Device → PlainClient → Type 0) (w : World) (i : Device) (c : PlainClient) → AllClients P w → P i c → (j : Device) (d : PlainClient) → with_client w.clients i c j ≡ Some d → P j d
+put_keeps P w i c all new j d at = elim (with_client_cases w.clients i j c d at) [
+  | inl p ↦ subst (λ (j : Device). P j d) (sym p.0) (subst (P i) p.1 new)
   | inr p ↦ all j d p
 ]
 
+-- so it holds of each client after the move, if it does of those before it
+pub after_keeps : (P : Device → PlainClient → Type 0) (s : Setup) (w : World) (move : Move) → AllClients P w → May s w move → Keeps P s w move → AllClients P (after s w move)
+after_keeps P s w (Open who ring) all may new = put_keeps P w who (opened (opening_of s who ring)) all new
+after_keeps P s w (Happen who event) all may new = go (w.clients who) refl may
+  where
+    go : (o : Option PlainClient) → w.clients who ≡ o → IsSomeAnd o (λ c. can_log c event ≡ true) → AllClients P (happens_to w who event o)
+    go None is may = all
+    go (Some c) is may = put_keeps P w who (step c event) all (new c is may (ap (λ (o : Option PlainClient). (happens_to w who event o).clients who) is ∙ put_same w.clients who (step c event)))
+after_keeps P s w (Give who position bytes) all may new = go (w.clients who) refl
+  where
+    room : (c : PlainClient) → w.clients who ≡ Some c → refusal_of c position bytes ≡ None → (has : Bool) → journal_has_room c ≡ has → P who (cond has (accepted c bytes) c)
+    room c is none false has = all who c is
+    room c is none true has =
+        new c is (accept_allowed c 0 position bytes none has)
+        (ap (λ (o : Option PlainClient). (gives_to w who position bytes o).clients who) is ∙ put_same w.clients who (given c bytes (refusal_of c position bytes))
+        ∙ ap (λ (r : Option Refusal). Some (given c bytes r)) none ∙ ap (λ (has : Bool). Some (cond has (accepted c bytes) c)) has)
+
+    handed : (c : PlainClient) → w.clients who ≡ Some c → (r : Option Refusal) → refusal_of c position bytes ≡ r → P who (given c bytes r)
+    handed c is (Some refusal) refuses = all who c is
+    handed c is None none = room c is none (journal_has_room c) refl
+
+    go : (o : Option PlainClient) → w.clients who ≡ o → AllClients P (gives_to w who position bytes o)
+    go None is = all
+    go (Some c) is = put_keeps P w who (given c bytes (refusal_of c position bytes)) all (handed c is (refusal_of c position bytes) refl)
+after_keeps P s w (Restart who k) all may new = go (w.clients who) refl
+  where
+    go : (o : Option PlainClient) → w.clients who ≡ o → AllClients P (restarts w who k o)
+    go None is = all
+    go (Some c) is = put_keeps P w who (restarted c k) all (new c is)
+
+abbrev pub AllReached : Setup → World → Type 0
+AllReached s w = AllClients (IsReached s) w
+
 pub reached_after : (s : Setup) (w : World) (move : Move) → AllReached s w → May s w move → AllReached s (after s w move)
-reached_after s w (Open who ring) all may = reached_with s w who (opened (opening_of s who ring)) w.signed all (reached_opened s who ring may.0 may.1)
-reached_after s w (Happen who event) all may = go (w.clients who) refl may
+reached_after s w move all may = after_keeps (IsReached s) s w move all may (keeps move may)
   where
-    go : (o : Option PlainClient) → w.clients who ≡ o → IsSomeAnd o (λ c. can_log c event ≡ true) → AllReached s (happens_to w who event o)
-    go None is may = absurd may
-    go (Some c) is may = reached_with s w who (step c event) (w.signed ++ signings who c event) all (reached_step s who c event (all who c is) may)
-reached_after s w (Give who position bytes) all may = go (w.clients who) refl
+    keeps : (move : Move) → May s w move → Keeps (IsReached s) s w move
+    keeps (Open who ring) may = reached_opened s who ring may.0 may.1
+    keeps (Happen who event) may = λ c is allowed there. reached_step s who c event (all who c is) allowed
+    keeps (Give who position bytes) may = λ c is allowed there. reached_step s who c (Accept 0 bytes) (all who c is) allowed
+    keeps (Restart who k) may = λ c is. reached_restarted s who k c (all who c is)
+
+-- what is meant to hold of all that was ever signed
+abbrev pub AllSigned : (Signing → Type 0) → World → Type 0
+AllSigned P w = (x : Signing) → Contains w.signed x → P x
+
+-- it holds of what a move signs
+abbrev pub KeepsSigned : (Signing → Type 0) → World → Move → Type 0
+KeepsSigned P w (Happen who (Submit by bytes)) = (c : PlainClient) → w.clients who ≡ Some c → can_log c (Submit by bytes) ≡ true → P (record { who = who; entry = bytes; client = c })
+KeepsSigned P w move = ⊤
+
+pub signed_after : (P : Signing → Type 0) (s : Setup) (w : World) (move : Move) → AllSigned P w → May s w move → KeepsSigned P w move → AllSigned P (after s w move)
+signed_after P s w (Open who ring) all may new = all
+signed_after P s w (Happen who event) all may new = go (w.clients who) refl may
   where
-    go : (o : Option PlainClient) → w.clients who ≡ o → AllReached s (gives_to w who position bytes o)
-    go None is = all
-    go (Some c) is = reached_with s w who (given c bytes (refusal_of c position bytes)) w.signed all (reached_given s who position c bytes (all who c is))
-reached_after s w (Restart who k) all may = go (w.clients who) refl
+    signs : (event : Logged) (c : PlainClient) → w.clients who ≡ Some c → can_log c event ≡ true → KeepsSigned P w (Happen who event) → (x : Signing) → Contains (signings who c event) x → P x
+    signs (Submit by bytes) c is may new x (zero, within, at) = subst P at (new c is may)
+    signs (Submit by bytes) c is may new x (suc place, within, at) = absurd (omega (arith, within))
+    signs event c is may new x (place, within, at) = absurd (omega (arith, within))
+
+    go : (o : Option PlainClient) → w.clients who ≡ o → IsSomeAnd o (λ c. can_log c event ≡ true) → AllSigned P (happens_to w who event o)
+    go None is may x at = all x at
+    go (Some c) is may x at = elim (Contains-append_cases w.signed (signings who c event) x at) [
+      | inl p ↦ all x p
+      | inr p ↦ signs event c is may new x p
+    ]
+signed_after P s w (Give who position bytes) all may new = go (w.clients who)
   where
-    go : (o : Option PlainClient) → w.clients who ≡ o → AllReached s (restarts w who k o)
-    go None is = all
-    go (Some c) is = reached_with s w who (restarted c k) w.signed all (reached_restarted s who k c (all who c is))
+    go : (o : Option PlainClient) → AllSigned P (gives_to w who position bytes o)
+    go None = all
+    go (Some c) = all
+signed_after P s w (Restart who k) all may new = go (w.clients who)
+  where
+    go : (o : Option PlainClient) → AllSigned P (restarts w who k o)
+    go None = all
+    go (Some c) = all
+
+pub none_signed : (P : Signing → Type 0) (x : Signing) → Contains [] x → P x
+none_signed P x (place, within, at) = absurd (omega (arith, within))
 
 pub reached_all : (s : Setup) (w : World) (moves : List Move) → AllReached s w → IsRun s w moves → AllReached s (after_all s w moves)
 reached_all s w [] all run = all

@@ -1,19 +1,8 @@
 -- The shown text after one more event.
-use Rattle.std.proofs.Common.{◌≡◌, ℕ, zero, suc, ◌+◌, List, [], ◌∷◌, ◌++◌, length, take, drop, fold, refl, ap, sym, ◌∙◌, subst, add-one, Some}
-use Rattle.std.specs.List.{slice_get}
-use Rattle.sporc_line.proofs.Lists.{take_slice_get_more}
-use Rattle.std.proofs.lemmas.List.{take-append-drop}
-use Rattle.sporc_delta.specs.Marks.{Mark, apply, base_len, insert_marks, out_len, replacement, keep_marks}
-use Rattle.sporc_delta.proofs.Lengths.{base_len-insert_marks, base_len-keep_marks}
-use Rattle.sporc_suffix.specs.Forms.{Follow, later_over, reached}
+use Rattle.std.proofs.Common.{◌≡◌, ℕ, zero, suc, ◌+◌, List, [], ◌∷◌, ◌++◌, length, take, drop, refl, ap, sym, ◌∙◌, subst, add-one, Some}
+use Rattle.sporc_client.proofs.Common.{slice_get, take_slice_get_more, take-append-drop, Mark, apply, base_len, insert_marks, out_len, replacement, keep_marks, base_len-insert_marks}
+use Rattle.sporc_client.proofs.Common.{base_len-keep_marks, Follow, later_over, reached, Follow-take, reached-append, text_after, base_len-over, length-text, fold_push}
 use Rattle.sporc_suffix.proofs.Passing.{Follow-append, Follow-drop}
-use Rattle.sporc_suffix.proofs.Following.{Follow-take, reached-append}
-use Rattle.sporc_line.specs.Document.{text_after}
-use Rattle.sporc_line.proofs.FormLengths.{base_len-over, length-text}
-
-pub fold_more : {A B : Type 0} (f : B → A → B) (b : B) (xs : List A) (x : A) → fold f b (xs ++ x ∷ []) ≡ f (fold f b xs) x
-fold_more f b [] x = refl
-fold_more f b (y ∷ ys) x = fold_more f (f b y) ys x
 
 pub apply-keep_marks : (s : List ℕ) → apply (keep_marks (length s)) s ≡ s
 apply-keep_marks [] = refl
@@ -44,7 +33,7 @@ pub leads_on : (forms : List (List Mark)) (form : List Mark) (text next : List �
     → LeadTo (forms ++ form ∷ []) next
 leads_on forms form text next leads base is = record {
   follow = Follow-append 0 forms form leads.follow (base ∙ sym (length_shown forms text leads));
-  text_is = fold_more (λ text form. apply form text) [] forms form ∙ ap (apply form) leads.text_is ∙ is;
+  text_is = fold_push (λ text form. apply form text) [] forms form ∙ ap (apply form) leads.text_is ∙ is;
 }
 
 -- one that keeps the text

@@ -1,40 +1,18 @@
 -- What each entry that a client of a run signed says: who signed it, and on which history.
-use Rattle.std.proofs.Common.{◌≡◌, ℕ, zero, suc, ◌^◌, ◌<◌, ◌≤◌, true, List, [], ◌∷◌, length, take, refl, ap, sym, ◌∙◌, subst, arith, Option, None, Some, Result, Ok, inl, inr}
-use Rattle.std.specs.Prelude.{Contains, IsSomeAnd, is_some}
-use Rattle.std.proofs.lemmas.List.Elements.{Contains-append_cases}
-use Rattle.std.proofs.lemmas.List.Sums.{count_by-le-length}
+use Rattle.std.proofs.Common.{◌≡◌, ℕ, ◌^◌, ◌<◌, ◌≤◌, true, List, [], ◌∷◌, length, take, refl, ap, sym, ◌∙◌, arith, Result, Ok}
+use Rattle.sporc_client.proofs.Common.{Contains, is_some, count_by-le-length, height_of, Device, key_of, Entry, Genesis, Header, MAX_SIGNATURE, header_len, IsHeader, author_device, body_limit}
+use Rattle.sporc_client.proofs.Common.{counted_bytes, header_bytes, IsGenesis, genesis_bytes, header_again, MAX_ENTRIES, hash_of, is_by, roster_of, epoch_le, Pending, Chosen, kind_of, next_header}
+use Rattle.sporc_client.proofs.Common.{Submit, PlainClient, me_of, Setup, World, Signing, Move, Happen, start, after, after_all, May, IsRun, IsReached, IsWellFormed}
 use Rattle.sha2.proofs.Facts256.{length-sha256}
 use Rattle.lms_tree.specs.declared.lms_type.LmsType.{LmsType}
-use Rattle.lms_tree.specs.declared.lms_type.LmsType.TheVariants.{H5, H10, H15, H20, H25}
-use Rattle.lms_tree.specs.LmsType.{height_of}
+use Rattle.lms_tree.specs.declared.lms_type.LmsType.TheVariants.{H5}
 use Rattle.sporc_hash.specs.Chain.{genesis_string, genesis_value, link_string, next_value, value_after}
-use Rattle.sporc_member.specs.declared.device.Device.{Device}
-use Rattle.sporc_member.specs.Roster.{key_of}
 use Rattle.sporc_bytes.specs.Fields.{Reading, ◌>>=◌, counted_at, end_at}
 use Rattle.sporc_bytes.proofs.Fields.{bind_ok, ok_is}
-use Rattle.sporc_entry.specs.declared.entry.Entry.{Entry}
-use Rattle.sporc_entry.specs.declared.genesis.Genesis.{Genesis}
-use Rattle.sporc_entry.specs.declared.header.Header.{Header}
-use Rattle.sporc_entry.specs.declared.limits.TheConstants.{MAX_SIGNATURE}
-use Rattle.sporc_entry.specs.Version.{header_len}
-use Rattle.sporc_entry.specs.Entry.{IsHeader, author_device, body_limit, body_read, counted_bytes, entry_bytes, entry_of, header_bytes}
-use Rattle.sporc_entry.specs.Genesis.{IsGenesis, genesis_bytes}
-use Rattle.sporc_entry.proofs.EntryLaws.{header_again}
-use Rattle.sporc_head.specs.declared.limits.TheConstants.{MAX_ENTRIES}
-use Rattle.sporc_head.specs.History.{hash_of, is_by, roster_of}
-use Rattle.sporc_head.proofs.Grows.{epoch_le}
-use Rattle.sporc_client.specs.declared.pending.Pending.{Pending}
-use Rattle.sporc_client.specs.declared.pending.Pending.TheVariants.{Edit, Change}
-use Rattle.sporc_client.specs.Entries.{Chosen, entry_made, kind_of, next_header}
-use Rattle.sporc_client.specs.Log.{Logged}
-use Rattle.sporc_client.specs.Log as events
-use Rattle.sporc_client.specs.PlainClient.{PlainClient, me_of}
-use Rattle.sporc_client.specs.Allowed.{can_log}
-use Rattle.sporc_client.specs.Run.{Setup, World, Signing, Move, Open, Happen, Give, Restart, start, after, after_all, May, IsRun, signings}
-use Rattle.sporc_client.specs.Reached.{IsReached}
-use Rattle.sporc_client.specs.WellFormed.{IsWellFormed}
-use Rattle.sporc_client.proofs.Worlds.{gives_to, happens_to, restarts}
-use Rattle.sporc_client.proofs.Reached.{AllReached, reached_after, reached_start, run_front}
+use Rattle.sporc_entry.specs.Entry.{body_read, entry_bytes, entry_of}
+use Rattle.sporc_client.specs.declared.pending.Pending.TheVariants.{Edit}
+use Rattle.sporc_client.specs.Entries.{entry_made}
+use Rattle.sporc_client.proofs.Reached.{AllReached, AllSigned, KeepsSigned, none_signed, reached_after, reached_start, run_front, signed_after}
 use Rattle.sporc_client.proofs.SubmitRosters.{few_members, live_fits}
 use Rattle.sporc_client.proofs.Submitting.{IsMadeBy, chosen_in, made_by_submission}
 
@@ -83,14 +61,11 @@ length-hash_of g entries = length-value_after (genesis_value (genesis_bytes g)) 
 
 pub leaf_small : (t : LmsType) (q : ℕ) → q < 2 ^ height_of t → q < 2 ^ 32
 leaf_small H5 q h = omega (arith, h)
-leaf_small H10 q h = omega (arith, h)
-leaf_small H15 q h = omega (arith, h)
-leaf_small H20 q h = omega (arith, h)
-leaf_small H25 q h = omega (arith, h)
+leaf_small t q h = omega (arith, h)
 
 kind_small : (item : Pending) → (1 ≤ kind_of item) × (kind_of item ≤ 2)
 kind_small (Edit marks) = (omega arith, omega arith)
-kind_small (Change change) = (omega arith, omega arith)
+kind_small item = (omega arith, omega arith)
 
 -- that of any item, by any leaf, while the history has room
 pub next_is_header : (s : Setup) (who : Device) (c : PlainClient) (leaf : ℕ) (item : Pending) → IsWellFormed s → IsReached s who c → length c.entries < MAX_ENTRIES → leaf < 2 ^ height_of c.opening.key.lms
@@ -156,46 +131,14 @@ signing_made s who c bytes well reached makes =
     }
 
 abbrev pub AllSignings : Setup → World → Type 0
-AllSignings s w = (x : Signing) → Contains w.signed x → IsSigning s x
-
-pub none_signed : (s : Setup) (x : Signing) → Contains [] x → IsSigning s x
-none_signed s x (place, within, at) = absurd (omega (arith, within))
-
-event_signings : (s : Setup) (who : Device) (c : PlainClient) (event : Logged) → IsWellFormed s → IsReached s who c → can_log c event ≡ true → (x : Signing) → Contains (signings who c event) x → IsSigning s x
-event_signings s who c (events.Edit by seen marks) well reached may x at = none_signed s x at
-event_signings s who c (events.Change by change) well reached may x at = none_signed s x at
-event_signings s who c (events.Submit by bytes) well reached may x at = one x at
-  where
-    made : IsSigning s (record { who = who; entry = bytes; client = c })
-    made = signing_made s who c bytes well reached (made_by_submission c by bytes may)
-
-    one : (x : Signing) → Contains (record { who = who; entry = bytes; client = c } ∷ []) x → IsSigning s x
-    one x (zero, within, at) = subst (IsSigning s) at made
-    one x (suc place, within, at) = absurd (omega (arith, within))
-event_signings s who c (events.Dropped by fault) well reached may x at = none_signed s x at
-event_signings s who c (events.Accept by bytes) well reached may x at = none_signed s x at
-event_signings s who c (events.Discard by) well reached may x at = none_signed s x at
+AllSignings s w = AllSigned (IsSigning s) w
 
 pub signings_after : (s : Setup) (w : World) (move : Move) → IsWellFormed s → AllReached s w → AllSignings s w → May s w move → AllSignings s (after s w move)
-signings_after s w (Open who ring) well reached all may = all
-signings_after s w (Happen who event) well reached all may = go (w.clients who) refl may
+signings_after s w move well reached all may = signed_after (IsSigning s) s w move all may (signs move)
   where
-    go : (o : Option PlainClient) → w.clients who ≡ o → IsSomeAnd o (λ c. can_log c event ≡ true) → AllSignings s (happens_to w who event o)
-    go None is may x at = absurd may
-    go (Some c) is may x at = elim (Contains-append_cases w.signed (signings who c event) x at) [
-      | inl p ↦ all x p
-      | inr p ↦ event_signings s who c event well (reached who c is) may x p
-    ]
-signings_after s w (Give who position bytes) well reached all may = go (w.clients who)
-  where
-    go : (o : Option PlainClient) → AllSignings s (gives_to w who position bytes o)
-    go None = all
-    go (Some c) = all
-signings_after s w (Restart who k) well reached all may = go (w.clients who)
-  where
-    go : (o : Option PlainClient) → AllSignings s (restarts w who k o)
-    go None = all
-    go (Some c) = all
+    signs : (move : Move) → KeepsSigned (IsSigning s) w move
+    signs (Happen who (Submit by bytes)) = λ c is allowed. signing_made s who c bytes well (reached who c is) (made_by_submission c by bytes allowed)
+    signs move = tt
 
 signings_all : (s : Setup) (w : World) (moves : List Move) → IsWellFormed s → AllReached s w → AllSignings s w → IsRun s w moves → AllSignings s (after_all s w moves)
 signings_all s w [] well reached all run = all
@@ -204,7 +147,7 @@ signings_all s w (move ∷ moves) well reached all run =
 
 -- what was signed when a run ends, and at each moment
 pub signing_in : (s : Setup) (moves : List Move) (x : Signing) → IsWellFormed s → IsRun s start moves → Contains (after_all s start moves).signed x → IsSigning s x
-signing_in s moves x well run at = signings_all s start moves well (reached_start s) (none_signed s) run x at
+signing_in s moves x well run at = signings_all s start moves well (reached_start s) (none_signed (IsSigning s)) run x at
 
 pub signing_at : (s : Setup) (moves : List Move) (n : ℕ) (x : Signing) → IsWellFormed s → IsRun s start moves → Contains (after_all s start (take n moves)).signed x → IsSigning s x
 signing_at s moves n x well run at = signing_in s (take n moves) x well (run_front s start moves n run) at

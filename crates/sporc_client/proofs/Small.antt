@@ -1,32 +1,16 @@
 -- Each event keeps the limits.
-use Rattle.std.proofs.Common.{◌≡◌, ℕ, suc, ◌+◌, ◌*◌, ◌^◌, ◌<◌, ◌≤◌, List, [], ◌∷◌, ◌++◌, length, drop, fold, refl, ap, arith, length-append}
+use Rattle.std.proofs.Common.{◌≡◌, ℕ, suc, ◌+◌, ◌*◌, ◌^◌, ◌<◌, ◌≤◌, List, [], ◌∷◌, ◌++◌, length, drop, fold, refl, ap, arith, length-append, None, Option}
+use Rattle.sporc_client.proofs.Common.{w64, to_be_bytes, encode_utf8_all, Part, delta_bytes, part_bytes, parts_bytes, Mark, apply, remove_marks, inserted_len, insert_marks, replacement, keep_marks}
+use Rattle.sporc_client.proofs.Common.{marks_of, part_marks, runs, earlier, inserted_len-earlier, inserted_len-later, out_len-le, all_inserted, all_inserted-append, MAX_ENTRIES}
+use Rattle.sporc_client.proofs.Common.{inserted_len-keep_marks, inserted_len-append, inserted_len-remove_marks, inserted_len-insert_marks, inserted_len-over, length-apply, MemberChange}
+use Rattle.sporc_client.proofs.Common.{MAX_EDIT_BYTES, MAX_EVENTS, MAX_HEAD_BYTES, MAX_PENDING, MAX_SHOWN_LEN, Pending, Edit, Change, Discard, Dropped, PlainClient, after_pending, committed_of}
+use Rattle.sporc_client.proofs.Common.{shown_of, AreStated, beyond, inserted_by, rebased, AreShort, IsSmall, restated, step, keeps, ChangeFault, length-drop, text_of}
 use Rattle.std.proofs.Math.Nat.{mul-le-mul_left}
 use Rattle.std.proofs.lemmas.Str.{length-encode, len_utf8_bounds}
 use Rattle.std.specs.Char.{encode_utf8}
-use Rattle.std.specs.Int.{w64, to_be_bytes}
-use Rattle.std.specs.Str.{encode_utf8_all}
-use Rattle.sporc_delta.specs.declared.part.Part.{Part}
 use Rattle.sporc_delta.specs.declared.part.Part.TheVariants.{Keep, Insert as InsertText, Remove}
-use Rattle.sporc_delta.specs.Format.{delta_bytes, part_bytes, parts_bytes}
-use Rattle.sporc_delta.specs.Marks.{Mark, apply, remove_marks, inserted_len, insert_marks, replacement, keep_marks}
-use Rattle.sporc_delta.specs.Parts.{marks_of, part_marks, runs}
-use Rattle.sporc_delta.specs.Transforms.{earlier}
 use Rattle.sporc_delta.proofs.Runs.{marks_of-runs}
-use Rattle.sporc_xform.proofs.LengthLemmas.{inserted_len-earlier, inserted_len-later, out_len-le}
-use Rattle.sporc_suffix.specs.Forms.{all_inserted}
-use Rattle.sporc_suffix.proofs.Following.{all_inserted-append}
-use Rattle.sporc_head.specs.declared.limits.TheConstants.{MAX_ENTRIES}
-use Rattle.sporc_delta.proofs.Lengths.{inserted_len-keep_marks, inserted_len-append, inserted_len-remove_marks, inserted_len-insert_marks}
-use Rattle.sporc_line.proofs.FormLengths.{inserted_len-over, length-apply}
-use Rattle.sporc_member.specs.declared.change.Change.{Change as MemberChange}
-use Rattle.sporc_client.specs.declared.limits.TheConstants.{MAX_EDIT_BYTES, MAX_EVENTS, MAX_HEAD_BYTES, MAX_PENDING, MAX_SHOWN_LEN}
-use Rattle.sporc_client.specs.declared.pending.Pending.{Pending}
 use Rattle.sporc_client.specs.declared.pending.Pending.TheVariants as items
-use Rattle.sporc_client.specs.Log.{Edit, Change, Discard}
-use Rattle.sporc_client.specs.PlainClient.{PlainClient, after_pending, committed_of, shown_of}
-use Rattle.sporc_client.specs.Rebasing.{AreStated, beyond, inserted_by, rebased}
-use Rattle.sporc_client.specs.Small.{AreShort, IsSmall}
-use Rattle.sporc_client.specs.Step.{restated, step}
 
 -- ---- a delta inserts no more characters than it has bytes
 
@@ -111,53 +95,42 @@ lengths c small =
       shown = omega (arith, d, small.shown);
     }
 
--- ---- one shown delta more
+-- ---- a client with other entries and items, and one shown delta more
 
-pub record FewMore (forms : List (List Mark)) (form : List Mark) : Type 0 where
-  pub events : length (forms ++ form ∷ []) ≤ MAX_EVENTS
-  pub inserted : all_inserted (forms ++ form ∷ []) ≤ MAX_SHOWN_LEN * length (forms ++ form ∷ [])
-
-pub few_more : (forms : List (List Mark)) (form : List Mark) → length forms < MAX_EVENTS → all_inserted forms ≤ MAX_SHOWN_LEN * length forms → inserted_len form ≤ MAX_SHOWN_LEN → FewMore forms form
-few_more forms form room few here = record {
-  events = omega (arith, room, length-append forms (form ∷ []));
-  inserted = omega (arith, few, here, all_inserted-append forms (form ∷ []), length-append forms (form ∷ []));
+pub small_with : (c : PlainClient) (entries : List (List ℕ)) (pending : List Pending) (flight : Option (List ℕ)) (form : List Mark) → IsSmall c → length entries ≤ MAX_ENTRIES
+    → length (text_of c.opening.genesis c.opening.kit entries) ≤ MAX_HEAD_BYTES * length entries → length pending ≤ MAX_PENDING → AreShort pending → length c.shown < MAX_EVENTS → inserted_len form ≤ MAX_SHOWN_LEN
+    → IsSmall (record c { entries = entries; pending = pending; flight = flight; shown = c.shown ++ form ∷ [] })
+small_with c entries pending flight form small few committed items short room inserted = record {
+  entries = few;
+  committed = committed;
+  pending = items;
+  short = short;
+  events = omega (arith, room, length-append c.shown (form ∷ []));
+  shown = omega (arith, small.shown, inserted, all_inserted-append c.shown (form ∷ []), length-append c.shown (form ∷ []));
 }
+
+-- a delta that keeps the shown text inserts nothing
+pub keeps_few : (n : ℕ) → inserted_len (keep_marks n) ≤ MAX_SHOWN_LEN
+keeps_few n = omega (arith, inserted_len-keep_marks n)
 
 pub edit_small : (c : PlainClient) (by seen : ℕ) (marks : List Mark) → IsSmall c → length c.pending < MAX_PENDING → length c.shown < MAX_EVENTS → length (delta_bytes marks) ≤ MAX_EDIT_BYTES
     → IsSmall (step c (Edit by seen marks))
 edit_small c by seen marks small pending events bytes =
+    let item = items.Edit (restated c seen marks) in
     let few : inserted_len (restated c seen marks) ≤ MAX_EDIT_BYTES = omega (arith, bytes, inserted_len-bytes marks, inserted_len-over marks (drop seen c.shown)) in
-    let more = few_more c.shown (restated c seen marks) events small.shown (omega (arith, few)) in
-    record {
-      entries = small.entries;
-      committed = small.committed;
-      pending = omega (arith, pending, length-append c.pending (items.Edit (restated c seen marks) ∷ []));
-      short = short_edit c.pending (restated c seen marks) small.short few;
-      events = more.events;
-      shown = more.inserted;
-    }
+    small_with c c.entries (c.pending ++ item ∷ []) c.flight (restated c seen marks) small small.entries small.committed (omega (arith, pending, length-append c.pending (item ∷ [])))
+    (short_edit c.pending (restated c seen marks) small.short few) events (omega (arith, few))
 
 pub change_small : (c : PlainClient) (by : ℕ) (change : MemberChange) → IsSmall c → length c.pending < MAX_PENDING → length c.shown < MAX_EVENTS → IsSmall (step c (Change by change))
 change_small c by change small pending events =
-    let more = few_more c.shown (keep_marks (length (shown_of c))) events small.shown (omega (arith, inserted_len-keep_marks (length (shown_of c)))) in
-    record {
-      entries = small.entries;
-      committed = small.committed;
-      pending = omega (arith, pending, length-append c.pending (items.Change change ∷ []));
-      short = short_change c.pending change small.short;
-      events = more.events;
-      shown = more.inserted;
-    }
+    small_with c c.entries (c.pending ++ items.Change change ∷ []) c.flight (keeps c) small small.entries small.committed (omega (arith, pending, length-append c.pending (items.Change change ∷ [])))
+    (short_change c.pending change small.short) events (keeps_few (length (shown_of c)))
+
+pub drop_small : (c : PlainClient) (by : ℕ) (fault : ChangeFault) → IsSmall c → length c.shown < MAX_EVENTS → IsSmall (step c (Dropped by fault))
+drop_small c by fault small events =
+    small_with c c.entries (drop 1 c.pending) c.flight (keeps c) small small.entries small.committed (omega (arith, small.pending, length-drop 1 c.pending)) (short_drop c.pending small.short) events (keeps_few (length (shown_of c)))
 
 pub discard_small : (c : PlainClient) (by : ℕ) → IsSmall c → length c.shown < MAX_EVENTS → IsSmall (step c (Discard by))
 discard_small c by small events =
     let form = replacement (length (shown_of c)) (committed_of c) in
-    let more = few_more c.shown form events small.shown (omega (arith, inserted_len-replacement (length (shown_of c)) (committed_of c), (lengths c small).committed)) in
-    record {
-      entries = small.entries;
-      committed = small.committed;
-      pending = omega arith;
-      short = tt;
-      events = more.events;
-      shown = more.inserted;
-    }
+    small_with c c.entries [] None form small small.entries small.committed (omega arith) tt events (omega (arith, inserted_len-replacement (length (shown_of c)) (committed_of c), (lengths c small).committed))

@@ -1,45 +1,28 @@
 -- Each event keeps what holds of a client.
-use Rattle.std.proofs.Common.{◌≡◌, ℕ, ◌+◌, ◌≤◌, Bool, true, false, List, [], ◌∷◌, ◌++◌, length, take, drop, fold, if◌then◌else◌, Option, None, Some, IfSome, Ok, refl, ap, sym, ◌∙◌, subst, arith, length-append}
-use Rattle.std.proofs.lemmas.List.{drop-append-le}
-use Rattle.sporc_delta.specs.Marks.{Mark, apply, base_len, replacement}
-use Rattle.sporc_delta.specs.Transforms.{later}
-use Rattle.sporc_suffix.specs.Forms.{later_over}
-use Rattle.sporc_member.specs.declared.change.Change.{Change as MemberChange}
-use Rattle.sporc_member.specs.declared.change.ChangeFault.{ChangeFault}
-use Rattle.sporc_entry.specs.declared.change.ChangeBody.{ChangeBody}
-use Rattle.sporc_entry.specs.declared.entry.Entry.{Entry}
-use Rattle.sporc_entry.specs.Entry.{change_of, entry_of}
-use Rattle.sporc_head.specs.History.{changes, epoch_of, is_by}
-use Rattle.sporc_line.specs.Operations.{edit_marks}
-use Rattle.sporc_line.specs.Document.{forms_of, text_after, text_of}
-use Rattle.sporc_line.specs.LineChecks.{first_fault}
-use Rattle.sporc_line.specs.Good.{Good}
-use Rattle.sporc_line.proofs.Passes.{Passes, passed}
-use Rattle.sporc_line.proofs.Goods.{good_push}
-use Rattle.sporc_line.proofs.MoreForms.{changes_append, forms_push, key_of_push, text_push}
-use Rattle.sporc_line.proofs.FormLengths.{change_form, edit_form, forms_follow, length-forms, length-text, next_form_base}
-use Rattle.sporc_client.specs.declared.pending.Pending.{Pending}
+use Rattle.std.proofs.Common.{◌≡◌, ℕ, ◌+◌, ◌≤◌, Bool, true, false, List, [], ◌∷◌, ◌++◌, length, take, drop, fold, if◌then◌else◌, Option, None, Some, IfSome, Ok, refl, ap, sym, ◌∙◌, subst, arith, length-append, ◌*◌, ◌<◌, length-drop}
+use Rattle.sporc_client.proofs.Common.{drop-append-le, Mark, apply, base_len, replacement, inserted_len, later, later_over, MemberChange, ChangeFault, ChangeBody, Entry, change_of, entry_of, changes}
+use Rattle.sporc_client.proofs.Common.{epoch_of, is_by, change_read, committed_by, edit_marks, forms_of, text_after, text_of, first_fault, Good, Passes, passed, good_push, changes_append, forms_push}
+use Rattle.sporc_client.proofs.Common.{key_of_push, text_push, change_form, edit_form, forms_follow, length-forms, length-text, next_form_base, length-apply, Pending, Edit, Change, Submit, Dropped}
+use Rattle.sporc_client.proofs.Common.{Discard, Accept, PlainClient, after_pending, committed_of, shown_of, me_of, AreStated, beyond, rebased, change_comes, edit_comes, form_coming, own_comes}
+use Rattle.sporc_client.proofs.Common.{restated, step, accepted, is_flight, is_same_as, keeps, IsEntryOf, IsInFlight, IsOfFirst, IsSound, lt-ltb, bytes_eq-Decides, out_len-le, Refusal, MAX_ENTRIES}
+use Rattle.sporc_client.proofs.Common.{MAX_EVENTS, MAX_HEAD_BYTES, journal_has_room, or_full, refusal_of, IsSmall, fold_push}
+use Rattle.sporc_head.specs.History.{change_in}
 use Rattle.sporc_client.specs.declared.pending.Pending.TheVariants as items
-use Rattle.sporc_client.specs.Log.{Edit, Change, Submit, Dropped, Discard}
-use Rattle.sporc_client.specs.PlainClient.{PlainClient, after_pending, committed_of, shown_of}
-use Rattle.sporc_client.specs.Rebasing.{AreStated, beyond, rebased}
-use Rattle.sporc_client.specs.Step.{change_comes, edit_comes, form_coming, own_comes, restated, step}
-use Rattle.sporc_client.specs.Soundness.{IsEntryOf, IsInFlight, IsOfFirst, IsSound}
 use Rattle.sporc_client.proofs.Rebased.{passes}
-use Rattle.sporc_client.proofs.Shown.{LeadTo, apply-replacement, apply-keep_marks, base_len-replacement, base_restated, fold_more, leads_on, leads_on_same}
+use Rattle.sporc_client.proofs.Shown.{LeadTo, apply-replacement, apply-keep_marks, base_len-replacement, base_restated, leads_on, leads_on_same}
+use Rattle.std.specs.Option.{is_none, is_some}
+use Rattle.sporc_client.specs.Allowed.{can_log}
+use Rattle.sporc_client.specs.Answers.{accept_fault}
+use Rattle.sporc_client.proofs.Small.{inserted_len-beyond, keeps_few, length-rebased, short_drop, short_rebased, small_with}
+use Rattle.sporc_client.proofs.TextLengths.{next_within}
+use Rattle.sporc_suffix.proofs.Composed.{later_over-append}
 
 -- ---- pending items
 
-stated_more : (text : List ℕ) (pending : List Pending) (marks : List Mark) → AreStated text pending → base_len marks ≡ length (fold after_pending text pending)
-    → AreStated text (pending ++ items.Edit marks ∷ [])
-stated_more text [] marks stated base = (base, tt)
-stated_more text (items.Edit m ∷ ps) marks stated base = (stated.0, stated_more (apply m text) ps marks stated.1 base)
-stated_more text (items.Change c ∷ ps) marks stated base = stated_more text ps marks stated base
-
-stated_change : (text : List ℕ) (pending : List Pending) (change : MemberChange) → AreStated text pending → AreStated text (pending ++ items.Change change ∷ [])
-stated_change text [] change stated = tt
-stated_change text (items.Edit m ∷ ps) change stated = (stated.0, stated_change (apply m text) ps change stated.1)
-stated_change text (items.Change c ∷ ps) change stated = stated_change text ps change stated
+stated_push : (text : List ℕ) (pending more : List Pending) → AreStated text pending → AreStated (fold after_pending text pending) more → AreStated text (pending ++ more)
+stated_push text [] more stated rest = rest
+stated_push text (items.Edit m ∷ ps) more stated rest = (stated.0, stated_push (apply m text) ps more stated.1 rest)
+stated_push text (items.Change c ∷ ps) more stated rest = stated_push text ps more stated rest
 
 first_more : (c : PlainClient) (e : Entry) (pending : List Pending) (item : Pending) → IsOfFirst c e pending → IsOfFirst c e (pending ++ item ∷ [])
 first_more c e [] item first = absurd first
@@ -86,9 +69,9 @@ edit_sound c by seen marks sound base =
     let next = leads_on c.shown (restated c seen marks) (shown_of c) (apply (restated c seen marks) (shown_of c)) (leads c sound) base' refl in
     record {
       good = sound.good;
-      stated = stated_more (committed_of c) c.pending (restated c seen marks) sound.stated base';
+      stated = stated_push (committed_of c) c.pending (items.Edit (restated c seen marks) ∷ []) sound.stated (base', tt);
       follow = next.follow;
-      shown = next.text_is ∙ sym (fold_more after_pending (committed_of c) c.pending (items.Edit (restated c seen marks)));
+      shown = next.text_is ∙ sym (fold_push after_pending (committed_of c) c.pending (items.Edit (restated c seen marks)));
       flight = flight_same c (step c (Edit by seen marks)) refl refl (λ e. first_more c e c.pending (items.Edit (restated c seen marks))) c.flight sound.flight;
     }
 
@@ -97,9 +80,9 @@ change_sound c by change sound =
     let next = leads_on_same c.shown (shown_of c) (leads c sound) in
     record {
       good = sound.good;
-      stated = stated_change (committed_of c) c.pending change sound.stated;
+      stated = stated_push (committed_of c) c.pending (items.Change change ∷ []) sound.stated tt;
       follow = next.follow;
-      shown = next.text_is ∙ sym (fold_more after_pending (committed_of c) c.pending (items.Change change));
+      shown = next.text_is ∙ sym (fold_push after_pending (committed_of c) c.pending (items.Change change));
       flight = flight_same c (step c (Change by change)) refl refl (λ e. first_more c e c.pending (items.Change change)) c.flight sound.flight;
     }
 
@@ -173,36 +156,26 @@ stated_rest : (text : List ℕ) (item : Pending) (rest : List Pending) → AreSt
 stated_rest text (items.Edit marks) rest stated = stated.1
 stated_rest text (items.Change change) rest stated = stated
 
--- the first of some items, which are there
-first_of_some : (c : PlainClient) (e : Entry) (pending : List Pending) → IsOfFirst c e pending → (item : Pending) × (rest : List Pending) × (pending ≡ item ∷ rest) × IsEntryOf c e item
-first_of_some c e [] first = absurd first
-first_of_some c e (item ∷ rest) first = (item, rest, refl, first)
-
 pub own_sound : (c : PlainClient) (bytes : List ℕ) → IsSound c → IsInFlight c bytes → first_fault c.opening.genesis c.opening.kit c.entries (length c.entries + 1) bytes ≡ None
     → IsSound (own_comes c bytes)
-own_sound c bytes sound in_flight fault =
-    let come = comes c bytes sound.good fault in
-    let head = first_of_some c in_flight.entry c.pending in_flight.first in
-    let item : Pending = head.0 in
-    let rest : List Pending = head.1 in
-    let pending : c.pending ≡ item ∷ rest = head.2 in
-    let text : text_of c.opening.genesis c.opening.kit (c.entries ++ bytes ∷ []) ≡ after_pending (committed_of c) item = come.text ∙ own_text c bytes in_flight.entry item in_flight.reads head.3 in
-    let P : List Pending → Type 0 = λ ps. AreStated (committed_of c) ps in
-    let stated = stated_rest (committed_of c) item rest (subst P pending sound.stated) in
-    let Q : List ℕ → Type 0 = λ t. AreStated t (drop 1 c.pending) in
-    let left : drop 1 c.pending ≡ rest = ap (drop 1) pending in
-    let R : List Pending → Type 0 = λ ps. AreStated (after_pending (committed_of c) item) ps in
-    let same : fold after_pending (text_of c.opening.genesis c.opening.kit (c.entries ++ bytes ∷ [])) (drop 1 c.pending) ≡ shown_of c =
-    ap (λ (t : List ℕ). fold after_pending t (drop 1 c.pending)) text ∙ ap (fold after_pending (after_pending (committed_of c) item)) left
-    ∙ sym (ap (fold after_pending (committed_of c)) pending) in
-    let next = leads_on_same c.shown (shown_of c) (leads c sound) in
-    record {
-      good = come.good;
-      stated = subst Q (sym text) (subst R (sym left) stated);
-      follow = next.follow;
-      shown = next.text_is ∙ sym same;
-      flight = tt;
-    }
+own_sound c bytes sound in_flight fault = go c.pending refl in_flight.first
+  where
+    come : Comes c bytes
+    come = comes c bytes sound.good fault
+
+    go : (pending : List Pending) → c.pending ≡ pending → IsOfFirst c in_flight.entry pending → IsSound (own_comes c bytes)
+    go [] is first = absurd first
+    go (item ∷ rest) is first =
+        let text : text_of c.opening.genesis c.opening.kit (c.entries ++ bytes ∷ []) ≡ after_pending (committed_of c) item = come.text ∙ own_text c bytes in_flight.entry item in_flight.reads first in
+        let next = leads_on_same c.shown (shown_of c) (leads c sound) in
+        let same : shown_of c ≡ fold after_pending (text_of c.opening.genesis c.opening.kit (c.entries ++ bytes ∷ [])) (drop 1 c.pending) = rw (text, is) refl in
+        record {
+          good = come.good;
+          stated = rw (text, is) (stated_rest (committed_of c) item rest (rw is at sound.stated));
+          follow = next.follow;
+          shown = next.text_is ∙ same;
+          flight = tt;
+        }
 
 pub other_change_sound : (c : PlainClient) (bytes : List ℕ) (e : Entry) (body : ChangeBody) → IsSound c → entry_of bytes ≡ Ok e → change_of e ≡ Some body
     → first_fault c.opening.genesis c.opening.kit c.entries (length c.entries + 1) bytes ≡ None → IsSound (change_comes c bytes)
@@ -221,10 +194,6 @@ other_change_sound c bytes e body sound reads is fault =
     }
 
 -- another's edit comes: the entry on its way passes it as the first pending item does
-later_over-more : (q : List Mark) (forms : List (List Mark)) (form : List Mark) → later_over q (forms ++ form ∷ []) ≡ later (later_over q forms) form
-later_over-more q [] form = refl
-later_over-more q (f ∷ fs) form = later_over-more (later q f) fs form
-
 first_passes : (c : PlainClient) (bytes : List ℕ) (e : Entry) (pending : List Pending) → Comes c bytes → e.header.base ≤ length c.entries → e.header.epoch ≤ epoch_of c.entries
     → IsOfFirst c e pending → IsOfFirst (edit_comes c bytes) e (rebased (form_coming c bytes) pending)
 first_passes c bytes e [] come base epoch first = first
@@ -241,7 +210,7 @@ first_passes c bytes e (items.Edit marks ∷ ps) come base epoch first =
       restated =
           ap (λ (fs : List (List Mark)). later_over first.held (drop e.header.base fs)) (forms_push g kit c.entries bytes come.good)
           ∙ ap (later_over first.held) (drop-append-le e.header.base forms (form_coming c bytes ∷ []) within)
-          ∙ later_over-more first.held (drop e.header.base forms) (form_coming c bytes)
+          ∙ later_over-append first.held (drop e.header.base forms) (form_coming c bytes ∷ [])
           ∙ ap (λ (m : List Mark). later m (form_coming c bytes)) first.restated;
     }
 
@@ -277,3 +246,92 @@ other_edit_sound c bytes sound fault =
     flight_kept : (own : Bool) (flight : Option (List ℕ)) → IfSome flight (IsInFlight (edit_comes c bytes)) → IfSome (if own then None else flight) (IsInFlight (edit_comes c bytes))
     flight_kept true flight f = tt
     flight_kept false flight f = f
+
+-- ---- an accepted entry, with what the fields become
+
+-- no check fails
+abbrev pub NoFault : PlainClient → List ℕ → Type 0
+NoFault c bytes = first_fault c.opening.genesis c.opening.kit c.entries (length c.entries + 1) bytes ≡ None
+
+-- ---- what holds of a client stays
+
+pub change_in_is : (bytes : List ℕ) (e : Entry) → entry_of bytes ≡ Ok e → change_in bytes ≡ committed_by e (change_of e)
+unfolding change_in
+change_in_is bytes e is = ap change_read is
+
+-- an entry that is a change
+is_change : (e : Entry) (o : Option ChangeBody) → is_some (committed_by e o) ≡ true → (body : ChangeBody) × (o ≡ Some body)
+is_change e None h = absurd cc
+is_change e (Some body) h = (body, refl)
+
+flight_is : (c : PlainClient) (bytes : List ℕ) (flight : Option (List ℕ)) → is_same_as flight bytes ≡ true → IfSome flight (IsInFlight c) → IsInFlight c bytes
+flight_is c bytes None same f = absurd cc
+flight_is c bytes (Some own) same f = subst (IsInFlight c) ((bytes_eq-Decides own bytes).0 same) f
+
+pub accepted_sound : (c : PlainClient) (bytes : List ℕ) → IsSound c → NoFault c bytes → IsSound (accepted c bytes)
+accepted_sound c bytes sound fault = go (is_flight c bytes) refl (is_some (change_in bytes)) refl
+  where
+    go : (own : Bool) → is_flight c bytes ≡ own → (change : Bool) → is_some (change_in bytes) ≡ change
+        → IsSound (if own then own_comes c bytes else if change then change_comes c bytes else edit_comes c bytes)
+    go true is change of = own_sound c bytes sound (flight_is c bytes c.flight is sound.flight) fault
+    go false is true of =
+        let come = comes c bytes sound.good fault in
+        let body = is_change come.entry (change_of come.entry) (ap is_some (sym (change_in_is bytes come.entry come.reads)) ∙ of) in
+        other_change_sound c bytes come.entry body.0 sound come.reads body.1 fault
+    go false is false of = other_edit_sound c bytes sound fault
+
+-- ---- and so do the limits
+
+pub accepted_small : (c : PlainClient) (bytes : List ℕ) → IsSound c → IsSmall c → NoFault c bytes → length c.shown < MAX_EVENTS → IsSmall (accepted c bytes)
+accepted_small c bytes sound small fault room = go (is_flight c bytes) (is_some (change_in bytes))
+  where
+    come : Comes c bytes
+    come = comes c bytes sound.good fault
+
+    few : inserted_len (form_coming c bytes) ≤ MAX_HEAD_BYTES
+    few = omega (arith, next_within c.opening.genesis c.opening.kit c.entries bytes come.entry come.reads come.checks)
+
+    entries : length (c.entries ++ bytes ∷ []) ≤ MAX_ENTRIES
+    entries = omega (arith, come.checks.room, length-append c.entries (bytes ∷ []))
+
+    committed : length (text_of c.opening.genesis c.opening.kit (c.entries ++ bytes ∷ [])) ≤ MAX_HEAD_BYTES * length (c.entries ++ bytes ∷ [])
+    committed =
+        omega (
+          arith,
+          ap length come.text,
+          length-apply (form_coming c bytes) (committed_of c) come.base,
+          out_len-le (form_coming c bytes),
+          come.base,
+          few,
+          small.committed,
+          length-append c.entries (bytes ∷ []),
+        )
+
+    go : (own change : Bool) → IsSmall (if own then own_comes c bytes else if change then change_comes c bytes else edit_comes c bytes)
+    go true change =
+        small_with c (c.entries ++ bytes ∷ []) (drop 1 c.pending) None (keeps c) small entries committed (omega (arith, small.pending, length-drop 1 c.pending))
+        (short_drop c.pending small.short) room (keeps_few (length (shown_of c)))
+    go false true = small_with c (c.entries ++ bytes ∷ []) c.pending None (keeps c) small entries committed small.pending small.short room (keeps_few (length (shown_of c)))
+    go false false =
+        small_with c (c.entries ++ bytes ∷ []) (rebased (form_coming c bytes) c.pending) (if is_by (me_of c) bytes then None else c.flight) (beyond (form_coming c bytes) c.pending) small entries committed
+        (omega (arith, small.pending, length-rebased (form_coming c bytes) c.pending)) (short_rebased (form_coming c bytes) c.pending small.short) room (omega (arith, inserted_len-beyond (form_coming c bytes) c.pending, few))
+
+-- ---- and the client allows it
+
+or_full_none : (room : Bool) (refusal : Option Refusal) → room ≡ true → refusal ≡ None → is_none (or_full room refusal) ≡ true
+or_full_none true None a b = refl
+or_full_none false None a b = absurd cc
+or_full_none room (Some refusal) a b = absurd cc
+
+pub allowed_accept : (c : PlainClient) (by : ℕ) (bytes : List ℕ) → NoFault c bytes → length c.shown < MAX_EVENTS → can_log c (Accept by bytes) ≡ true
+unfolding can_log accept_fault
+allowed_accept c by bytes fault room = or_full_none (journal_has_room c) (refusal_of c (length c.entries + 1) bytes) (lt-ltb (length c.shown) MAX_EVENTS room) fault
+
+-- an entry whose acceptance is allowed is one that no check refuses
+pub accept_passes : (c : PlainClient) (by : ℕ) (bytes : List ℕ) → can_log c (Accept by bytes) ≡ true → refusal_of c (length c.entries + 1) bytes ≡ None
+unfolding can_log accept_fault
+accept_passes c by bytes may = go (refusal_of c (length c.entries + 1) bytes) may
+  where
+    go : (o : Option Refusal) → is_none (or_full (journal_has_room c) o) ≡ true → o ≡ None
+    go None h = refl
+    go (Some refusal) h = absurd cc

@@ -1,27 +1,14 @@
 -- Pending edits have spellings: their characters are Unicode scalar values, and stay so when edits pass others.
-use Rattle.std.proofs.Common.{◌≡◌, ℕ, ◌≤◌, true, ◌&&◌, List, [], ◌∷◌, ◌++◌, length, drop, refl, ap, sym, ◌∙◌, subst, arith, length-append}
-use Rattle.std.specs.Prelude.{⊤}
-use Rattle.std.specs.List.{AllByRecursion, flat_map}
-use Rattle.std.specs.Int.{w64, to_be_bytes}
-use Rattle.std.specs.Str.{all_scalars, encode_utf8_all}
-use Rattle.std.proofs.lemmas.Bool.{and_from, and_parts}
-use Rattle.sporc_delta.specs.declared.limits.TheConstants.{MAX_COUNT}
-use Rattle.sporc_delta.specs.declared.part.Part.{Part}
+use Rattle.std.proofs.Common.{◌≡◌, ℕ, ◌≤◌, true, ◌&&◌, List, [], ◌∷◌, length, refl, ap, sym, ◌∙◌, subst, arith, length-append}
+use Rattle.sporc_client.proofs.Common.{AllByRecursion, flat_map, w64, to_be_bytes, all_scalars, encode_utf8_all, and_from, and_parts, MAX_COUNT, Part, HasSpelling, HaveSpellings, Spells, delta_bytes}
+use Rattle.sporc_client.proofs.Common.{part_bytes, parts_bytes, Mark, Keep, Insert, base_len, marks_of, part_marks, runs, earlier, last_steps, later, later_step, base_len-append}
+use Rattle.sporc_client.proofs.Common.{base_len-remove_marks, base_len-keep_marks, later_over, Pending, rebased, IsTypedChange}
 use Rattle.sporc_delta.specs.declared.part.Part.TheVariants.{Keep as KeepRun, Insert as InsertText, Remove as RemoveRun}
-use Rattle.sporc_delta.specs.Format.{HasSpelling, HaveSpellings, Spells, delta_bytes, part_bytes, parts_bytes}
-use Rattle.sporc_delta.specs.Marks.{Mark, Keep, Remove, Insert, base_len}
-use Rattle.sporc_delta.specs.Parts.{marks_of, part_marks, runs}
-use Rattle.sporc_delta.specs.Transforms.{earlier, last_steps, later, later_step}
+use Rattle.sporc_delta.specs.Marks.{Remove}
 use Rattle.sporc_delta.specs.Typed.{IsTypedDelta, IsTypedPart}
-use Rattle.sporc_delta.proofs.Lengths.{base_len-append, base_len-remove_marks, base_len-keep_marks}
 use Rattle.sporc_delta.proofs.Runs.{marks_of-runs}
 use Rattle.sporc_delta.proofs.Typing.{inserted, inserted-append, inserted-remove_marks, inserted-insert_marks, inserted-keep_marks, scalars_append}
-use Rattle.sporc_suffix.specs.Forms.{later_over}
-use Rattle.sporc_member.specs.declared.change.Change.{Change as MemberChange}
-use Rattle.sporc_client.specs.declared.pending.Pending.{Pending}
 use Rattle.sporc_client.specs.declared.pending.Pending.TheVariants.{Edit, Change}
-use Rattle.sporc_client.specs.Rebasing.{rebased}
-use Rattle.sporc_client.specs.Typed.{IsTypedChange}
 
 -- ---- the characters that a delta inserts
 
@@ -84,25 +71,12 @@ over_scalars q (form ∷ forms) h = over_scalars (later q form) forms (later_sca
 -- ---- pending items
 
 -- each edit's characters are Unicode scalar values, and each change is typed
+abbrev pub IsTypedItem : Pending → Type 0
+IsTypedItem (Edit marks) = HasScalars marks
+IsTypedItem (Change change) = IsTypedChange change
+
 abbrev pub AreTypedItems : List Pending → Type 0
-AreTypedItems [] = ⊤
-AreTypedItems (Edit marks ∷ items) = HasScalars marks × AreTypedItems items
-AreTypedItems (Change change ∷ items) = IsTypedChange change × AreTypedItems items
-
-pub typed_edit : (pending : List Pending) (marks : List Mark) → AreTypedItems pending → HasScalars marks → AreTypedItems (pending ++ Edit marks ∷ [])
-typed_edit [] marks all h = (h, tt)
-typed_edit (Edit m ∷ items) marks all h = (all.0, typed_edit items marks all.1 h)
-typed_edit (Change c ∷ items) marks all h = (all.0, typed_edit items marks all.1 h)
-
-pub typed_change : (pending : List Pending) (change : MemberChange) → AreTypedItems pending → IsTypedChange change → AreTypedItems (pending ++ Change change ∷ [])
-typed_change [] change all h = (h, tt)
-typed_change (Edit m ∷ items) change all h = (all.0, typed_change items change all.1 h)
-typed_change (Change c ∷ items) change all h = (all.0, typed_change items change all.1 h)
-
-pub typed_drop : (pending : List Pending) → AreTypedItems pending → AreTypedItems (drop 1 pending)
-typed_drop [] all = tt
-typed_drop (Edit m ∷ items) all = all.1
-typed_drop (Change c ∷ items) all = all.1
+AreTypedItems items = AllByRecursion IsTypedItem items
 
 pub typed_rebased : (form : List Mark) (pending : List Pending) → AreTypedItems pending → AreTypedItems (rebased form pending)
 typed_rebased form [] all = tt

@@ -1,53 +1,33 @@
 -- The entry that a submission makes: it is read back, its client's log allows it, and it is that of the first pending item.
-use Rattle.std.proofs.Common.{◌≡◌, ℕ, ◌+◌, ◌*◌, ◌^◌, ◌<◌, ◌≤◌, true, List, [], ◌∷◌, ◌++◌, length, take, drop, refl, ap, sym, ◌∙◌, subst, arith, Option, None, Some, Ok, length-append}
-use Rattle.std.specs.Prelude.{nat_lt, option_map, unwrap_or}
-use Rattle.std.specs.FinMap.{get}
-use Rattle.std.specs.Int.{w16, to_be_bytes}
-use Rattle.std.specs.List.{AllByRecursion, cons_option, flat_map}
-use Rattle.std.specs.Result.{result_ok}
-use Rattle.std.proofs.lemmas.Bool.{and_from, lt-ltb}
-use Rattle.std.proofs.lemmas.List.{drop_at, length-take-le, take_at}
+use Rattle.std.proofs.Common.{◌≡◌, ℕ, ◌+◌, ◌*◌, ◌^◌, ◌<◌, ◌≤◌, true, List, [], ◌∷◌, ◌++◌, length, take, drop, refl, ap, sym, ◌∙◌, subst, arith, Option, None, Some, Ok, length-append, Result, Err, append_assoc}
+use Rattle.sporc_client.proofs.Common.{nat_lt, option_map, unwrap_or, IfOk, get, w16, to_be_bytes, w32, AllByRecursion, cons_option, flat_map, result_ok, and_from, lt-ltb, drop_at, length-take-le}
+use Rattle.sporc_client.proofs.Common.{take_at, append-nil, bytes_eq-Decides, height_of, lms_signature_of, length-mask_from, mask_from-mask_from, delta_bytes, Mark, MemberChange, Add, Remove, SetRole}
+use Rattle.sporc_client.proofs.Common.{AddDevice, DropDevice, Upgrade, member_at, ChangeBody, Entry, Header, MAX_CHANGE_BODY, MAX_EDIT_BODY, MAX_ENTRY, Wrap, IsChange, IsChangeBody, IsWrap}
+use Rattle.sporc_client.proofs.Common.{SpellsChange, change_bytes, wrap_bytes, IsEntry, IsHeader, body_limit, change_of, entry_of, counted_bytes, header_bytes, version_of, entry_again}
+use Rattle.sporc_client.proofs.Common.{length-counted_bytes, length-header_bytes, Keys, Sealing, least_unpaired, wraps_sealed, entry_stream, stream_of, epoch_of, roster_of, Pending, first_sealed}
+use Rattle.sporc_client.proofs.Common.{is_entry, is_made, new_key_in, new_key_of, randomizer_in, IsSpelled, IsSubmission, CanTake, Fits, Chosen, bytes_made, current_key, kind_of, next_header}
+use Rattle.sporc_client.proofs.Common.{sealing_of, unsigned_entry, body_of, PlainClient, me_of, IsInFlight, IsOfFirst, IsSound, Sign, answered, due, draw_fault, is_signing, LeafFault, LmsPrivate}
+use Rattle.sporc_client.proofs.Common.{LineModel, plain_of, WorkspaceModel}
 use Rattle.std.proofs.lemmas.List.Concat.{flat_map-cons}
-use Rattle.std.proofs.lemmas.Slice.Eq.{bytes_eq-Decides}
-use Rattle.lms_tree.specs.LmsType.{height_of}
-use Rattle.lms_tree.specs.Signatures.{lms_signature_of}
 use Rattle.sporc_cipher.specs.Mask.{mask_of}
-use Rattle.sporc_cipher.proofs.Stream.{length-mask_from, mask_from-mask_from}
-use Rattle.sporc_delta.specs.Format.{delta_bytes}
-use Rattle.sporc_delta.specs.Marks.{Mark}
-use Rattle.sporc_delta.specs.Typed.{IsTypedDelta}
-use Rattle.sporc_member.specs.declared.change.Change.{Change as MemberChange}
-use Rattle.sporc_member.specs.declared.change.Change.TheVariants.{Add, Remove, SetRole, AddDevice, DropDevice, Upgrade}
 use Rattle.sporc_member.specs.Role.{role_code_of}
-use Rattle.sporc_member.specs.Roster.{member_at}
-use Rattle.sporc_entry.specs.declared.change.ChangeBody.{ChangeBody}
-use Rattle.sporc_entry.specs.declared.entry.Entry.{Entry}
-use Rattle.sporc_entry.specs.declared.header.Header.{Header}
-use Rattle.sporc_entry.specs.declared.limits.TheConstants.{MAX_CHANGE_BODY}
-use Rattle.sporc_entry.specs.declared.wrap.Wrap.{Wrap}
-use Rattle.sporc_entry.specs.ChangeBody.{IsChange, IsChangeBody, IsWrap, SpellsChange, change_body_bytes, change_bytes, wrap_bytes}
-use Rattle.sporc_entry.specs.Entry.{IsEntry, IsHeader, body_limit, change_of, entry_of, signed_string}
-use Rattle.sporc_entry.specs.Version.{version_of}
-use Rattle.sporc_entry.proofs.ChangeLaws.{change_body_again}
-use Rattle.sporc_entry.proofs.EntryLaws.{entry_again}
-use Rattle.sporc_epoch.specs.Keys.{Keys}
-use Rattle.sporc_epoch.specs.Sealing.{Sealing, body_sealed, least_unpaired, wraps_sealed}
-use Rattle.sporc_epoch.specs.Streams.{entry_stream, stream_of}
-use Rattle.sporc_head.specs.History.{epoch_of, roster_of}
-use Rattle.sporc_client.specs.declared.pending.Pending.{Pending}
+use Rattle.sporc_entry.specs.ChangeBody.{change_body_bytes}
+use Rattle.sporc_entry.specs.Entry.{signed_string, entry_bytes}
+use Rattle.sporc_epoch.specs.Sealing.{body_sealed}
 use Rattle.sporc_client.specs.declared.pending.Pending.TheVariants as items
 use Rattle.sporc_client.specs.declared.submitted.Submitted.TheVariants as submitted
-use Rattle.sporc_client.specs.Allowed.{first_sealed, is_entry, is_made, new_key_in, new_key_of, randomizer_in}
-use Rattle.sporc_client.specs.Contents.{IsSpelled, IsSubmission}
-use Rattle.sporc_client.specs.Entries.{Chosen, bytes_made, current_key, entry_made, kind_of, next_header, sealing_of, unsigned_entry}
-use Rattle.sporc_client.specs.PlainClient.{PlainClient, me_of}
-use Rattle.sporc_client.specs.Soundness.{IsEditOf, IsEntryOf, IsInFlight, IsOfFirst, IsSound}
-use Rattle.sporc_client.specs.Submissions.{Sign, answered, due, submission}
-use Rattle.sporc_client.proofs.SoundClients.{edit_made, header_of_made, key_there, sealed_change, spelled_due}
-use Rattle.sporc_client.proofs.Spellings.{scalars_of}
-use Rattle.sporc_client.proofs.SubmitMembers.{paired_first, some_member}
-use Rattle.sporc_client.proofs.SubmitSignatures.{shown_randomizer, signature_size}
-use Rattle.sporc_client.proofs.Submitting.{IsDue, is_due, is_there}
+use Rattle.sporc_client.specs.Entries.{entry_made}
+use Rattle.sporc_client.specs.Submissions.{submission}
+use Rattle.sporc_client.proofs.SoundRuns.{change_made_is, header_of_made, item_of}
+use Rattle.sporc_client.proofs.SubmitRosters.{paired_first, some_member}
+use Rattle.sporc_client.proofs.HonestSignatures.{shown_randomizer, signature_size}
+use Rattle.sporc_client.proofs.Submitting.{IsDue, is_due, is_there, signing}
+use Rattle.sporc_entry.proofs.VersionLaws.{header_len-le}
+use Rattle.sporc_client.specs.declared.client.submitting.draft.Made.{Made}
+use Rattle.sporc_client.specs.Drafts.{AreCopies, IsDraft, prefix_bytes}
+use Rattle.sporc_client.proofs.Submitting as submitting
+use Rattle.sporc_entry.proofs.Written.{header_bytes-append}
+use Rattle.sporc_client.specs.declared.client.submitting.draft.Draft.{Draft}
 
 -- a leaf and 64 random bytes
 abbrev pub chosen_by : List ℕ → ℕ → Chosen
@@ -154,12 +134,6 @@ shown_first c random leaf item size =
     ap (λ (signature : List ℕ). take 32 (drop 8 signature)) (signature_is c chosen item)
     ∙ shown_randomizer c.opening.key leaf (take 32 random) (signed_string (unsigned_entry c chosen item)) (first_size random size)
 
--- a change that was made is read as it was sealed
-pub change_made_is : (c : PlainClient) (chosen : Chosen) (change : MemberChange) → IsChangeBody (version_of (roster_of c.opening.genesis c.entries).upgraded) (body_sealed (sealing_of c chosen change) c.opening.kit.pairs)
-    → change_of (entry_made c chosen (items.Change change)) ≡ Some (body_sealed (sealing_of c chosen change) c.opening.kit.pairs)
-unfolding entry_made change_of
-change_made_is c chosen change is = ap result_ok (change_body_again (version_of (roster_of c.opening.genesis c.entries).upgraded) 0 (body_sealed (sealing_of c chosen change) c.opening.kit.pairs) is)
-
 -- the first wrap opens under the author's key with that member
 first_opens : (s : Sealing) (pairs : Keys) (m : ℕ) (ms pair : List ℕ) → s.members ≡ m ∷ ms → get pairs m ≡ Some pair → first_sealed pairs s.stream (body_sealed s pairs).wraps ≡ s.new
 unfolding body_sealed
@@ -250,17 +224,6 @@ made_is_made c random leaf item m =
 
 -- ---- and it is that of the first pending item
 
-edit_is_of : (c : PlainClient) (chosen : Chosen) (marks : List Mark) → IsSound c → IsTypedDelta marks → IsDue c (items.Edit marks) → IsEditOf c (entry_made c chosen (items.Edit marks)) marks
-edit_is_of c chosen marks sound typed due = edit_made c chosen marks (key_there c sound.good due.not_removed) (spelled_due c marks sound (scalars_of marks typed) due)
-
-item_of : (c : PlainClient) (random : List ℕ) (leaf : ℕ) (item : Pending) → IsSound c → IsSpelled c (chosen_by random leaf) item → IsDue c item → IsEntryOf c (entry_made c (chosen_by random leaf) item) item
-item_of c random leaf (items.Edit marks) sound typed due = edit_is_of c (chosen_by random leaf) marks sound typed due
-item_of c random leaf (items.Change change) sound is due = record {
-  body = body_sealed (sealing_of c (chosen_by random leaf) change) c.opening.kit.pairs;
-  reads = change_made_is c (chosen_by random leaf) change is;
-  same = sealed_change (sealing_of c (chosen_by random leaf) change) c.opening.kit.pairs;
-}
-
 in_flight : (c : PlainClient) (random : List ℕ) (leaf : ℕ) (item : Pending) → IsMaking c random leaf item → IsInFlight c (bytes_made c (chosen_by random leaf) item)
 in_flight c random leaf item m =
     let e = entry_made c (chosen_by random leaf) item in
@@ -273,7 +236,7 @@ in_flight c random leaf item m =
       reads = read_again c random leaf item m;
       base = omega (arith, base);
       epoch = omega (arith, epoch);
-      first = subst (IsOfFirst c e) (sym due.first) (item_of c random leaf item m.sound m.spelled due);
+      first = subst (IsOfFirst c e) (sym due.first) (item_of c (chosen_by random leaf) item m.sound m.spelled due);
     }
 
 pub made_is_submission : (c : PlainClient) (random : List ℕ) (leaf : ℕ) (item : Pending) → IsMaking c random leaf item → IsSubmission c leaf (bytes_made c (chosen_by random leaf) item)
@@ -282,3 +245,159 @@ made_is_submission c random leaf item m = record {
   leaf_is = ap (λ r. option_map (λ (e : Entry). e.header.leaf) (result_ok r)) (read_again c random leaf item m) ∙ ap Some (leaf_is c random leaf item);
   in_flight = in_flight c random leaf item m;
 }
+
+-- ---- from what is due to the entry that is signed
+
+same_head : (a b : Pending) (items others : List Pending) → a ∷ items ≡ b ∷ others → a ≡ b
+same_head a b items others h = cc
+
+pub due_first : (c : PlainClient) (first : Pending) (rest : List Pending) → is_signing (due c) ≡ true → c.pending ≡ first ∷ rest → due c ≡ Sign first
+due_first c first rest h are =
+    let s = signing c h in
+    let d = is_due c s.0 s.1 in
+    s.1 ∙ ap Sign (same_head s.0 first d.others rest (sym d.first ∙ are))
+
+-- no entry comes of it where no leaf is drawn
+pub undrawn : (c : PlainClient) (random : List ℕ) (fault : LeafFault) → is_signing (due c) ≡ true → submission c random (Err fault) ≡ Err (draw_fault fault)
+unfolding submission
+undrawn c random fault h = let s = signing c h in ap (answered c random (Err fault)) s.1
+
+-- some item is pending
+pub due_some : (c : PlainClient) → is_signing (due c) ≡ true → 0 < length c.pending
+due_some c h =
+    let s = signing c h in
+    let d = is_due c s.0 s.1 in
+    omega (arith, ap length d.first)
+
+-- and its history can take it
+pub can_take : (key : LmsPrivate) (line : LineModel) (own : WorkspaceModel) (item : Pending) → due (plain_of key line own) ≡ Sign item → IsSound (plain_of key line own) → CanTake line item
+can_take key line own item h sound =
+    let d = is_due (plain_of key line own) item h in
+    record { good = sound.good; room = omega (arith, d.room); not_removed = d.not_removed; live = d.live; fits = fits item d.fits }
+  where
+    fits : (item : Pending) → submitting.Fits (plain_of key line own) item → Fits line item
+    fits (items.Edit marks) f = f
+    fits (items.Change change) f = f
+
+-- ---- the unsigned entry
+
+-- the random bytes of its signature make no difference to it
+unsigned_same : (c : PlainClient) (leaf : ℕ) (a b new_key : List ℕ) (item : Pending)
+    → unsigned_entry c (record { leaf = leaf; randomizer = a; new_key = new_key }) item ≡ unsigned_entry c (record { leaf = leaf; randomizer = b; new_key = new_key }) item
+unsigned_same c leaf a b new_key (items.Edit marks) = refl
+unsigned_same c leaf a b new_key (items.Change change) = refl
+
+spelled_same : (c : PlainClient) (leaf : ℕ) (a b new_key : List ℕ) (item : Pending)
+    → IsSpelled c (record { leaf = leaf; randomizer = a; new_key = new_key }) item → IsSpelled c (record { leaf = leaf; randomizer = b; new_key = new_key }) item
+spelled_same c leaf a b new_key (items.Edit marks) h = h
+spelled_same c leaf a b new_key (items.Change change) h = h
+
+-- what is signed, and the bytes that come of it
+pub bytes_signed : (c : PlainClient) (random : List ℕ) (leaf : ℕ) (item : Pending) (e : Entry) → e ≡ unsigned_entry c (record { leaf = leaf; randomizer = []; new_key = drop 32 random }) item
+    → entry_bytes (record e { signature = lms_signature_of c.opening.key leaf (take 32 random) (signed_string e) }) ≡ bytes_made c (chosen_by random leaf) item
+unfolding entry_made
+bytes_signed c random leaf item e is =
+    ap (λ (e : Entry). entry_bytes (record e { signature = lms_signature_of c.opening.key leaf (take 32 random) (signed_string e) }))
+    (is ∙ unsigned_same c leaf [] (take 32 random) (drop 32 random) item)
+
+-- an unsigned entry, by the leaf and the random bytes
+pub record IsUnsigned (c : PlainClient) (random : List ℕ) (leaf : ℕ) (item : Pending) (e : Entry) : Type 0 where
+  pub value : e ≡ unsigned_entry c (record { leaf = leaf; randomizer = []; new_key = drop 32 random }) item
+  pub header : IsHeader e.header
+  pub spelled : IsSpelled c (record { leaf = leaf; randomizer = []; new_key = drop 32 random }) item
+
+pub unsigned_is : (c : PlainClient) (random : List ℕ) (leaf n : ℕ) (key : List ℕ) (item : Pending) (e : Entry) → n ≡ leaf → key ≡ drop 32 random
+    → e ≡ unsigned_entry c (record { leaf = n; randomizer = []; new_key = key }) item → IsHeader e.header → IsSpelled c (record { leaf = n; randomizer = []; new_key = key }) item → IsUnsigned c random leaf item e
+unsigned_is c random leaf n key item e same same' value header spelled = record {
+  value = value
+      ∙ ap (λ (n : ℕ). unsigned_entry c (record { leaf = n; randomizer = []; new_key = key }) item) same
+      ∙ ap (λ (key : List ℕ). unsigned_entry c (record { leaf = leaf; randomizer = []; new_key = key }) item) same';
+  header = header;
+  spelled =
+      subst (λ (key : List ℕ). IsSpelled c (record { leaf = leaf; randomizer = []; new_key = key }) item) same'
+      (subst (λ (n : ℕ). IsSpelled c (record { leaf = n; randomizer = []; new_key = key }) item) same spelled);
+}
+
+pub making : (c : PlainClient) (random : List ℕ) (leaf : ℕ) (item : Pending) (e : Entry) → due c ≡ Sign item → IsSound c → length random ≡ 64 → leaf < 2 ^ height_of c.opening.key.lms
+    → IsUnsigned c random leaf item e → IsMaking c random leaf item
+making c random leaf item e due sound size within is = record {
+  is_due = due;
+  sound = sound;
+  size = size;
+  within = within;
+  header = subst IsHeader (ap (λ (e : Entry). e.header) is.value) is.header;
+  spelled = spelled_same c leaf [] (take 32 random) (drop 32 random) item is.spelled;
+}
+
+-- what was signed answers the submission
+pub record IsSigned {E : Type 0} (c : PlainClient) (random : List ℕ) (leaf : ℕ) (result : Result Made E) : Type 0 where
+  pub answer : IfOk result (λ made. submission c random (Ok leaf) ≡ Ok (submitted.Entry made.answer))
+  pub is_submission : IfOk result (λ made. IsSubmission c leaf made.answer)
+
+pub signed_is : {E : Type 0} (c : PlainClient) (random randomizer : List ℕ) (leaf : ℕ) (item : Pending) (e : Entry) (result : Result Made E) → IsMaking c random leaf item → IsUnsigned c random leaf item e
+    → randomizer ≡ take 32 random → IfOk result (AreCopies (entry_bytes (record e { signature = lms_signature_of c.opening.key leaf randomizer (signed_string e) }))) → IsSigned c random leaf result
+signed_is c random randomizer leaf item e (Err back) m is first copies = record { answer = tt; is_submission = tt }
+signed_is c random randomizer leaf item e (Ok made) m is first copies =
+    let same : made.answer ≡ bytes_made c (chosen_by random leaf) item =
+    copies.answer ∙ ap (λ (r : List ℕ). entry_bytes (record e { signature = lms_signature_of c.opening.key leaf r (signed_string e) })) first ∙ bytes_signed c random leaf item e is.value in
+    record {
+      answer = submission_is c random leaf item m.is_due ∙ ap (λ (bytes : List ℕ). Ok (submitted.Entry bytes)) (sym same);
+      is_submission = subst (IsSubmission c leaf) (sym same) (made_is_submission c random leaf item m);
+    }
+
+-- ---- its size
+
+body_small : (c : PlainClient) (chosen : Chosen) (item : Pending) → submitting.Fits c item → IsSpelled c chosen item → length (body_of c chosen item) ≤ MAX_EDIT_BODY
+body_small c chosen (items.Edit marks) fits spelled = omega (arith, fits, length-mask_from (current_key c) (entry_stream (me_of c) chosen.leaf) 0 (delta_bytes marks))
+body_small c chosen (items.Change change) fits spelled = omega (arith, change_body_size (version_of (roster_of c.opening.genesis c.entries).upgraded) (body_sealed (sealing_of c chosen change) c.opening.kit.pairs) spelled)
+
+pub record IsShortEntry (e : Entry) : Type 0 where
+  pub body : length e.body < 2 ^ 32
+  pub string : length (signed_string e) ≤ MAX_ENTRY
+
+string_size : (e : Entry) → IsHeader e.header → length (signed_string e) ≤ 74 + length e.body
+unfolding signed_string
+string_size e header = omega (arith, length-header_bytes e.header (counted_bytes e.body []) header, header_len-le e.header.version, length-counted_bytes e.body [])
+
+pub short_entry : (c : PlainClient) (random : List ℕ) (leaf : ℕ) (item : Pending) (e : Entry) → due c ≡ Sign item → IsUnsigned c random leaf item e → IsShortEntry e
+short_entry c random leaf item e due is =
+    let chosen : Chosen = record { leaf = leaf; randomizer = []; new_key = drop 32 random } in
+    let small = body_small c chosen item (is_due c item due).fits is.spelled in
+    let body : length e.body ≡ length (body_of c chosen item) = ap (λ (e : Entry). length e.body) is.value in
+    record { body = omega (arith, small, body); string = omega (arith, small, body, string_size e is.header) }
+
+-- ---- the bytes of an entry: those up to its signature, and the signature behind them
+
+pub signed_some : (e : Entry) → 1 ≤ length (signed_string e)
+unfolding signed_string
+signed_some e = omega arith
+
+header_then : (h : Header) (xs ys : List ℕ) → header_bytes h xs ++ ys ≡ header_bytes h (xs ++ ys)
+header_then h xs ys = ap (λ (bs : List ℕ). bs ++ ys) (sym (header_bytes-append h xs)) ∙ append_assoc (header_bytes h []) xs ys ∙ header_bytes-append h (xs ++ ys)
+
+counted_then : (xs ys : List ℕ) → counted_bytes xs [] ++ ys ≡ counted_bytes xs ys
+counted_then xs ys = append_assoc (to_be_bytes w32 (length xs)) (xs ++ []) ys ∙ ap (λ (bs : List ℕ). to_be_bytes w32 (length xs) ++ (bs ++ ys)) (append-nil xs)
+
+pub finished : (e : Entry) (n : ℕ) (signature : List ℕ) → n ≡ length signature → prefix_bytes n (signed_string e) ++ signature ≡ entry_bytes (record e { signature = signature })
+unfolding entry_bytes signed_string
+finished e n signature is =
+    let body = counted_bytes e.body [] in
+    let count = to_be_bytes w32 n in
+    let tail : count ++ signature ≡ counted_bytes signature [] =
+    ap (λ (k : ℕ). to_be_bytes w32 k ++ signature) is ∙ ap (λ (bs : List ℕ). to_be_bytes w32 (length signature) ++ bs) (sym (append-nil signature)) in
+    append_assoc (header_bytes e.header body) count signature
+    ∙ header_then e.header body (count ++ signature)
+    ∙ ap (header_bytes e.header) (counted_then e.body (count ++ signature) ∙ ap (counted_bytes e.body) tail)
+
+-- the three fronts of a draft, with its signature behind each
+pub are_copies : (e : Entry) (n : ℕ) (draft : Draft) (made : Made) (signature signed : List ℕ) → IsDraft n e draft → length signature ≡ n → signature ≡ signed
+    → made.answer ≡ draft.answer.items ++ signature → made.flight ≡ draft.flight.items ++ signature → made.event ≡ draft.event.items ++ signature
+    → AreCopies (entry_bytes (record e { signature = signed })) made
+are_copies e n draft made signature signed is len same answer flight event =
+    let whole : prefix_bytes n (signed_string e) ++ signature ≡ entry_bytes (record e { signature = signed }) =
+    finished e n signature (sym len) ∙ ap (λ (s : List ℕ). entry_bytes (record e { signature = s })) same in
+    record {
+      answer = answer ∙ ap (λ (bs : List ℕ). bs ++ signature) is.answer ∙ whole;
+      flight = flight ∙ ap (λ (bs : List ℕ). bs ++ signature) is.flight ∙ whole;
+      event = event ∙ ap (λ (bs : List ℕ). bs ++ signature) is.event ∙ whole;
+    }

@@ -1,20 +1,9 @@
 -- The leaf that a draw gave, and the order of leaves.
 use Rattle.std.proofs.Common.{◌≡◌, ℕ, ◌+◌, ◌^◌, ◌<◌, ◌≤◌, Bool, true, false, cond, List, [], ◌∷◌, ◌++◌, refl, ap, sym, ◌∙◌, subst, arith, length-append, Option, None, Some, Result, Ok, Err}
-use Rattle.std.specs.Prelude.{IfSome, IsSomeAnd, ◌==◌}
-use Rattle.std.specs.Result.{result_ok}
-use Rattle.std.proofs.lemmas.Bool.{eq-eqb, eqb-false, eqb-true}
+use Rattle.sporc_client.proofs.Common.{IfSome, IsSomeAnd, ◌==◌, result_ok, eq-eqb, eqb-false, eqb-true, height_of, DrawFaults, Draws, LeavesModel, LeafFault, SignerModel, LineModel, client_model}
+use Rattle.sporc_client.proofs.Common.{plain_of, ClientInvariant, AreInOrder, ClientModel, Rise, state_of, IsDraw, MayDraw, at_hand, drawn, leaf_for, PlainClient, WorkspaceModel}
 use Rattle.sporc_outside.specs.LeafDisk.{DiskTold}
-use Rattle.lms_tree.specs.LmsType.{height_of}
-use Rattle.lms_leaf.specs.Leaves.{DrawFaults, Draws, LeavesModel}
-use Rattle.lms_leaf.specs.declared.faults.LeafFault.{LeafFault}
 use Rattle.lms_leaf.specs.declared.faults.LeafFault.TheVariants.{Exhausted, DiskFault}
-use Rattle.lms_sign.specs.Signer.{SignerModel}
-use Rattle.sporc_line.specs.LineModel.{LineModel}
-use Rattle.sporc_client.specs.ClientInvariant.{client_model, plain_of}
-use Rattle.sporc_client.specs.ClientModel.{AreInOrder, ClientModel, Rise, state_of}
-use Rattle.sporc_client.specs.Drawing.{IsDraw, MayDraw, at_hand, drawn, leaf_for}
-use Rattle.sporc_client.specs.PlainClient.{PlainClient}
-use Rattle.sporc_client.specs.Workspace.{WorkspaceModel}
 
 -- ---- what a draw answered is read off the leaf numbers
 
@@ -75,13 +64,11 @@ module _ {D : Type 0} (plain : PlainClient) (old new : LeavesModel D) (all : old
   leaf_may None unspent = drawn_may
 
 -- so of a client whose fields hold these
-pub client_may : {D : Type 0} (line : LineModel) (signer : SignerModel D) (ticket : Option ℕ) (own : WorkspaceModel) (c : ClientModel D) (new : LeavesModel D)
-    → client_model line signer ticket own ≡ c → plain_of signer.key line own ≡ state_of (client_model line signer ticket own)
-    → signer.leaves.leaf_count ≡ 2 ^ height_of signer.key.lms → signer.leaves.next ≤ signer.leaves.leaf_count → IfSome ticket (λ leaf. leaf < 2 ^ height_of signer.key.lms)
-    → MayDraw (state_of c) (leaf_for c.ticket c.leaves new)
-client_may {D} line signer ticket own c new view state all within unspent =
+pub client_may : {D : Type 0} {line : LineModel} {signer : SignerModel D} {ticket : Option ℕ} {own : WorkspaceModel} {c : ClientModel D} → ClientInvariant line signer ticket own → client_model line signer ticket own ≡ c
+    → (new : LeavesModel D) → signer.leaves.leaf_count ≡ 2 ^ height_of signer.key.lms → signer.leaves.next ≤ signer.leaves.leaf_count → MayDraw (state_of c) (leaf_for c.ticket c.leaves new)
+client_may {D} {line = line} {signer = signer} {ticket = ticket} {own = own} known view new all within =
     subst (λ (c : ClientModel D). MayDraw (state_of c) (leaf_for c.ticket c.leaves new)) view
-    (subst (λ (plain : PlainClient). MayDraw plain (leaf_for ticket signer.leaves new)) state (leaf_may (plain_of signer.key line own) signer.leaves new all within ticket unspent))
+    (subst (λ (plain : PlainClient). MayDraw plain (leaf_for ticket signer.leaves new)) known.state (leaf_may (plain_of signer.key line own) signer.leaves new all within ticket known.unspent))
 
 -- a submission for which no leaf was drawn
 pub no_leaf : {D : Type 0} (kept : Option ℕ) (old new : LeavesModel D) (fault : LeafFault) → ((leaf : ℕ) → kept ≡ Some leaf → Err fault ≡ Ok leaf) → (kept ≡ None → drawn old new ≡ Err fault) → leaf_for kept old new ≡ Err fault

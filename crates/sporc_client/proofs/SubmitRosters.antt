@@ -1,53 +1,27 @@
 -- The members of a good history: not too many, each with a number above 0. So a change that they accept can be written.
-use Rattle.std.proofs.Common.{◌≡◌, ℕ, suc, ◌<◌, ◌≤◌, Bool, true, false, cond, List, [], ◌∷◌, ◌++◌, length, map, refl, ap, sym, ◌∙◌, subst, arith, Option, None, Some, Ok, Err}
-use Rattle.std.specs.Prelude.{filter, find, is_some, nat_lt, not, unwrap_or, ◌==◌, ◌&&◌}
-use Rattle.std.specs.List.{AllByRecursion}
-use Rattle.std.proofs.lemmas.Bool.{and_parts, eqb-false, eqb-true, ltb-true, not-true}
-use Rattle.sporc_base.specs.FirstFault.{first_of}
-use Rattle.std.proofs.lemmas.List.{length-map}
-use Rattle.sporc_hash.proofs.Lists.{from_end}
-use Rattle.sporc_member.specs.declared.change.Change.{Change as MemberChange}
-use Rattle.sporc_member.specs.declared.change.Change.TheVariants.{Add, Remove, SetRole, AddDevice, DropDevice, Upgrade}
-use Rattle.sporc_member.specs.declared.change.ChangeFault.{ChangeFault}
+use Rattle.std.proofs.Common.{◌≡◌, ℕ, ◌<◌, ◌≤◌, Bool, true, false, cond, List, [], ◌∷◌, ◌++◌, length, map, refl, ap, sym, ◌∙◌, subst, arith, Option, None, Some, Ok, Err, ◌≢◌, ◌+◌}
+use Rattle.sporc_client.proofs.Common.{filter, find, is_some, nat_lt, not, unwrap_or, ◌==◌, ◌&&◌, fold, is_none, min, AllByRecursion, list_any, and_parts, eqb-false, eqb-true, ltb-true, not-true}
+use Rattle.sporc_client.proofs.Common.{first_of, length-map, from_end, MemberChange, Add, Remove, SetRole, AddDevice, DropDevice, Upgrade, ChangeFault, Device, Member, Roster, after_change}
+use Rattle.sporc_client.proofs.Common.{change_fault_of, device_by, insert_sorted, key_of_device, member_by, is_used, member_at, numbers_of, with_role, has_admin, has_role, first_device, same_device}
+use Rattle.sporc_client.proofs.Common.{passes, ChangeBody, Entry, Genesis, IsChange, change_of, entry_of, fits_version, has_kind, version_of, IsFounder, IsGenesis, Keys, Sealing, body_sealed}
+use Rattle.sporc_client.proofs.Common.{body_unless, least_unpaired, entry_stream, bad_change, roster_checks, Refusal, CommittedChange, change_in, epoch_of, roster_of, change_in_read, roster_change}
+use Rattle.sporc_client.proofs.Common.{roster_edit, Good, Kit, good_front, last_passes, epoch_key, LineModel, CanTake, Chosen, current_key, sealing_of, PlainClient, me_of, IsTypedChange, get}
+use Rattle.sporc_client.proofs.Common.{length-filter, count_by-le-length}
 use Rattle.sporc_member.specs.declared.change.ChangeFault.TheVariants as faults
-use Rattle.sporc_member.specs.declared.device.Device.{Device}
-use Rattle.sporc_member.specs.declared.founder.Founder.{Founder}
-use Rattle.sporc_member.specs.declared.member.Member.{Member}
 use Rattle.sporc_member.specs.declared.limits.TheConstants.{MAX_MEMBERS}
-use Rattle.sporc_member.specs.Roster.{Roster, after_change, change_fault_of, device_by, insert_sorted, key_of as key_of_device, member_by, is_used, member_at, numbers_of, with_role}
-use Rattle.sporc_member.specs.Device.{first_device, same_device}
 use Rattle.sporc_member.specs.RosterModel.{LiveInvariant}
 use Rattle.sporc_member.proofs.Belonging.{device_passes, founds_live, live_add, live_device, live_drop, live_first, live_remove, live_upgrade}
-use Rattle.sporc_member.proofs.Checks.{passes}
 use Rattle.sporc_member.proofs.Keeping.{numbers_of-founders}
-use Rattle.sporc_member.proofs.Places.{numbers_of-filter, numbers_of-insert_sorted, numbers_of-with_role}
-use Rattle.sporc_entry.specs.declared.change.ChangeBody.{ChangeBody}
-use Rattle.sporc_entry.specs.declared.entry.Entry.{Entry}
-use Rattle.sporc_entry.specs.declared.genesis.Genesis.{Genesis}
-use Rattle.sporc_entry.specs.ChangeBody.{IsChange, kind_of}
-use Rattle.sporc_entry.specs.Entry.{change_of, entry_of}
-use Rattle.sporc_entry.specs.Version.{fits_version, has_kind, version_of}
-use Rattle.sporc_entry.specs.Genesis.{IsFounder, IsGenesis}
+use Rattle.sporc_member.proofs.Places.{numbers_of-filter, numbers_of-insert_sorted, numbers_of-with_role, place_among-le}
+use Rattle.sporc_entry.specs.ChangeBody.{kind_of}
 use Rattle.sporc_epoch.specs.declared.fault.SealFault.TheVariants.{NoPairKey}
-use Rattle.sporc_epoch.specs.Keys.{Keys}
-use Rattle.sporc_epoch.specs.Sealing.{Sealing, body_sealed, body_unless, change_sealed, least_unpaired}
-use Rattle.sporc_epoch.specs.Streams.{entry_stream}
+use Rattle.sporc_epoch.specs.Sealing.{change_sealed, lesser}
 use Rattle.sporc_epoch.proofs.SealedKeys.{sealed}
-use Rattle.sporc_head.specs.HeadChecks.{bad_change, roster_checks}
-use Rattle.sporc_head.specs.declared.refusal.Refusal.{Refusal}
-use Rattle.sporc_head.specs.History.{CommittedChange, change_in, epoch_of, roster_of}
-use Rattle.sporc_head.proofs.Grows.{change_in_read, roster_change, roster_edit}
-use Rattle.sporc_line.specs.Good.{Good}
-use Rattle.sporc_line.specs.Kit.{Kit}
-use Rattle.sporc_line.proofs.Goods.{good_front, last_passes}
-use Rattle.sporc_line.specs.Keys.{epoch_key}
-use Rattle.sporc_line.specs.LineModel.{LineModel}
 use Rattle.sporc_client.specs.declared.pending.Pending.TheVariants as items
-use Rattle.sporc_client.specs.Contents.{CanTake}
-use Rattle.sporc_client.specs.Entries.{Chosen, current_key, sealing_of}
-use Rattle.sporc_client.specs.PlainClient.{PlainClient, me_of}
-use Rattle.sporc_client.specs.Typed.{IsTypedChange}
-use Rattle.sporc_client.proofs.RosterFacts.{all_added, all_filter, all_roles}
+use Rattle.sporc_client.proofs.AllItems.{all_added, all_filter, all_map}
+use Rattle.sporc_member.specs.Role.{is_admin}
+use Rattle.std.proofs.lemmas.List.Edits.{length-insert}
+use Rattle.sporc_member.specs.Lists.{place_among}
 
 abbrev IsPositive : Member → Type 0
 IsPositive m = 0 < m.member
@@ -59,21 +33,17 @@ pub record IsFew (roster : Roster) : Type 0 where
 
 -- ---- after a change that they accept
 
-length-inserted : (m : Member) (members : List Member) → length (insert_sorted m members) ≡ suc (length members)
-length-inserted m [] = refl
-length-inserted m (n ∷ members) = go (nat_lt m.member n.member) (length-inserted m members)
-  where
-    go : (before : Bool) → length (insert_sorted m members) ≡ suc (length members) → length (cond before (m ∷ n ∷ members) (n ∷ insert_sorted m members)) ≡ suc (suc (length members))
-    go true h = refl
-    go false h = ap suc h
-
-length-filter : (p : Member → Bool) (members : List Member) → length (filter p members) ≤ length members
-length-filter p [] = omega arith
-length-filter p (m ∷ members) = go (p m) (length-filter p members)
-  where
-    go : (keep : Bool) → length (filter p members) ≤ length members → length (cond keep (m ∷ filter p members) (filter p members)) ≤ suc (length members)
-    go true h = omega (arith, h)
-    go false h = omega (arith, h)
+length-inserted : (m : Member) (members : List Member) → length (insert_sorted m members) ≡ length members + 1
+length-inserted m members =
+    let ns = numbers_of members in
+    let number : Member → ℕ = λ m. m.member in
+    omega (
+      arith,
+      length-map (insert_sorted m members) number,
+      ap length (numbers_of-insert_sorted m members),
+      length-insert ns (place_among m.member ns) m.member (place_among-le m.member ns),
+      length-map members number,
+    )
 
 -- a new number isn't 0
 not_zero : (n : ℕ) → not (n == 0) ≡ true → 0 < n
@@ -98,11 +68,11 @@ few_after roster (Add member role key) is none =
     }
 few_after roster (Remove member) is none = record {
   positive = all_filter IsPositive (λ m. not (m.member == member)) roster.members is.positive;
-  few = omega (arith, length-filter (λ m. not (m.member == member)) roster.members, is.few);
+  few = omega (arith, length-filter (λ (m : Member). not (m.member == member)) roster.members, count_by-le-length (λ (m : Member). not (m.member == member)) roster.members, is.few);
   live = live_remove (numbers_of roster.members) roster.devices roster.upgraded member _ _ is.live (numbers_of-filter member roster.members) refl;
 }
 few_after roster (SetRole member role) is none = record {
-  positive = all_roles IsPositive (λ m role h. h) member role roster.members is.positive;
+  positive = all_map IsPositive IsPositive (with_role member role) (λ m positive. positive) roster.members is.positive;
   few = omega (arith, length-map roster.members (with_role member role), is.few);
   live = subst (λ (ns : List ℕ). LiveInvariant ns roster.devices roster.upgraded) (sym (numbers_of-with_role member role roster.members)) is.live;
 }
@@ -129,10 +99,6 @@ few_after roster Upgrade is none = record {
 abbrev FewIf : Genesis → Kit → List (List ℕ) → Type 0
 FewIf g kit entries = Good g kit entries → IsFew (roster_of g entries)
 
-founders_positive : (founders : List Founder) → AllByRecursion IsFounder founders → AllByRecursion IsPositive (map member_by founders)
-founders_positive [] all = tt
-founders_positive (m ∷ founders) all = (all.0.member.0, founders_positive founders all.1)
-
 no_bad_change : (fault : Option ChangeFault) (rest : List (Option Refusal)) → first_of (bad_change fault ∷ rest) ≡ None → fault ≡ None
 no_bad_change None rest h = refl
 no_bad_change (Some fault) rest h = absurd cc
@@ -157,7 +123,7 @@ few_more g kit entries bytes before good =
 
 pub few_members : (g : Genesis) (kit : Kit) (entries : List (List ℕ)) → IsGenesis g → Good g kit entries → IsFew (roster_of g entries)
 few_members g kit entries is = from_end (FewIf g kit) (λ good. record {
-  positive = founders_positive g.founders is.founders;
+  positive = all_map IsFounder IsPositive member_by (λ f is. is.member.0) g.founders is.founders;
   few = omega (arith, length-map g.founders member_by, is.count.1);
   live = founds_live g.founders (numbers_of (map member_by g.founders)) (map device_by g.founders) (numbers_of-founders g.founders) refl;
 }) (few_more g kit) entries
@@ -256,3 +222,61 @@ all_paired s pairs kit members member are keys none h =
     let paired : least_unpaired pairs s.members ≡ None = ap (least_unpaired pairs) are ∙ ap (λ (keys : Keys). least_unpaired keys members) keys ∙ none in
     let ok : Ok (body_sealed s pairs) ≡ Err (NoPairKey member) = sym (ap (body_unless (body_sealed s pairs)) paired) ∙ h in
     absurd cc
+
+-- ---- there is a member after a change that they accept
+
+pub record IsSomeMember (members : List ℕ) : Type 0 where
+  pub first : ℕ
+  pub others : List ℕ
+  pub are : members ≡ first ∷ others
+
+some_admin : (members : List Member) → list_any (λ m. is_admin m.role) members ≡ true → IsSomeMember (numbers_of members)
+some_admin [] h = absurd cc
+some_admin (m ∷ members) h = record { first = m.member; others = numbers_of members; are = refl }
+
+some_inserted : (m : Member) (members : List Member) → IsSomeMember (numbers_of (insert_sorted m members))
+some_inserted m [] = record { first = m.member; others = []; are = refl }
+some_inserted m (n ∷ members) = go (nat_lt m.member n.member)
+  where
+    go : (before : Bool) → IsSomeMember (numbers_of (cond before (m ∷ n ∷ members) (n ∷ insert_sorted m members)))
+    go true = record { first = m.member; others = n.member ∷ numbers_of members; are = refl }
+    go false = record { first = n.member; others = numbers_of (insert_sorted m members); are = refl }
+
+some_found : (me : ℕ) (members : List Member) → is_some (find (λ (m : Member). m.member == me) members) ≡ true → IsSomeMember (numbers_of members)
+some_found me [] h = absurd cc
+some_found me (m ∷ members) h = record { first = m.member; others = numbers_of members; are = refl }
+
+-- of a member
+pub some_member : (roster : Roster) (change : MemberChange) (me : ℕ) → is_some (member_at roster me) ≡ true → change_fault_of roster change ≡ None → IsSomeMember (numbers_of (after_change roster change).members)
+some_member roster (Add member role key) me there none = some_inserted (record { member = member; role = role }) roster.members
+some_member roster (Remove member) me there none =
+    let a = passes (is_some (member_at roster member)) faults.NotMember _ none in
+    let b = passes (has_admin (after_change roster (Remove member))) faults.LastAdmin _ a.1 in
+    some_admin (after_change roster (Remove member)).members b.0
+some_member roster (SetRole member role) me there none =
+    let a = passes (is_some (member_at roster member)) faults.NotMember _ none in
+    let b = passes (not (has_role (member_at roster member) role)) faults.SameRole _ a.1 in
+    let d = passes (has_admin (after_change roster (SetRole member role))) faults.LastAdmin _ b.1 in
+    some_admin (after_change roster (SetRole member role)).members d.0
+some_member roster change me there none = some_found me roster.members there
+
+-- ---- the first has a pairwise key
+
+found : (k : ℕ) (ns : List ℕ) → fold lesser (Some k) ns ≢ None
+found k [] h = cc
+found k (n ∷ ns) h = found (min k n) ns h
+
+first_paired : (pairs : Keys) (m : ℕ) (ms : List ℕ) → least_unpaired pairs (m ∷ ms) ≡ None → is_none (get pairs m) ≡ false
+first_paired pairs m ms h = by (is_none (get pairs m)) refl h
+  where
+    by : (b : Bool) → is_none (get pairs m) ≡ b → fold lesser None (cond b (m ∷ filter (λ n. is_none (get pairs n)) ms) (filter (λ n. is_none (get pairs n)) ms)) ≡ None
+        → is_none (get pairs m) ≡ false
+    by true is h = absurd (found m (filter (λ n. is_none (get pairs n)) ms) h)
+    by false is h = is
+
+pub paired_first : (pairs : Keys) (m : ℕ) (ms : List ℕ) → least_unpaired pairs (m ∷ ms) ≡ None → (pair : List ℕ) × (get pairs m ≡ Some pair)
+paired_first pairs m ms h = go (get pairs m) refl (first_paired pairs m ms h)
+  where
+    go : (o : Option (List ℕ)) → get pairs m ≡ o → is_none o ≡ false → (pair : List ℕ) × (get pairs m ≡ Some pair)
+    go None is none = absurd cc
+    go (Some pair) is none = (pair, is)

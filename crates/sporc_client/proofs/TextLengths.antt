@@ -1,25 +1,9 @@
 -- How long the text of a good history can be.
 use Rattle.std.proofs.Common.{◌≡◌, ℕ, ◌+◌, ◌*◌, ◌≤◌, List, [], ◌∷◌, ◌++◌, length, drop, refl, ap, arith, Option, None, Some, Ok, length-append}
-use Rattle.sporc_delta.specs.Marks.{Mark, inserted_len}
-use Rattle.sporc_suffix.specs.Forms.{all_inserted, later_over}
-use Rattle.sporc_suffix.proofs.Following.{all_inserted-append}
-use Rattle.sporc_hash.proofs.Lists.{from_end}
-use Rattle.sporc_entry.specs.declared.change.ChangeBody.{ChangeBody}
-use Rattle.sporc_entry.specs.declared.entry.Entry.{Entry}
-use Rattle.sporc_entry.specs.declared.genesis.Genesis.{Genesis}
-use Rattle.sporc_entry.specs.declared.limits.TheConstants.{MAX_EDIT_BODY}
-use Rattle.sporc_entry.specs.Entry.{change_of, entry_of}
-use Rattle.sporc_line.specs.Kit.{Kit}
-use Rattle.sporc_line.specs.Keys.{epoch_key}
-use Rattle.sporc_line.specs.Operations.{edit_marks}
-use Rattle.sporc_epoch.specs.Streams.{stream_of}
-use Rattle.sporc_line.specs.Document.{forms_from, forms_of, next_form, text_of}
-use Rattle.sporc_line.specs.Good.{Good}
-use Rattle.sporc_line.proofs.Passes.{Passes}
-use Rattle.sporc_line.proofs.Goods.{good_front, last_passes}
-use Rattle.sporc_line.proofs.MoreForms.{forms_push}
-use Rattle.sporc_delta.proofs.Lengths.{inserted_len-keep_marks}
-use Rattle.sporc_line.proofs.FormLengths.{change_form, edit_form, edit_over, forms_follow, inserted_len-over, length-text, reached-le}
+use Rattle.sporc_client.proofs.Common.{Mark, inserted_len, all_inserted, later_over, all_inserted-append, from_end, ChangeBody, Entry, Genesis, MAX_EDIT_BODY, change_of, entry_of, Kit, epoch_key}
+use Rattle.sporc_client.proofs.Common.{edit_marks, stream_of, forms_of, next_form, text_of, Good, Passes, good_front, last_passes, forms_push, inserted_len-keep_marks, change_form, edit_form}
+use Rattle.sporc_client.proofs.Common.{edit_over, forms_follow, inserted_len-over, length-text, reached-le}
+use Rattle.sporc_line.specs.Document.{forms_from}
 use Rattle.sporc_line.proofs.ReadLengths.{body_within, marks_within}
 
 -- the marks of an edit insert no more than the longest body has bytes
@@ -28,7 +12,7 @@ edit_within None bytes e marks is has = absurd cc
 edit_within (Some key) bytes e marks is has = omega (arith, marks_within key (stream_of e.header) e.body marks has, body_within bytes e is)
 
 -- the form of an entry that passes
-next_within : (g : Genesis) (kit : Kit) (A : List (List ℕ)) (b : List ℕ) (e : Entry) → entry_of b ≡ Ok e → Passes g kit A (length A + 1) e → inserted_len (next_form g kit A b) ≤ MAX_EDIT_BODY
+pub next_within : (g : Genesis) (kit : Kit) (A : List (List ℕ)) (b : List ℕ) (e : Entry) → entry_of b ≡ Ok e → Passes g kit A (length A + 1) e → inserted_len (next_form g kit A b) ≤ MAX_EDIT_BODY
 next_within g kit A b e is p = go (change_of e) refl
   where
     go : (o : Option ChangeBody) → change_of e ≡ o → inserted_len (next_form g kit A b) ≤ MAX_EDIT_BODY

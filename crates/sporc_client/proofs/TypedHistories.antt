@@ -1,32 +1,13 @@
 -- The members and the keys that a history of bytes can have.
 use Rattle.std.proofs.Common.{◌≡◌, ℕ, zero, suc, ◌^◌, ◌<◌, Bool, true, false, cond, List, [], ◌∷◌, length, map, take, refl, sym, ◌∙◌, subst, Option, None, Some, Result, Ok, Err, IfSome}
-use Rattle.std.specs.Prelude.{find, fold, is_some, not, option_and_then, ◌==◌}
-use Rattle.std.specs.FinMap.{get}
-use Rattle.std.specs.List.{AllByRecursion, cons_option, slice_get}
-use Rattle.std.proofs.lemmas.Bool.{eqb-true}
-use Rattle.sporc_base.specs.Bytes.{IsBytes}
-use Rattle.sporc_cipher.proofs.Stream.{length-mask_from}
-use Rattle.sporc_member.specs.declared.change.Change.{Change as MemberChange}
-use Rattle.sporc_member.specs.declared.change.Change.TheVariants.{Add, Remove, SetRole, AddDevice, DropDevice, Upgrade}
-use Rattle.sporc_member.specs.declared.founder.Founder.{Founder}
-use Rattle.sporc_member.specs.declared.member.Member.{Member}
-use Rattle.sporc_member.specs.Roster.{Roster, after_change, founded, member_at, member_by, removes, roster_after}
-use Rattle.sporc_entry.specs.declared.change.ChangeBody.{ChangeBody}
-use Rattle.sporc_entry.specs.declared.entry.Entry.{Entry}
-use Rattle.sporc_entry.specs.declared.genesis.Genesis.{Genesis}
-use Rattle.sporc_entry.specs.declared.wrap.Wrap.{Wrap}
-use Rattle.sporc_entry.specs.ChangeBody.{IsChange, IsChangeBody, IsWrap}
-use Rattle.sporc_entry.specs.Entry.{IsEntry, change_of, entry_of}
-use Rattle.sporc_entry.specs.Genesis.{IsFounder}
-use Rattle.sporc_entry.proofs.EntryLaws.{entry_takes}
-use Rattle.sporc_epoch.specs.Keys.{Keys}
-use Rattle.sporc_epoch.specs.Streams.{stream_of}
-use Rattle.sporc_epoch.specs.Wraps.{opened_under, wrap_for, wrap_opened}
-use Rattle.sporc_head.specs.History.{CommittedChange, change_in, change_read, changes, committed_by, roster_of}
-use Rattle.sporc_line.specs.Kit.{Kit}
+use Rattle.sporc_client.proofs.Common.{find, fold, is_some, not, option_and_then, ◌==◌, get, AllByRecursion, slice_get, eqb-true, IsBytes, length-mask_from, MemberChange, Add, Remove, SetRole, Member}
+use Rattle.sporc_client.proofs.Common.{Roster, after_change, founded, member_at, member_by, removes, roster_after, with_role, ChangeBody, Entry, Genesis, Wrap, IsChange, IsChangeBody, IsWrap, IsEntry}
+use Rattle.sporc_client.proofs.Common.{entry_of, IsFounder, entry_takes, Keys, stream_of, opened_under, wrap_for, CommittedChange, change_read, changes, committed_by, roster_of, Kit, AreEpochKeys}
+use Rattle.sporc_entry.specs.Entry.{change_of}
+use Rattle.sporc_epoch.specs.Wraps.{wrap_opened}
+use Rattle.sporc_head.specs.History.{change_in}
 use Rattle.sporc_line.specs.Keys.{key_after, key_started}
-use Rattle.sporc_client.specs.Typed.{AreEpochKeys}
-use Rattle.sporc_client.proofs.RosterFacts.{all_added, all_filter, all_roles}
+use Rattle.sporc_client.proofs.AllItems.{all_added, all_filter, all_filter_map, all_map}
 use Rattle.sporc_client.proofs.SameSpelling.{change_read_of}
 
 -- ---- changes
@@ -57,12 +38,7 @@ change_typed bytes typed = go (entry_of bytes) refl
     go (Ok e) is = of_body e (change_of e) (body_typed e (entry_takes bytes e typed is).0)
 
 pub changes_typed : (entries : List (List ℕ)) → AllByRecursion IsBytes entries → AllByRecursion IsTypedCommitted (changes entries)
-changes_typed [] all = tt
-changes_typed (bytes ∷ entries) all = go (change_in bytes) (change_typed bytes all.0) (changes_typed entries all.1)
-  where
-    go : (o : Option CommittedChange) → IfSome o IsTypedCommitted → AllByRecursion IsTypedCommitted (changes entries) → AllByRecursion IsTypedCommitted (cons_option o (changes entries))
-    go None here rest = rest
-    go (Some c) here rest = (here, rest)
+changes_typed = all_filter_map IsBytes IsTypedCommitted change_in change_typed
 
 -- ---- members have numbers of two bytes
 
@@ -72,22 +48,16 @@ IsSmallMember m = m.member < 2 ^ 16
 pub small_change : (roster : Roster) (change : MemberChange) → IsChange change → AllByRecursion IsSmallMember roster.members → AllByRecursion IsSmallMember (after_change roster change).members
 small_change roster (Add member role key) is all = all_added IsSmallMember (record { member = member; role = role }) roster.members is.0.1 all
 small_change roster (Remove member) is all = all_filter IsSmallMember (λ m. not (m.member == member)) roster.members all
-small_change roster (SetRole member role) is all = all_roles IsSmallMember (λ m role h. h) member role roster.members all
-small_change roster (AddDevice member device key) is all = all
-small_change roster (DropDevice member device) is all = all
-small_change roster Upgrade is all = all
+small_change roster (SetRole member role) is all = all_map IsSmallMember IsSmallMember (with_role member role) (λ m small. small) roster.members all
+small_change roster change is all = all
 
 small_changes : (roster : Roster) (cs : List CommittedChange) → AllByRecursion IsTypedCommitted cs → AllByRecursion IsSmallMember roster.members
     → AllByRecursion IsSmallMember (fold after_change roster (map (λ (c : CommittedChange). c.body.change) cs)).members
 small_changes roster [] typed all = all
 small_changes roster (c ∷ cs) typed all = small_changes (after_change roster c.body.change) cs typed.1 (small_change roster c.body.change typed.0.change all)
 
-founders_small : (founders : List Founder) → AllByRecursion IsFounder founders → AllByRecursion IsSmallMember (map member_by founders)
-founders_small [] all = tt
-founders_small (m ∷ founders) all = (all.0.member.1, founders_small founders all.1)
-
 pub small_roster : (g : Genesis) (entries : List (List ℕ)) → AllByRecursion IsFounder g.founders → AllByRecursion IsBytes entries → AllByRecursion IsSmallMember (roster_of g entries).members
-small_roster g entries founders typed = small_changes (founded g.founders) (changes entries) (changes_typed entries typed) (founders_small g.founders founders)
+small_roster g entries founders typed = small_changes (founded g.founders) (changes entries) (changes_typed entries typed) (all_map IsFounder IsSmallMember member_by (λ f is. is.member.1) g.founders founders)
 
 -- ---- keys have 32 bytes
 

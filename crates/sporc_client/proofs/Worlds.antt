@@ -1,13 +1,7 @@
 -- The world after a move of a device that has this client, or none.
 use Rattle.std.proofs.Common.{ℕ, List, ◌++◌, take, Option, Some, cond}
+use Rattle.sporc_client.proofs.Common.{Device, same_device, refusal_of, Logged, PlainClient, World, given, put, signings, log_of_entries, replay, step}
 use Rattle.std.specs.Option.{option_map_or}
-use Rattle.sporc_member.specs.declared.device.Device.{Device}
-use Rattle.sporc_member.specs.Device.{same_device}
-use Rattle.sporc_client.specs.Answers.{refusal_of}
-use Rattle.sporc_client.specs.Log.{Logged}
-use Rattle.sporc_client.specs.PlainClient.{PlainClient}
-use Rattle.sporc_client.specs.Run.{World, given, put, signings}
-use Rattle.sporc_client.specs.Step.{log_of_entries, replay, step}
 
 -- the clients with this one in its place
 abbrev pub with_client : (Device → Option PlainClient) → Device → PlainClient → Device → Option PlainClient

@@ -5,7 +5,10 @@ use Rattle.std.specs.List.{filter_map}
 use Rattle.std.specs.Option.{option_map}
 use Rattle.std.specs.Result.{result_ok}
 use Rattle.lms_leaf.specs.Leaves.{LeavesModel}
+use Rattle.lms_sign.specs.Signer.{SignerModel}
+use Rattle.sporc_entry.specs.declared.genesis.Genesis.{Genesis}
 use Rattle.sporc_entry.specs.Entry.{entry_of}
+use Rattle.sporc_line.specs.Kit.{Kit}
 use Rattle.sporc_client.specs.Log.{Logged, Submit}
 use Rattle.sporc_client.specs.PlainClient.{Opening, PlainClient}
 use Rattle.sporc_client.specs.Step.{replay}
@@ -16,6 +19,15 @@ pub record ClientModel (D : Type 0) : Type 0 where
   pub log : List Logged
   pub leaves : LeavesModel D
   pub ticket : Option ℕ
+
+-- one that begins with this log and the leaves of its signer
+abbrev pub begun : {D : Type 0} → Genesis → Kit → List Logged → SignerModel D → ClientModel D
+begun genesis kit log signer = record {
+  opening = record { genesis = genesis; kit = kit; key = signer.key };
+  log = log;
+  leaves = signer.leaves;
+  ticket = None;
+}
 
 -- all that follows from its log
 abbrev pub state_of : {D : Type 0} → ClientModel D → PlainClient

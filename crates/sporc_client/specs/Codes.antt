@@ -40,10 +40,7 @@ lms_numbered n =
 
 pub lms_again : (t : LmsType) → lms_numbered (lms_number t) ≡ t
 lms_again H5 = refl
-lms_again H10 = refl
-lms_again H15 = refl
-lms_again H20 = refl
-lms_again H25 = refl
+lms_again t = refl
 
 abbrev pub ots_number : OtsType → ℕ
 ots_number W1 = 0
@@ -56,9 +53,7 @@ ots_numbered n = if n == 0 then W1 else (if n == 1 then W2 else (if n == 2 then 
 
 pub ots_again : (t : OtsType) → ots_numbered (ots_number t) ≡ t
 ots_again W1 = refl
-ots_again W2 = refl
-ots_again W4 = refl
-ots_again W8 = refl
+ots_again t = refl
 
 abbrev pub lms_code : Coded LmsType
 lms_code = code_by ℕ coded_ℕ lms_number lms_numbered lms_again
@@ -84,8 +79,7 @@ mark_of_parts p = if p.0 == 0 then Keep else (if p.0 == 1 then Remove else Inser
 
 pub mark_again : (m : Mark) → mark_of_parts (mark_parts m) ≡ m
 mark_again Keep = refl
-mark_again Remove = refl
-mark_again (Insert c) = refl
+mark_again m = refl
 
 abbrev pub mark_code : Coded Mark
 mark_code = code_by (ℕ × ℕ) (coded× coded_ℕ coded_ℕ) mark_parts mark_of_parts mark_again
@@ -111,11 +105,8 @@ change_of_parts p =
 
 pub change_again : (c : MemberChange) → change_of_parts (change_parts c) ≡ c
 change_again (Add member role key) = ap (λ r. Add member r key) (role_again role)
-change_again (RemoveMember member) = refl
 change_again (SetRole member role) = ap (SetRole member) (role_again role)
-change_again (AddDevice member device key) = refl
-change_again (DropDevice member device) = refl
-change_again Upgrade = refl
+change_again change = refl
 
 abbrev pub change_code : Coded MemberChange
 change_code =
@@ -138,17 +129,7 @@ fault_of_number n =
 
 pub fault_again : (f : ChangeFault) → fault_of_number (change_fault_code_of f) ≡ f
 fault_again faults.NumberUsed = refl
-fault_again faults.NotMember = refl
-fault_again faults.SameRole = refl
-fault_again faults.LastAdmin = refl
-fault_again faults.RosterFull = refl
-fault_again faults.BadKey = refl
-fault_again faults.DeviceUsed = refl
-fault_again faults.NoDevice = refl
-fault_again faults.LastDevice = refl
-fault_again faults.DevicesFull = refl
-fault_again faults.NotUpgraded = refl
-fault_again faults.AlreadyUpgraded = refl
+fault_again fault = refl
 
 abbrev pub fault_code : Coded ChangeFault
 fault_code = code_by ℕ coded_ℕ change_fault_code_of fault_of_number fault_again
@@ -177,11 +158,7 @@ logged_of_parts p =
 
 pub logged_again : (e : Logged) → logged_of_parts (logged_parts e) ≡ e
 logged_again (Edit by seen marks) = refl
-logged_again (Change by change) = refl
-logged_again (Submit by bytes) = refl
-logged_again (Dropped by fault) = refl
-logged_again (Accept by bytes) = refl
-logged_again (Discard by) = refl
+logged_again event = refl
 
 abbrev pub logged_code : Coded Logged
 logged_code = code_by LoggedParts (coded× coded_ℕ (coded× coded_ℕ (coded× coded_ℕ

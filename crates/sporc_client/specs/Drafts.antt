@@ -1,8 +1,10 @@
 -- Entries that are to be signed.
 use Rattle.std.specs.Prelude.{◌≡◌, ℕ, ◌+◌, ◌≤◌, List, ◌++◌, drop, vec_len, vec_capacity}
 use Rattle.std.specs.Int.{w32, to_be_bytes}
+use Rattle.lms_tree.specs.LmsPrivate.{LmsPrivate}
+use Rattle.lms_tree.specs.Signatures.{lms_signature_of}
 use Rattle.sporc_entry.specs.declared.entry.Entry.{Entry}
-use Rattle.sporc_entry.specs.Entry.{signed_string}
+use Rattle.sporc_entry.specs.Entry.{entry_bytes, signed_string}
 use Rattle.sporc_client.specs.declared.client.submitting.draft.Draft.{Draft}
 use Rattle.sporc_client.specs.declared.client.submitting.draft.Made.{Made}
 
@@ -29,3 +31,8 @@ pub record AreCopies (bytes : List ℕ) (made : Made) : Type 0 where
   pub answer : made.answer ≡ bytes
   pub flight : made.flight ≡ bytes
   pub event : made.event ≡ bytes
+
+-- the bytes of an entry that this leaf signed
+abbrev pub signed_bytes : LmsPrivate → ℕ → List ℕ → Entry → List ℕ
+signed_bytes key leaf randomizer e =
+    entry_bytes (record e { signature = lms_signature_of key leaf randomizer (signed_string e) })

@@ -1,5 +1,5 @@
 -- The leaf of a submission: that of the ticket that is kept, or else one that is drawn.
-use Rattle.std.specs.Prelude.{◌≡◌, ℕ, ◌^◌, ◌<◌, ◌==◌, Bool, true, false, ◌&&◌, is_none}
+use Rattle.std.specs.Prelude.{◌≡◌, ℕ, ◌^◌, ◌<◌, ◌==◌, Bool, true, false, ◌&&◌, is_none, ◌++◌}
 use Rattle.std.specs.Prelude.{if◌then◌else◌, Option, None, Some, Result, Ok, Err, ⊤}
 use Rattle.sporc_outside.specs.LeafDisk.{DiskTold}
 use Rattle.lms_tree.specs.LmsType.{height_of}
@@ -11,7 +11,7 @@ use Rattle.sporc_client.specs.declared.submitted.Submitted.{Submitted}
 use Rattle.sporc_client.specs.declared.submitted.Submitted.TheVariants as submitted
 use Rattle.sporc_client.specs.ClientModel.{ClientModel, state_of}
 use Rattle.sporc_client.specs.PlainClient.{PlainClient}
-use Rattle.sporc_client.specs.Submissions.{due, is_signing}
+use Rattle.sporc_client.specs.Submissions.{due, is_signing, submission_added}
 
 -- what a draw answered, by the leaf numbers before and after it
 abbrev pub drawn : {D : Type 0} → LeavesModel D → LeavesModel D → Result ℕ LeafFault
@@ -59,3 +59,12 @@ gives_entry (Err fault) = false
 -- whether a submission asks for a draw: an entry is to be signed, and no ticket is kept
 abbrev pub asks_draw : {D : Type 0} → ClientModel D → Bool
 asks_draw c = is_none c.ticket && is_signing (due (state_of c))
+
+-- a client after a submission with this answer, which left these leaves
+abbrev pub submitted_with : {D : Type 0} → ClientModel D → ℕ → Result Submitted SubmitFault
+    → LeavesModel D → ClientModel D
+submitted_with c by result leaves = record c {
+  log = c.log ++ submission_added by result;
+  leaves = leaves;
+  ticket = kept_after c.ticket c.leaves leaves (gives_entry result);
+}

@@ -28,7 +28,7 @@ ghost use Rattle.sporc_delta.specs.declared.limits.TheConstants.{MAX_TEXT_LEN};
 ghost use Rattle.sporc_suffix.specs.Forms.{Follow, all_inserted, later_over, reached};
 ghost use Rattle.sporc_client.specs.Allowed.{is_allowed};
 ghost use Rattle.sporc_client.specs.Soundness.{IsSound};
-ghost use Rattle.sporc_client.specs.ClientModel.{Rise, first_leaf_of, leaves_of, state_of};
+ghost use Rattle.sporc_client.specs.ClientModel.{Rise, begun, first_leaf_of, leaves_of, state_of};
 ghost use Rattle.sporc_client.specs.Workspace.{SameOwn};
 
 mod accepting;
@@ -102,16 +102,9 @@ impl<D: LeafDisk> Client<D> {
         ensures err { IfErr result (λ e. e.0 ≢ LineOpenFault.Memory
             → first_of (open_checks genesis (map.get ring.keys 0)) ≡ Some e.0) }
         ensures returned { IfErr result (λ e. e.1 ≡ signer) }
-        ensures value { IfOk result (λ client. client ≡ record {
-          opening = record {
-            genesis = genesis;
-            kit = kit_of (record { member = me; number = device }) ring.keys (pairs_in pairs);
-            key = signer.key;
-          };
-          log = [];
-          leaves = signer.leaves;
-          ticket = None;
-        }) }
+        ensures value { IfOk result (λ client. client ≡ begun genesis
+            (kit_of (record { member = me; number = device }) ring.keys (pairs_in pairs)) []
+            signer) }
     {
         // No draw: what the signer says here of its leaves is what the order of the client's leaves
         // rests on.

@@ -1,15 +1,13 @@
 //! What an entry that comes does to a client's own part.
 
-ghost use Rattle.std.specs.Prelude.{◌≡◌, ◌+◌, ◌≤◌, length, is_some, IfOk};
+ghost use Rattle.std.specs.Prelude.{◌≡◌, ◌+◌, ◌≤◌, length, IfOk};
 ghost use Rattle.sporc_delta.specs.Marks.{base_len, inserted_len};
 ghost use Rattle.sporc_delta.specs.declared.limits.TheConstants.{MAX_COUNT, MAX_TEXT_LEN};
 ghost use Rattle.sporc_suffix.specs.Forms.{Follow};
-ghost use Rattle.sporc_member.specs.Device.{same_device};
-ghost use Rattle.sporc_entry.specs.Entry.{author_device, change_of};
 ghost use Rattle.sporc_line.specs.Document.{text_after};
-ghost use Rattle.sporc_client.specs.Coming.{CanCome, coming_of, effect, shown_form};
+ghost use Rattle.sporc_client.specs.Coming.{CanCome, effect};
 ghost use Rattle.sporc_client.specs.Rebasing.{AreOver, inserted_by};
-ghost use Rattle.sporc_client.specs.Step.{is_same_as};
+ghost use Rattle.sporc_client.specs.Taking.{coming_at, form_at};
 
 use crate::rebasing::pass_items;
 use crate::workspace::Workspace;
@@ -45,14 +43,10 @@ pub(crate) fn settle(
     requires over { AreOver (base_len prepared.now.form) own.now.pending }
     requires limit { base_len prepared.now.form + inserted_len prepared.now.form
         + inserted_by own.now.pending ≤ MAX_TEXT_LEN }
-    ensures coming { IfOk result
-        (λ both. effect both.0 own.now.pending ≡ coming_of (is_same_as own.now.flight bytes.now)
-        (is_some (change_of prepared.now.checked.entry)) (same_device
-        (author_device prepared.now.checked.entry.header) me) prepared.now.form own.now.pending) }
+    ensures coming { IfOk result (λ both. effect both.0 own.now.pending
+        ≡ coming_at me own.now bytes.now prepared.now) }
     ensures fits { IfOk result (λ both. CanCome both.0 own.now.pending) }
-    ensures form { IfOk result (λ both. both.1 ≡ shown_form (is_same_as own.now.flight bytes.now)
-        (is_some (change_of prepared.now.checked.entry))
-        (length (text_after own.now.shown)) prepared.now.form own.now.pending) }
+    ensures form { IfOk result (λ both. both.1 ≡ form_at own.now bytes.now prepared.now) }
 {
     if own.is_on_its_way(bytes) {
         let keeps = Delta::keep_all(alloc, own.shown_len())?;

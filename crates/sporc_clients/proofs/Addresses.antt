@@ -1,11 +1,6 @@
 -- An address that is asked for, again and again.
 use Rattle.std.proofs.Common.{◌≡◌, ◌≤◌, inl, inr, ℕ, ◌+◌, List, [], ◌∷◌, ◌++◌, Option, Some, None, sym, ap, ◌∙◌, subst, append_assoc, append-nil, arith}
-use Rattle.std.specs.Prelude.{is_none, replicate, if◌then◌else◌}
-use Rattle.std.proofs.lemmas.List.{replicate-append-replicate}
-use Rattle.sporc_keys.specs.declared.ring_file.RingFile.{RingFile}
-use Rattle.sporc_outside.specs.Told.{MayAppend}
-use Rattle.sporc_clients.specs.Nets.{AsksAtMost}
-use Rattle.sporc_clients.specs.Opening.{links_for_hints}
+use Rattle.sporc_clients.proofs.Common.{is_none, replicate, if◌then◌else◌, replicate-append-replicate, RingFile, MayAppend, AsksAtMost, links_for_hints}
 
 pub asks_never : (most : ℕ) (a : Option (List (List ℕ))) (address : List ℕ) → AsksAtMost most a a address
 asks_never most None address = tt

@@ -1,21 +1,14 @@
 -- Files that are asked for, one call after another.
 use Rattle.std.proofs.Common.{◌≡◌, ℕ, zero, suc, ◌+◌, ◌<◌, inl, inr, ⊎_elim, List, [], ◌∷◌, ◌++◌, length, map, Option, Some, None, sym, ap, ◌∙◌, subst, arith, append-nil}
-use Rattle.std.specs.Prelude.{drop, option_map}
+use Rattle.sporc_clients.proofs.Common.{drop, option_map, map-append, Device, MayAppend, Words, Key, Ring, Script, Leaf, History, FileNames, file_name, AsksOnly, own_files, script_files, client_files}
+use Rattle.sporc_clients.proofs.Common.{names_of}
 use Rattle.std.specs.List.{Contains}
 use Rattle.std.proofs.lemmas.Bool.{cases_lt}
-use Rattle.std.proofs.lemmas.List.{map-append}
 use Rattle.std.proofs.lemmas.List.Elements.{All-contains, All-nil, All-push, Contains-append_left, Contains-append_right, Contains-push}
-use Rattle.sporc_member.specs.declared.device.Device.{Device}
-use Rattle.sporc_outside.specs.Told.{MayAppend}
 use Rattle.sporc_base.specs.Numbers.{up_to}
-use Rattle.sporc_words.specs.declared.client.Client.{Client as Words}
 use Rattle.sporc_files.specs.declared.file.File.{File}
-use Rattle.sporc_files.specs.declared.file.File.TheVariants.{Genesis, Key, Ring, Script, Leaf, History}
-use Rattle.sporc_files.specs.Names.{FileNames, file_name}
-use Rattle.sporc_files.specs.Uses.{AsksOnly}
+use Rattle.sporc_files.specs.declared.file.File.TheVariants.{Genesis}
 use Rattle.sporc_files.proofs.Asking.{AsksOnly-among, AsksOnly-trans}
-use Rattle.sporc_clients.specs.MemberFiles.{own_files, script_files}
-use Rattle.sporc_clients.specs.Outcome.{client_files, names_of}
 
 module _ (names : FileNames) where
   -- some of the first files are some of all

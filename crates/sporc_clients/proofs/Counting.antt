@@ -1,8 +1,7 @@
 -- Counts, and what stays told.
 use Rattle.std.proofs.Common.{◌≡◌, ℕ, ◌+◌, ◌-◌, ◌^◌, ◌<◌, ◌≤◌, Option, Some, None, refl, sym, ap, ◌∙◌, subst, arith}
+use Rattle.sporc_clients.proofs.Common.{Rose, count_of_both, IsPositive}
 use Rattle.std.specs.Option.{option_map}
-use Rattle.sporc_outside.specs.Counts.{Rose, count_of_both}
-use Rattle.sporc_outside.specs.Told.{IsPositive}
 
 -- a count of links that fits a u64 does not fall as a link is taken back
 pub both_kept : (old more new : ℕ) → old < 2 ^ 64 → count_of_both old more ≤ new → old ≤ new

@@ -1,20 +1,16 @@
 -- Of which faults of a session a count tells.
 use Rattle.std.proofs.Common.{◌≡◌, ⊎_elim, ℕ, ◌+◌, ◌≤◌, List, [], ◌∷◌, drop, length, Option, Some, None, refl, sym, ◌∙◌, subst, arith}
+use Rattle.sporc_clients.proofs.Common.{Result, Ok, Err, ⊤, count_of_both, EditorLine, Item, SessionFault}
 use Rattle.std.proofs.lemmas.Option.{same_Some}
-use Rattle.std.specs.Prelude.{Result, Ok, Err, ⊤}
 use Rattle.sporc_base.specs.FirstFault.{first_of}
-use Rattle.sporc_outside.specs.Counts.{count_of_both}
-use Rattle.sporc_script.specs.declared.editor_line.EditorLine.{EditorLine}
 use Rattle.sporc_wire.specs.declared.to_client.ToClient.{ToClient}
-use Rattle.sporc_shared.specs.declared.fault.SessionFault.{SessionFault}
-use Rattle.sporc_shared.specs.declared.fault.SessionFault.TheVariants as faults
-use Rattle.sporc_shared.specs.Acts.{Act}
-use Rattle.sporc_shared.specs.Traces.{Trace, Stand}
-use Rattle.sporc_shared.specs.Endings.{Cause}
-use Rattle.sporc_shared.specs.Items.{Item}
-use Rattle.sporc_shared.specs.Lines.{LineCause}
-use Rattle.sporc_shared.specs.Protocol.{Mode}
-use Rattle.sporc_shared.specs.Sessions.{EditorsDid, FirstPhase, IsSession, SecondPhase, SessionEnds, settles, doesnt_settle, stops}
+use Rattle.sporc_session.specs.declared.fault.SessionFault.TheVariants as faults
+use Rattle.sporc_session.specs.Acts.{Act}
+use Rattle.sporc_session.specs.Traces.{Trace, Stand}
+use Rattle.sporc_session.specs.Endings.{Cause}
+use Rattle.sporc_session.specs.Lines.{LineCause}
+use Rattle.sporc_session.specs.Protocol.{Mode}
+use Rattle.sporc_session.specs.Sessions.{EditorsDid, FirstPhase, IsSession, SecondPhase, SessionEnds, settles, doesnt_settle, stops}
 use Rattle.sporc_clients.specs.Counts.{CountsAround, RoseFor, RoseIfFailed}
 use Rattle.sporc_clients.proofs.Counting.{both_rose}
 

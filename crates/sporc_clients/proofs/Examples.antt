@@ -1,10 +1,9 @@
 -- Worked examples of the definitions: which fault is answered behind a session.
 use Rattle.std.proofs.Common.{◌≡◌, refl}
-use Rattle.std.specs.Prelude.{Ok, Err}
+use Rattle.sporc_clients.proofs.Common.{Ok, Err, ended}
 use Rattle.lms_leaf.specs.declared.faults.LeafFault.TheVariants as leaves
-use Rattle.sporc_shared.specs.declared.fault.SessionFault.TheVariants as sessions
+use Rattle.sporc_session.specs.declared.fault.SessionFault.TheVariants as sessions
 use Rattle.sporc_files.specs.declared.fault.Fault.TheVariants as faults
-use Rattle.sporc_clients.specs.Causes.{ended}
 
 the_session_is_first : ended 0 (Err (sessions.LinkEnded 3)) (Err faults.FullFile) (Err faults.Outside) ≡ Err (faults.LinkEnded 3)
 the_session_is_first = refl

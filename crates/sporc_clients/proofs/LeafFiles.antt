@@ -1,7 +1,6 @@
 -- What an opening keeps of the leaf file.
 use Rattle.std.proofs.Common.{◌≡◌, ℕ, List, sym, subst, arith}
-use Rattle.sporc_outside.specs.LeafDisk.{DiskTold, disk_images}
-use Rattle.lms_leaf.specs.Leaves.{KeepsStable}
+use Rattle.sporc_clients.proofs.Common.{DiskTold, disk_images, KeepsStable}
 use Rattle.sporc_clients.specs.LeafFile.{KeepsPassed}
 
 -- what is stable stays so, and so what was passed

@@ -1,10 +1,6 @@
 -- What stands of the leaf file of a client that was closed.
 use Rattle.std.proofs.Common.{◌≡◌, ℕ, ◌≤◌, Option, None, Some, ap, arith, sym, subst}
-use Rattle.sporc_outside.specs.LeafDisk.{DiskTold, disk_images}
-use Rattle.lms_leaf.specs.LeafFile.{ArePassed, AreTaken}
-use Rattle.lms_leaf.specs.Leaves.{LeavesModel}
-use Rattle.sporc_client.specs.ClientModel.{ClientModel, Rise, first_leaf_of, kept_count, leaves_of}
-use Rattle.sporc_shared.specs.Items.{past_of}
+use Rattle.sporc_clients.proofs.Common.{DiskTold, disk_images, ArePassed, AreTaken, LeavesModel, ClientModel, Rise, first_leaf_of, kept_count, leaves_of, past_of}
 use Rattle.sporc_clients.specs.Concluding.{LeavesAreTaken}
 
 -- it keeps one leaf at most

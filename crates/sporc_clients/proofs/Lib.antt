@@ -14,3 +14,4 @@ pub mod Resumed
 pub mod Scripts
 pub mod Sessioning
 pub mod WorkedFrom
+pub mod Common

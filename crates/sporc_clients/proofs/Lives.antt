@@ -1,20 +1,13 @@
 -- A run over a leaf file is a life of it.
 use Rattle.std.proofs.Common.{◌≡◌, ℕ, ◌+◌, ◌*◌, ◌<◌, ◌≤◌, List, [], ◌∷◌, map, IfSome, IsSome, All, AllPairs, ap, sym, subst, arith}
+use Rattle.sporc_clients.proofs.Common.{Result, ⊤, DiskTold, disk_images, taken_blocks, Rise, leaves_of, Words, Fault, Past, ClientUse, DiskOutcome, not_worked, worked}
 use Rattle.std.proofs.lemmas.List.Elements.{All-cons, All-nil, All-weaker}
 use Rattle.std.proofs.lemmas.List.Kept.{AllPairs-cons}
-use Rattle.std.specs.Prelude.{Result, ⊤}
-use Rattle.sporc_outside.specs.LeafDisk.{DiskTold, disk_images}
-use Rattle.lms_leaf.specs.LeafFile.{taken_blocks}
 use Rattle.lms_leaf.specs.Lives.{AreLives, IsLife}
 use Rattle.lms_leaf.specs.declared.leaf_file.TheConstants.{LEAVES_PER_BLOCK}
 use Rattle.lms_leaf.proofs.LifeLemmas.{leaves_rise, session_is_life}
-use Rattle.sporc_client.specs.ClientModel.{Rise, leaves_of}
-use Rattle.sporc_words.specs.declared.client.Client.{Client as Words}
-use Rattle.sporc_files.specs.declared.fault.Fault.{Fault}
-use Rattle.sporc_shared.specs.Items.{Past}
 use Rattle.sporc_clients.specs.declared.member_files.MemberFiles.{MemberFiles}
 use Rattle.sporc_clients.specs.Lives.{AreRuns, ClientRun, SignOnce, life_of, signed_in}
-use Rattle.sporc_clients.specs.Outcome.{ClientUse, DiskOutcome, not_worked, worked}
 
 -- ---- numbers that rise
 

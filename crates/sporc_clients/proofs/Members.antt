@@ -1,23 +1,15 @@
 -- Files of a member, one after another.
 use Rattle.std.proofs.Common.{◌≡◌, ℕ, ◌+◌, ◌≤◌, List, [], ◌∷◌, ◌++◌, length, Option, Result, refl, sym, ap, ◌∙◌, subst, arith}
-use Rattle.std.proofs.lemmas.List.{length-append}
+use Rattle.sporc_clients.proofs.Common.{length-append, NamedFile, Genesis, RingFile, Device, EditorLine, Fault, GenesisFile, Key, Ring, Script, FileNames, file_name, file_later, IsMemberFault}
+use Rattle.sporc_clients.proofs.Common.{SayScripts, SaysScript}
 use Rattle.lms_tree.specs.LmsPrivate.{LmsPrivate}
 use Rattle.sporc_outside.specs.Files.{HasFile}
 use Rattle.sporc_outside.specs.declared.file_fault.TheConstants.{MAX_FILE}
-use Rattle.sporc_outside.specs.declared.named_file.NamedFile.{NamedFile}
-use Rattle.sporc_entry.specs.declared.genesis.Genesis.{Genesis}
-use Rattle.sporc_keys.specs.declared.ring_file.RingFile.{RingFile}
-use Rattle.sporc_member.specs.declared.device.Device.{Device}
 use Rattle.sporc_keys.specs.RingFile.{ring_file_of_member}
-use Rattle.sporc_script.specs.declared.editor_line.EditorLine.{EditorLine}
 use Rattle.sporc_script.specs.Grammar.{IsEditorFault}
-use Rattle.sporc_files.specs.declared.fault.Fault.{Fault}
 use Rattle.sporc_files.specs.declared.fault.Fault.TheVariants as faults
-use Rattle.sporc_files.specs.declared.file.File.TheVariants.{Genesis as GenesisFile, Key, Ring, Script}
-use Rattle.sporc_files.specs.Names.{FileNames, file_name}
 use Rattle.sporc_files.specs.Reading.{IsFileFault, SaysFile, any_bytes, genesis_file, own_key_file}
-use Rattle.sporc_files.proofs.FaultCases.{file_later}
-use Rattle.sporc_clients.specs.MemberFiles.{IsFirstScriptFault, IsMemberFault, IsScriptFault, SayGenesisAndKey, SayScripts, SaysScript, no_key, no_ring, no_script, no_scripts, out_of_memory, unread}
+use Rattle.sporc_clients.specs.MemberFiles.{IsFirstScriptFault, IsScriptFault, SayGenesisAndKey, no_key, no_ring, no_script, no_scripts, out_of_memory, unread}
 use Rattle.sporc_clients.proofs.Scripts.{scripts_more}
 
 -- ---- a folder whose count of faults had risen before

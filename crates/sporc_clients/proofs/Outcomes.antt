@@ -1,31 +1,14 @@
 -- What the command did, at each of its ends.
 use Rattle.std.proofs.Common.{◌≡◌, ℕ, ◌≤◌, List, ◌∷◌, length, Option, option_map, Result, Ok, Err, ap, subst, arith, ◌∙◌}
-use Rattle.std.specs.Prelude.{⊤}
+use Rattle.sporc_clients.proofs.Common.{⊤, Device, NamedFile, ChanceTold, NetTold, Use, DiskTold, Words, Fault, History, Leaf, FileNames, file_name, Genesis, RingFile, Past, SessionFault, IsAttended}
+use Rattle.sporc_clients.proofs.Common.{NotAttended, begin_with, Wanted, ended, IsMemberFault, SayMember, ClientOutcome, ClientUse, names_of}
 use Rattle.lms_tree.specs.LmsPrivate.{LmsPrivate}
-use Rattle.sporc_member.specs.declared.device.Device.{Device}
 use Rattle.sporc_outside.specs.Files.{IsDiskOf}
-use Rattle.sporc_outside.specs.declared.named_file.NamedFile.{NamedFile}
-use Rattle.sporc_outside.specs.Chances.{ChanceTold}
-use Rattle.sporc_outside.specs.Nets.{NetTold}
-use Rattle.sporc_outside.specs.LeafDisk.{DiskTold}
-use Rattle.sporc_words.specs.declared.client.Client.{Client as Words}
-use Rattle.sporc_files.specs.declared.fault.Fault.{Fault}
 use Rattle.sporc_files.specs.declared.fault.Fault.TheVariants as faults
-use Rattle.sporc_files.specs.declared.file.File.TheVariants.{History, Leaf}
-use Rattle.sporc_files.specs.Names.{FileNames, file_name}
 use Rattle.sporc_files.specs.Reading.{IsFileFault, SaysFileIfThere, any_bytes}
-use Rattle.sporc_entry.specs.declared.genesis.Genesis.{Genesis}
-use Rattle.sporc_keys.specs.declared.ring_file.RingFile.{RingFile}
-use Rattle.sporc_script.specs.declared.editor_line.EditorLine.{EditorLine}
-use Rattle.sporc_shared.specs.declared.fault.SessionFault.{SessionFault}
-use Rattle.sporc_shared.specs.Items.{Past}
-use Rattle.sporc_clients.specs.Attending.{IsAttended, NotAttended}
 use Rattle.sporc_clients.specs.Concluding.{SaveOutcome}
 use Rattle.sporc_clients.specs.declared.member_files.MemberFiles.{MemberFiles}
-use Rattle.sporc_clients.specs.Causes.{ended}
 use Rattle.sporc_clients.specs.LeafFile.{IsLendFault}
-use Rattle.sporc_clients.specs.MemberFiles.{IsMemberFault, SayMember}
-use Rattle.sporc_clients.specs.Outcome.{ClientOutcome, ClientUse, names_of}
 
 -- the disk was not lent by a folder whose count of faults had risen before
 lend_later : (told : Option (List NamedFile)) (low mid high : ℕ) (names : FileNames) (device : Device) (fault : Fault) → low ≤ mid
@@ -82,27 +65,17 @@ ends_so disks words did r y fault is same ended = rw (is, same) ended
 
 -- ---- a session
 
--- with other words for the address, the editors and the key
-module _ (genesis : Genesis) (device : Device) (ring : RingFile) (address told : List ℕ) (history : Option (List ℕ)) (old new : NetTold) (same : told ≡ address) where
-  pub attended_at : (rounds until : ℕ) (editors shown : List (List EditorLine)) (key own : LmsPrivate) (leaf : ℕ) (past : Past) (chance chance' : ChanceTold) (session : Result ⊤ SessionFault)
-      → shown ≡ editors → own ≡ key
-      → IsAttended (record { genesis = genesis; device = device; ring = ring; address = told }) history old new (record { rounds = rounds; until = until; editors = shown })
-      (record { key = own; first_leaf = leaf }) past chance chance' session
-      → IsAttended (record { genesis = genesis; device = device; ring = ring; address = address }) history old new (record { rounds = rounds; until = until; editors = editors })
-      (record { key = key; first_leaf = leaf }) past chance chance' session
-  attended_at rounds until editors shown key own leaf past chance chance' session all signs attended =
-      subst (λ (a : List ℕ). IsAttended (record { genesis = genesis; device = device; ring = ring; address = a }) history old new
-      (record { rounds = rounds; until = until; editors = editors }) (record { key = key; first_leaf = leaf }) past chance chance' session) same
-      (subst (λ (es : List (List EditorLine)). IsAttended (record { genesis = genesis; device = device; ring = ring; address = told }) history old new
-      (record { rounds = rounds; until = until; editors = es }) (record { key = key; first_leaf = leaf }) past chance chance' session) all
-      (subst (λ (k : LmsPrivate). IsAttended (record { genesis = genesis; device = device; ring = ring; address = told }) history old new
-      (record { rounds = rounds; until = until; editors = shown }) (record { key = k; first_leaf = leaf }) past chance chance' session) signs attended))
+-- with other words for the address and the key
+module _ (genesis : Genesis) (device : Device) (ring : RingFile) (address told : List ℕ) (history : Option (List ℕ)) (net : Use NetTold) (same : told ≡ address) where
+  pub attended_at : (wanted : Wanted) (key own : LmsPrivate) (leaf : ℕ) (past : Past) (chance : Use ChanceTold) (session : Result ⊤ SessionFault) → own ≡ key
+      → IsAttended (begin_with genesis device ring told) history net wanted (record { key = own; first_leaf = leaf }) past chance session
+      → IsAttended (begin_with genesis device ring address) history net wanted (record { key = key; first_leaf = leaf }) past chance session
+  attended_at wanted key own leaf past chance session signs attended =
+      subst (λ (a : List ℕ). IsAttended (begin_with genesis device ring a) history net wanted (record { key = key; first_leaf = leaf }) past chance session) same
+      (subst (λ (k : LmsPrivate). IsAttended (begin_with genesis device ring told) history net wanted (record { key = k; first_leaf = leaf }) past chance session) signs attended)
 
-  pub not_attended_at : (before after : ℕ) (fault : Fault)
-      → NotAttended (record { genesis = genesis; device = device; ring = ring; address = told }) history old new before after fault
-      → NotAttended (record { genesis = genesis; device = device; ring = ring; address = address }) history old new before after fault
-  not_attended_at before after fault why =
-      subst (λ (a : List ℕ). NotAttended (record { genesis = genesis; device = device; ring = ring; address = a }) history old new before after fault) same why
+  pub not_attended_at : (fault : Fault) → NotAttended (begin_with genesis device ring told) history net fault → NotAttended (begin_with genesis device ring address) history net fault
+  not_attended_at fault why = subst (λ (a : List ℕ). NotAttended (begin_with genesis device ring a) history net fault) same why
 
 -- what was saved by a folder whose count of faults had risen before
 saved_later : (past : Past) (name : List ℕ) (told new : Option (List NamedFile)) (low mid high : ℕ) (result : Result ⊤ Fault) → low ≤ mid

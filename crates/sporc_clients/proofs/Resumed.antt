@@ -1,23 +1,16 @@
 -- A member's line with its saved history, from what its parts answered.
 use Rattle.std.proofs.Common.{◌≡◌, ℕ, ◌≤◌, List, Option, Some, refl, sym, ◌∙◌, subst, arith}
-use Rattle.std.specs.Prelude.{Result, Ok, Err, IfErr, IfOk, ⊤}
-use Rattle.sporc_entry.specs.declared.genesis.Genesis.{Genesis}
+use Rattle.sporc_clients.proofs.Common.{Result, Ok, Err, IfErr, IfOk, ⊤, Genesis, Fault, History, Device, NetTold, Use, IsResumed, NotResumed, checked_before, not_loaded, NotBegun, out_of_memory}
+use Rattle.sporc_clients.proofs.Common.{unreached, Begin, Opens}
 use Rattle.sporc_line.specs.Kit.{Kit}
 use Rattle.sporc_line.specs.LineModel.{LineModel}
-use Rattle.sporc_files.specs.declared.fault.Fault.{Fault}
 use Rattle.sporc_files.specs.declared.fault.Fault.TheVariants as faults
 use Rattle.sporc_files.specs.declared.file.File.{File}
-use Rattle.sporc_files.specs.declared.file.File.TheVariants.{History}
 use Rattle.sporc_files.specs.Faults.{AnswersUnlessOutside, unless_stopped, whole}
-use Rattle.sporc_member.specs.declared.device.Device.{Device}
-use Rattle.sporc_outside.specs.Nets.{NetTold}
 use Rattle.sporc_store.specs.declared.stop.Stop.{Stop}
 use Rattle.sporc_store.specs.declared.stop.Stop.TheVariants.{Cut, End, Foreign, Refused}
 use Rattle.sporc_store.specs.Loading.{a_member, loaded}
 use Rattle.sporc_store.specs.SavedFile.{Taken, read_to}
-use Rattle.sporc_clients.specs.Attending.{IsResumed, NotResumed, checked_before, not_loaded}
-use Rattle.sporc_clients.specs.Nets.{NotBegun, out_of_memory, unreached}
-use Rattle.sporc_clients.specs.Opening.{Begin, Opens}
 use Rattle.sporc_clients.specs.Resuming.{entries_by}
 
 -- a history's file is not whole
@@ -35,42 +28,41 @@ pub stopped_so : (device : Device) (genesis : Genesis) (kit : Kit) (saved : Opti
 stopped_so device genesis kit saved bytes entries stop fault r there is stopped same =
     rw there (subst (λ (t : Taken). AnswersUnlessOutside (λ line. line.entries) ⊥ r (whole (History device) t)) is (not_whole_at (History device) entries stop fault r stopped same))
 
-module _ (begin : Begin) (saved : Option (List ℕ)) (old new : NetTold) where
-  module _ (checked : checked_before begin saved old ≡ Ok tt) (genesis : Genesis) (kit : Kit) (opens : Opens begin old new kit) (same : genesis ≡ begin.genesis) (result : Result LineModel Fault)
+module _ (begin : Begin) (saved : Option (List ℕ)) (net : Use NetTold) where
+  module _ (checked : checked_before begin saved ≡ Ok tt) (genesis : Genesis) (kit : Kit) (opens : Opens begin net kit) (same : genesis ≡ begin.genesis) (result : Result LineModel Fault)
       (tells : AnswersUnlessOutside (λ line. line.entries) ⊥ result (entries_by begin.device genesis kit saved)) where
     -- with the document's own genesis
     loaded_of : AnswersUnlessOutside (λ line. line.entries) ⊥ result (entries_by begin.device begin.genesis kit saved)
     loaded_of = subst (λ (g : Genesis). AnswersUnlessOutside (λ line. line.entries) ⊥ result (entries_by begin.device g kit saved)) same tells
 
     -- the history was loaded
-    pub resumed : IfOk result (λ line. line.genesis ≡ genesis) → IfOk result (λ line. line.kit ≡ kit) → IfOk result (IsResumed begin saved old new)
+    pub resumed : IfOk result (λ line. line.genesis ≡ genesis) → IfOk result (λ line. line.kit ≡ kit) → IfOk result (IsResumed begin saved net)
     resumed of_document of_kit = resumed_by result of_document of_kit loaded_of
       where
         resumed_by : (r : Result LineModel Fault) → IfOk r (λ line. line.genesis ≡ genesis) → IfOk r (λ line. line.kit ≡ kit)
-            → AnswersUnlessOutside (λ line. line.entries) ⊥ r (entries_by begin.device begin.genesis kit saved) → IfOk r (IsResumed begin saved old new)
+            → AnswersUnlessOutside (λ line. line.entries) ⊥ r (entries_by begin.device begin.genesis kit saved) → IfOk r (IsResumed begin saved net)
         resumed_by (Ok line) g k is = record {
           whole = checked;
-          opens = subst (λ (given : Kit). Opens begin old new given) (sym k) opens;
+          opens = subst (λ (given : Kit). Opens begin net given) (sym k) opens;
           genesis = g ∙ same;
           loaded = subst (λ (given : Kit). entries_by begin.device begin.genesis given saved ≡ Ok line.entries) (sym k) is;
         }
         resumed_by (Err fault) g k why = tt
 
     -- or it was not
-    pub not_resumed_by : (before after : ℕ) → IfErr result (NotResumed begin saved old new before after)
-    not_resumed_by before after = by result loaded_of
+    pub not_resumed_by : IfErr result (NotResumed begin saved net)
+    not_resumed_by = by result loaded_of
       where
         by : (r : Result LineModel Fault) → AnswersUnlessOutside (λ line. line.entries) ⊥ r (entries_by begin.device begin.genesis kit saved)
-            → IfErr r (NotResumed begin saved old new before after)
+            → IfErr r (NotResumed begin saved net)
         by (Ok line) is = tt
         by (Err fault) why = not_loaded checked opens why
 
   -- memory ran out behind that
-  pub no_client : (line : LineModel) (before after : ℕ) (fault : Fault) → IsResumed begin saved old new line → fault ≡ faults.Memory → NotResumed begin saved old new before after fault
-  no_client line before after fault resumed is = rw is (not_loaded resumed.whole resumed.opens tt)
+  pub no_client : (line : LineModel) (fault : Fault) → IsResumed begin saved net line → fault ≡ faults.Memory → NotResumed begin saved net fault
+  no_client line fault resumed is = rw is (not_loaded resumed.whole resumed.opens tt)
 
 -- no session began over a net whose count of faults had risen before
-pub begun_later : (address : List ℕ) (old new : NetTold) (low mid high : ℕ) (fault : Fault) → low ≤ mid
-    → NotBegun address old new mid high fault → NotBegun address old new low high fault
-begun_later address old new low mid high fault more (unreached none rose is) = unreached none (omega (arith, more, rose)) is
-begun_later address old new low mid high fault more (out_of_memory unused is) = out_of_memory unused is
+pub begun_later : (address : List ℕ) (net : Use NetTold) (low mid : ℕ) (fault : Fault) → low ≤ mid → NotBegun address net mid fault → NotBegun address net low fault
+begun_later address net low mid fault more (unreached none rose is) = unreached none (omega (arith, more, rose)) is
+begun_later address net low mid fault more (out_of_memory unused is) = out_of_memory unused is

@@ -1,10 +1,6 @@
 -- Editor scripts, one after another.
 use Rattle.std.proofs.Common.{ℕ, ◌+◌, List, [], ◌∷◌, ◌++◌, length, Option, subst, arith}
-use Rattle.sporc_outside.specs.declared.named_file.NamedFile.{NamedFile}
-use Rattle.sporc_script.specs.declared.editor_line.EditorLine.{EditorLine}
-use Rattle.sporc_files.specs.declared.file.File.TheVariants.{Script}
-use Rattle.sporc_files.specs.Names.{FileNames, file_name}
-use Rattle.sporc_clients.specs.MemberFiles.{SayScripts, SaysScript}
+use Rattle.sporc_clients.proofs.Common.{NamedFile, EditorLine, Script, FileNames, file_name, SayScripts, SaysScript}
 
 -- the next one was read
 pub scripts_more : (files : Option (List NamedFile)) (names : FileNames) (editor : ℕ) (scripts : List (List EditorLine)) (script : List EditorLine)

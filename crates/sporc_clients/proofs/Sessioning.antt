@@ -1,22 +1,17 @@
 -- What a session did to a client, from the contracts of the shared client.
 use Rattle.std.proofs.Common.{◌≡◌, ℕ, List, [], sym, ap, ◌∙◌, subst}
-use Rattle.std.specs.Prelude.{IfErr, Result, ⊤}
-use Rattle.sporc_outside.specs.Chances.{ChanceTold}
+use Rattle.sporc_clients.proofs.Common.{IfErr, Result, ⊤, ChanceTold, Use, EditorLine, IsAllowed, Item, Past, items_of, SessionFault, link_at, Wanted, IsSessionOf, LinkTold, stand_at}
 use Rattle.sporc_turn.specs.declared.known.Known.{Known}
 use Rattle.sporc_turn.specs.declared.pass.Pass.{Pass}
 use Rattle.sporc_turn.specs.Knowing.{first_known}
 use Rattle.sporc_turn.specs.Log.{StartsWith}
 use Rattle.sporc_turn.specs.Passes.{known_of}
-use Rattle.sporc_shared.specs.declared.fault.SessionFault.{SessionFault}
-use Rattle.sporc_shared.specs.Traces.{IsAllowedLog}
-use Rattle.sporc_shared.specs.Fetches.{IsFetch}
-use Rattle.sporc_shared.specs.Items.{IsAllowed, Item, Past, items_of}
-use Rattle.sporc_shared.specs.Passes.{IsWornFor}
-use Rattle.sporc_shared.specs.Sessions.{IsSession}
-use Rattle.sporc_shared.specs.Wires.{InboxModel, LinkStand, empty_inbox}
-use Rattle.sporc_shared.proofs.Pasts.{past_goes_on}
-use Rattle.sporc_clients.specs.Fetching.{link_at}
-use Rattle.sporc_clients.specs.Sessions.{Around, IsSessionOf, LinkTold, Wanted, stand_at}
+use Rattle.sporc_session.specs.Traces.{IsAllowedLog}
+use Rattle.sporc_session.specs.Fetches.{IsFetch}
+use Rattle.sporc_session.specs.Replies.{IsWornFor}
+use Rattle.sporc_session.specs.Sessions.{IsSession}
+use Rattle.sporc_session.specs.Wires.{InboxModel, LinkStand, empty_inbox}
+use Rattle.sporc_session.proofs.Pasts.{past_goes_on}
 
 -- what number 0 knows as it is handed out
 pub record IsFirst (k : Known Item) : Type 0 where
@@ -33,12 +28,15 @@ is_first k p e allowed = record {
   allowed = record { past = p; log_is = ap (λ (k : Known Item). k.seen) e; allowed = allowed };
 }
 
-pub session_of : (wanted : Wanted) (before after : Past) (first : Known Item) (last : Pass Item) (inbox : InboxModel) (found left : Around) (result : Result ⊤ SessionFault)
-    → first ≡ first_known (items_of before)
-    → IsSession (stand_at first empty_inbox found.link found.chance) (stand_at (known_of last) inbox left.link left.chance) wanted.rounds wanted.until wanted.editors result
-    → IfErr result (IsWornFor last) → items_of after ≡ (known_of last).seen → IsAllowed after → IsSessionOf wanted before after found left result
-session_of wanted before after first last inbox found left result opened session worn closed allowed =
-    let s = subst (λ (k : Known Item). IsSession (stand_at k empty_inbox found.link found.chance) (stand_at (known_of last) inbox left.link left.chance) wanted.rounds wanted.until wanted.editors result) opened session in
+pub session_of : (wanted : Wanted) (editors : List (List EditorLine)) (before after : Past) (first : Known Item) (last : Pass Item) (inbox : InboxModel)
+    (link : Use LinkTold) (chance : Use ChanceTold) (result : Result ⊤ SessionFault) → editors ≡ wanted.editors → first ≡ first_known (items_of before)
+    → IsSession (stand_at first empty_inbox link.before chance.before) (stand_at (known_of last) inbox link.after chance.after) wanted.rounds wanted.until editors result
+    → IfErr result (IsWornFor last) → items_of after ≡ (known_of last).seen → IsAllowed after → IsSessionOf wanted before after link chance result
+session_of wanted editors before after first last inbox link chance result same opened session worn closed allowed =
+    let from = stand_at (first_known (items_of before)) empty_inbox link.before chance.before in
+    let to = stand_at (known_of last) inbox link.after chance.after in
+    let s = subst (λ (es : List (List EditorLine)). IsSession from to wanted.rounds wanted.until es result) same
+    (subst (λ (k : Known Item). IsSession (stand_at k empty_inbox link.before chance.before) to wanted.rounds wanted.until editors result) opened session) in
     let t = past_goes_on before after (subst (λ (l : List Item). StartsWith l (items_of before)) (sym s.log_is ∙ sym closed) s.legal.begins) in
     record { pass = last; inbox = inbox; session = s; worn = worn; seen = sym closed; events = t.0; goes_on = t.1; allowed = allowed }
 
@@ -46,12 +44,12 @@ session_of wanted before after first last inbox found left result opened session
 pub told_again : (old new : LinkTold) → new.written ≡ old.written → new.left ≡ old.left → new.faults ≡ old.faults → new ≡ old
 told_again old new written left faults i = record { written = written i; left = left i; faults = faults i }
 
-pub over_same_link : (wanted : Wanted) (before after : Past) (found : Around) (chance : ChanceTold) (result : Result ⊤ SessionFault)
+pub over_same_link : (wanted : Wanted) (before after : Past) (first : LinkTold) (chance : Use ChanceTold) (result : Result ⊤ SessionFault)
     (old new : LinkTold) → new.written ≡ old.written → new.left ≡ old.left → new.faults ≡ old.faults
-    → IsSessionOf wanted before after found (record { link = old; chance = chance }) result
-    → IsSessionOf wanted before after found (record { link = new; chance = chance }) result
-over_same_link wanted before after found chance result old new written left faults session =
-    subst (λ (l : LinkTold). IsSessionOf wanted before after found (record { link = l; chance = chance }) result)
+    → IsSessionOf wanted before after (record { before = first; after = old }) chance result
+    → IsSessionOf wanted before after (record { before = first; after = new }) chance result
+over_same_link wanted before after first chance result old new written left faults session =
+    subst (λ (l : LinkTold). IsSessionOf wanted before after (record { before = first; after = l }) chance result)
     (sym (told_again old new written left faults)) session
 
 -- a fetch by an equal answer

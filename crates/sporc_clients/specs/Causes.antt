@@ -3,8 +3,8 @@
 use Rattle.std.specs.Prelude.{ℕ, ◌==◌, Result, ⊤, if◌then◌else◌}
 use Rattle.lms_leaf.specs.declared.faults.LeafFault.TheVariants as leaves
 use Rattle.sporc_bytes.specs.Fields.{fault_as}
-use Rattle.sporc_shared.specs.declared.fault.SessionFault.{SessionFault}
-use Rattle.sporc_shared.specs.declared.fault.SessionFault.TheVariants as sessions
+use Rattle.sporc_session.specs.declared.fault.SessionFault.{SessionFault}
+use Rattle.sporc_session.specs.declared.fault.SessionFault.TheVariants as sessions
 use Rattle.sporc_files.specs.declared.fault.Fault.{Fault}
 use Rattle.sporc_files.specs.declared.fault.Fault.TheVariants as faults
 use Rattle.sporc_files.specs.Faults.{first_fault}

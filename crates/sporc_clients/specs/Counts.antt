@@ -3,8 +3,8 @@ use Rattle.std.specs.Prelude.{ℕ, Result, Ok, Err, ⊤}
 use Rattle.sporc_outside.specs.Chances.{ChanceTold}
 use Rattle.sporc_outside.specs.Counts.{Rose}
 use Rattle.sporc_outside.specs.Uses.{Use}
-use Rattle.sporc_shared.specs.declared.fault.SessionFault.{SessionFault}
-use Rattle.sporc_shared.specs.declared.fault.SessionFault.TheVariants as faults
+use Rattle.sporc_session.specs.declared.fault.SessionFault.{SessionFault}
+use Rattle.sporc_session.specs.declared.fault.SessionFault.TheVariants as faults
 
 -- the counts of a net's links and of a chance, before and after
 pub record CountsAround : Type 0 where

@@ -3,11 +3,12 @@ use Rattle.std.specs.Prelude.{◌≡◌, ℕ, List, Result, Err}
 use Rattle.sporc_outside.specs.Counts.{Rose}
 use Rattle.sporc_outside.specs.Nets.{NetTold}
 use Rattle.sporc_outside.specs.Streams.{StreamTold}
+use Rattle.sporc_outside.specs.Uses.{Use}
 use Rattle.sporc_files.specs.declared.fault.Fault.{Fault}
 use Rattle.sporc_files.specs.declared.fault.Fault.TheVariants as faults
-use Rattle.sporc_shared.specs.declared.fault.SessionFault.{SessionFault}
-use Rattle.sporc_shared.specs.Fetches.{IsFetch}
-use Rattle.sporc_shared.specs.Wires.{InboxModel, LinkStand, empty_inbox, link_stand}
+use Rattle.sporc_session.specs.declared.fault.SessionFault.{SessionFault}
+use Rattle.sporc_session.specs.Fetches.{IsFetch}
+use Rattle.sporc_session.specs.Wires.{InboxModel, LinkStand, empty_inbox, link_stand}
 use Rattle.sporc_clients.specs.Causes.{fault_of_session}
 use Rattle.sporc_clients.specs.Nets.{MakesNoLink, UsesLink}
 use Rattle.sporc_clients.specs.Sessions.{LinkTold, link_told}
@@ -16,21 +17,20 @@ use Rattle.sporc_clients.specs.Sessions.{LinkTold, link_told}
 abbrev pub link_at : LinkTold → InboxModel → LinkStand
 link_at told inbox = link_stand told.written told.left told.faults inbox
 
-module _ (address document : List ℕ) (member : ℕ) (old new : NetTold) where
+module _ (address document : List ℕ) (member : ℕ) (net : Use NetTold) where
   -- all entries of a server were fetched over a link to an address, or a fault came
   pub record IsFetchAt (fetched : Result (List (List ℕ)) SessionFault) : Type 0 where
     pub first : StreamTold
     pub last : StreamTold
-    pub uses : UsesLink old new address first last
+    pub uses : UsesLink net address first last
     pub inbox : InboxModel
     pub fetch : IsFetch (link_at (link_told first) empty_inbox)
         (link_at (link_told last) inbox) document member fetched
 
-  -- Why they were not, where the net's count of faults went from `before` to `after`: no link was
-  -- made, or a fault came over it, which is the same whatever a disk counted
-  pub data NotFetched (before after : ℕ) (fault : Fault) : Type 0 where
-    unreached : MakesNoLink old new address → Rose before after → fault ≡ faults.Outside
-        → NotFetched before after fault
+  -- Why they were not: no link was made, and the net's count of faults rose, or a fault came over
+  -- it, which is the same whatever a disk counted
+  pub data NotFetched (fault : Fault) : Type 0 where
+    unreached : MakesNoLink net address → Rose net.before.faults net.after.faults
+        → fault ≡ faults.Outside → NotFetched fault
     broken : {cause : SessionFault} → IsFetchAt (Err cause)
-        → ((disk_faults : ℕ) → fault ≡ fault_of_session disk_faults cause)
-        → NotFetched before after fault
+        → ((disk_faults : ℕ) → fault ≡ fault_of_session disk_faults cause) → NotFetched fault

@@ -1,5 +1,6 @@
 pub mod Report
 pub mod Resuming
+pub mod Uses
 pub mod Sessions
 pub mod Nets
 pub mod Counts

@@ -12,8 +12,8 @@ use Rattle.sporc_outside.specs.Folders.{FolderTold}
 use Rattle.sporc_outside.specs.Chances.{ChanceTold}
 use Rattle.sporc_outside.specs.Nets.{NetTold}
 use Rattle.sporc_outside.specs.LeafDisk.{DiskTold, disk_images}
-use Rattle.sporc_shared.specs.declared.fault.SessionFault.{SessionFault}
 use Rattle.sporc_shared.specs.Items.{Past}
+use Rattle.sporc_session.specs.declared.fault.SessionFault.{SessionFault}
 use Rattle.sporc_words.specs.declared.client.Client.{Client as Words}
 use Rattle.sporc_files.specs.declared.fault.Fault.{Fault}
 use Rattle.sporc_files.specs.declared.file.File.{File}
@@ -23,8 +23,8 @@ use Rattle.sporc_files.specs.Reading.{IsFileFault, SaysFileIfThere, any_bytes}
 use Rattle.sporc_clients.specs.Attending.{IsAttended, NotAttended, Signs}
 use Rattle.sporc_clients.specs.Counts.{CountsAround, RoseIfFailed, counts_around}
 use Rattle.sporc_clients.specs.Concluding.{FilesUse, LeavesAreTaken, PrintOutcome, SaveOutcome}
-use Rattle.sporc_clients.specs.Opening.{Begin}
-use Rattle.sporc_clients.specs.Sessions.{Wanted}
+use Rattle.sporc_clients.specs.Opening.{Begin, begin_with}
+use Rattle.sporc_clients.specs.declared.session.Wanted.{Wanted}
 use Rattle.sporc_clients.specs.declared.member_files.MemberFiles.{MemberFiles}
 use Rattle.sporc_clients.specs.Causes.{ended}
 use Rattle.sporc_clients.specs.LeafFile.{IsLeafFileFault, IsLendFault, IsOpened, KeepsPassed}
@@ -38,6 +38,10 @@ pub record ClientUse : Type 0 where
   pub folder : Use FolderTold
   pub net : Use NetTold
   pub chance : Use ChanceTold
+
+abbrev pub uses : Use StreamTold → Use FolderTold → Use NetTold → Use ChanceTold → ClientUse
+uses out folder net chance =
+    record { out = out; folder = folder; net = net; chance = chance }
 
 -- nothing was written, no file was changed, and no random word was taken
 pub record IsUntouched (did : ClientUse) : Type 0 where
@@ -58,13 +62,6 @@ files_of did = record {
   faults_after = did.folder.after.faults;
 }
 
--- what its chance told
-abbrev pub chance_before : ClientUse → ChanceTold
-chance_before did = did.chance.before
-
-abbrev pub chance_after : ClientUse → ChanceTold
-chance_after did = did.chance.after
-
 -- ---- what it was asked for
 
 -- the names of its files
@@ -77,8 +74,7 @@ client_files device scripts = own_files device scripts ++ Leaf device ∷ Histor
 
 -- what the line of the member's device is opened by
 abbrev pub begin_of : Words → MemberFiles → Begin
-begin_of words m =
-    record { genesis = m.genesis; device = words.device; ring = m.ring; address = words.address }
+begin_of words m = begin_with m.genesis words.device m.ring words.address
 
 -- the session
 abbrev pub wanted_of : Words → MemberFiles → Wanted
@@ -109,9 +105,8 @@ module _ {D : Type 0} (disks : D → DiskTold) (words : Words) (m : MemberFiles)
     pub ready : IsReady first leaves history
     pub past : Past
     pub session : Result ⊤ SessionFault
-    pub attended : IsAttended (begin_of words m) history did.net.before did.net.after
-        (wanted_of words m) (signs_with m leaves) past
-        (chance_before did) (chance_after did) session
+    pub attended : IsAttended (begin_of words m) history did.net
+        (wanted_of words m) (signs_with m leaves) past did.chance session
     pub causes : RoseIfFailed (counts_of did) session
     pub saved : Result ⊤ Fault
     pub saves : SaveOutcome past (file_name (names_of words) (History words.device))
@@ -133,8 +128,7 @@ module _ {D : Type 0} (disks : D → DiskTold) (words : Words) (m : MemberFiles)
         did.folder.after.faults (names_of words) (History words.device) fault
         → did.net.after ≡ did.net.before → NotWorked first last fault
     no_session : {leaves : LeavesModel D} {history : Option (List ℕ)} → IsReady first leaves history
-        → NotAttended (begin_of words m) history did.net.before did.net.after did.net.before.faults
-        did.net.after.faults fault → NotWorked first last fault
+        → NotAttended (begin_of words m) history did.net fault → NotWorked first last fault
 
   -- by the answer
   pub data DiskOutcome (first last : D) : Result ⊤ Fault → Type 0 where

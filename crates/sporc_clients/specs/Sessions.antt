@@ -2,18 +2,19 @@
 use Rattle.std.specs.Prelude.{◌≡◌, ℕ, List, Option, IfErr, Result, ⊤}
 use Rattle.sporc_outside.specs.Chances.{ChanceTold}
 use Rattle.sporc_outside.specs.Streams.{StreamTold}
-use Rattle.sporc_script.specs.declared.editor_line.EditorLine.{EditorLine}
+use Rattle.sporc_outside.specs.Uses.{Use}
 use Rattle.sporc_turn.specs.declared.known.Known.{Known}
 use Rattle.sporc_turn.specs.declared.pass.Pass.{Pass}
 use Rattle.sporc_turn.specs.Knowing.{first_known}
 use Rattle.sporc_turn.specs.Passes.{known_of}
 use Rattle.sporc_client.specs.Log.{Logged}
-use Rattle.sporc_shared.specs.declared.fault.SessionFault.{SessionFault}
-use Rattle.sporc_shared.specs.Traces.{Stand, stand}
 use Rattle.sporc_shared.specs.Items.{IsAllowed, Item, Past, items_of, with_events}
-use Rattle.sporc_shared.specs.Passes.{IsWornFor}
-use Rattle.sporc_shared.specs.Sessions.{IsSession}
-use Rattle.sporc_shared.specs.Wires.{InboxModel, empty_inbox, link_stand}
+use Rattle.sporc_session.specs.declared.fault.SessionFault.{SessionFault}
+use Rattle.sporc_session.specs.Replies.{IsWornFor}
+use Rattle.sporc_session.specs.Sessions.{IsSession}
+use Rattle.sporc_session.specs.Traces.{Stand, stand}
+use Rattle.sporc_session.specs.Wires.{InboxModel, empty_inbox, link_stand}
+use Rattle.sporc_clients.specs.declared.session.Wanted.{Wanted}
 
 -- what a link tells, with its count of faults
 pub record LinkTold : Type 0 where
@@ -25,32 +26,24 @@ pub record LinkTold : Type 0 where
 abbrev pub link_told : StreamTold → LinkTold
 link_told link = record { written = link.written; left = link.left; faults = link.faults }
 
+-- the same of a use of it
+abbrev pub link_use : Use StreamTold → Use LinkTold
+link_use link = record { before = link_told link.before; after = link_told link.after }
+
 -- what number 0 knows of the client's log, beside what the link and the chance tell
 abbrev pub stand_at : Known Item → InboxModel → LinkTold → ChanceTold → Stand
 stand_at known inbox link chance =
     stand known (link_stand link.written link.left link.faults inbox) chance.given chance.faults
 
--- what a session is given: the rounds of its first phase, the length that the history is to have,
--- and the editors' lines
-pub record Wanted : Type 0 where
-  pub rounds : ℕ
-  pub until : ℕ
-  pub editors : List (List EditorLine)
-
--- what a session finds and leaves beside the client
-pub record Around : Type 0 where
-  pub link : LinkTold
-  pub chance : ChanceTold
-
 -- A session led a client from one past to another, with this pass at its end: it added events to
 -- its log. If it ended since the lock's tickets ran out, the pass has read that
-pub record IsSessionOf (wanted : Wanted) (before after : Past) (found left : Around)
-    (result : Result ⊤ SessionFault) : Type 0 where
+pub record IsSessionOf (wanted : Wanted) (before after : Past) (link : Use LinkTold)
+    (chance : Use ChanceTold) (result : Result ⊤ SessionFault) : Type 0 where
   pub pass : Pass Item
   pub inbox : InboxModel
   pub session : IsSession
-      (stand_at (first_known (items_of before)) empty_inbox found.link found.chance)
-      (stand_at (known_of pass) inbox left.link left.chance)
+      (stand_at (first_known (items_of before)) empty_inbox link.before chance.before)
+      (stand_at (known_of pass) inbox link.after chance.after)
       wanted.rounds wanted.until wanted.editors result
   pub worn : IfErr result (IsWornFor pass)
   pub seen : (known_of pass).seen ≡ items_of after

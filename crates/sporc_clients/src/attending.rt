@@ -1,19 +1,21 @@
 //! A member's session, whole.
 
-ghost use Rattle.std.specs.Prelude.{◌≡◌, ◌+◌, ◌≤◌, length, option_map, IfErr, IfOk, OnErr};
+ghost use Rattle.std.specs.Prelude.{◌≡◌, ◌+◌, ◌≤◌, length, IfErr, IfOk, OnErr};
 ghost use Rattle.sporc_outside.specs.Nets.{AreShutBehind};
 ghost use Rattle.sporc_outside.specs.Uses.{use_of};
 ghost use Rattle.sporc_client.specs.ClientModel.{Rise, leaves_of};
 ghost use Rattle.sporc_entry.specs.Genesis.{IsGenesis};
 ghost use Rattle.sporc_script.specs.declared.limits.TheConstants.{MAX_EDITORS};
 ghost use Rattle.sporc_shared.specs.Items.{past_of};
-ghost use Rattle.sporc_clients.specs.Attending.{IsAttended, NotAttended};
+ghost use Rattle.sporc_clients.specs.Attending.{IsAttended, NotAttended, begin_at, saved_of};
+ghost use Rattle.sporc_clients.specs.Attending.{signs_of};
 ghost use Rattle.sporc_clients.specs.Counts.{RoseIfFailed, counts_around};
 ghost use Rattle.sporc_clients.specs.Nets.{AsksAtMost};
 ghost use Rattle.sporc_clients.specs.Opening.{links_for_hints};
 
+use crate::platform::Platform;
 use crate::resuming::{resume_client, resume_line};
-use crate::session::Ended;
+use crate::session::{Ended, Wanted};
 use crate::working::work;
 use lms_sign::Signer;
 use sporc_entry::Genesis;
@@ -21,8 +23,6 @@ use sporc_files::Fault;
 use sporc_keys::RingFile;
 use sporc_member::Device;
 use sporc_outside::{Chance, Dial, Gate, LeafDisk};
-use sporc_script::EditorScript;
-use std::alloc::Global;
 use std::sync::Wait;
 use std::thread::Threads;
 
@@ -33,6 +33,8 @@ pub struct Member {
     pub device: Device,
     /// The keys that the member has from the beginning: its devices share them.
     pub ring: RingFile,
+    /// The bytes of the history that the device saved, if it did.
+    pub saved: Option<Vec<u8>>,
 }
 
 /// Opens a member's line, loads the history that it saved, if it did, and has its client work with
@@ -45,43 +47,27 @@ pub(crate) fn attend<
     C: Chance + Send,
     G: Gate + Sync,
 >(
-    rt: &R,
-    alloc: Global,
+    platform: &Platform<'_, R, G>,
     member: Member,
-    saved: Option<Vec<u8>>,
     signer: Signer<D>,
     net: &mut N,
     address: &str,
     chance: &mut C,
-    editors: &[EditorScript],
-    rounds: u32,
-    until: u32,
-    gate: &G,
+    wanted: &Wanted,
 ) -> Result<Ended<D>, (Fault, Signer<D>)>
 where
     N::Link: Send,
     requires genesis { IsGenesis member.genesis }
-    requires limit { length editors.now ≤ MAX_EDITORS }
-    ensures attended { IfOk result (λ ended. IsAttended (record {
-      genesis = member.genesis;
-      device = member.device;
-      ring = member.ring;
-      address = address.now;
-    }) (option_map (λ bytes. bytes.items) saved) (N.told net.old) (N.told net.new)
-        (record { rounds = rounds; until = until; editors = editors.now })
-        (record { key = signer.key; first_leaf = signer.leaves.next }) (past_of ended.client)
-        (C.told chance.old) (C.told chance.new) ended.result) }
+    requires limit { length wanted.now.editors ≤ MAX_EDITORS }
+    ensures attended { IfOk result (λ ended. IsAttended (begin_at member address.now)
+        (saved_of member) (use_of N.told net.old net.new) wanted.now (signs_of signer)
+        (past_of ended.client) (use_of C.told chance.old chance.new) ended.result) }
     ensures leaves { IfOk result (λ ended. Rise
         (past_of ended.client).first_leaf ended.client.leaves.next (leaves_of ended.client.log)) }
     ensures causes { IfOk result (λ ended. RoseIfFailed (counts_around (N.told net.old).link_faults
         (N.told net.new).link_faults (use_of C.told chance.old chance.new)) ended.result) }
-    ensures err { IfErr result (λ e. NotAttended (record {
-      genesis = member.genesis;
-      device = member.device;
-      ring = member.ring;
-      address = address.now;
-    }) (option_map (λ bytes. bytes.items) saved) (N.told net.old) (N.told net.new)
-        (N.told net.old).faults (N.told net.new).faults e.0) }
+    ensures err { IfErr result (λ e. NotAttended (begin_at member address.now) (saved_of member)
+        (use_of N.told net.old net.new) e.0) }
     ensures returned { IfErr result (λ e. e.1 ≡ signer) }
     ensures chance { OnErr result (chance.new ≡ chance.old) }
     ensures chance_kept { (C.told chance.old).faults ≤ (C.told chance.new).faults }
@@ -92,17 +78,15 @@ where
     ensures net_kept { (N.told net.old).faults ≤ (N.told net.new).faults }
     ensures links_kept { (N.told net.old).link_faults ≤ (N.told net.new).link_faults }
 {
-    let line = match resume_line(rt, alloc, net, address, member, saved, gate) {
+    let line = match resume_line(platform, net, address, member) {
         Ok(line) => line,
         Err(fault) => return Err((fault, signer)),
     };
-    let client = match resume_client(alloc, line, signer) {
+    let client = match resume_client(platform.alloc, line, signer) {
         Ok(client) => client,
         Err((fault, signer)) => return Err((fault, signer)),
     };
-    match work(
-        rt, alloc, client, net, address, chance, editors, rounds, until, gate,
-    ) {
+    match work(platform, client, net, address, chance, wanted) {
         Ok(ended) => Ok(ended),
         Err((fault, client)) => Err((fault, client.close())),
     }

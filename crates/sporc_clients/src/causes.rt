@@ -7,7 +7,7 @@ ghost use Rattle.sporc_clients.specs.Causes.{ended, fault_of_disk, fault_of_sess
 
 use lms_leaf::LeafFault;
 use sporc_files::{Fault, first_fault};
-use sporc_shared::SessionFault;
+use sporc_session::SessionFault;
 
 // A disk that failed has counted it, so its count is not 0.
 fn disk_fault(disk_faults: u64) -> Fault

@@ -15,12 +15,15 @@ ghost use Rattle.sporc_files.specs.Uses.{AsksOnly};
 ghost use Rattle.sporc_clients.specs.Nets.{AsksAtMost};
 ghost use Rattle.sporc_clients.specs.Opening.{links_for_hints};
 ghost use Rattle.sporc_clients.specs.Outcome.{ClientOutcome, DiskOutcome, client_files, names_of};
+ghost use Rattle.sporc_clients.specs.Outcome.{uses};
 
 use crate::attending::{Member, attend};
 use crate::causes::end;
 use crate::concluding::{Concluded, conclude};
 use crate::leaf_file::{lend_disk, open_signer};
 use crate::member_files::{MemberFiles, read_member};
+use crate::platform::Platform;
+use crate::session::Wanted;
 use lms_sign::Signer;
 use sporc_files::{Fault, File, Names, read_if_there};
 use sporc_member::Device;
@@ -29,6 +32,12 @@ use sporc_words::Client as Words;
 use std::alloc::Global;
 use std::sync::Wait;
 use std::thread::Threads;
+
+// What the files of a device say, and the disk of its leaf file.
+struct OwnFiles<D> {
+    says: MemberFiles,
+    disk: D,
+}
 
 /// Has a member's device work with the server at an address, beside its editors, then saves its
 /// history, and prints its journal and report.
@@ -40,27 +49,20 @@ pub fn client<
     C: Chance + Send,
     G: Gate + Sync,
 >(
-    rt: &R,
-    alloc: Global,
+    platform: &Platform<'_, R, G>,
     words: &Words,
     out: &mut O,
     files: &mut F,
     net: &mut N,
     chance: &mut C,
-    gate: &G,
 ) -> Result<(), Fault>
 where
     F::Disk: Send,
     N::Link: Send,
     requires limit { length words.now.scripts ≤ MAX_EDITORS }
-    ensures outcome { ClientOutcome F.Disk.told words.now
-        (record {
-          out = use_of O.told out.old out.new;
-          folder = use_of F.told files.old files.new;
-          net = use_of N.told net.old net.new;
-          chance = use_of C.told chance.old chance.new;
-        })
-        result }
+    ensures outcome { ClientOutcome F.Disk.told words.now (uses (use_of O.told out.old out.new)
+        (use_of F.told files.old files.new) (use_of N.told net.old net.new)
+        (use_of C.told chance.old chance.new)) result }
     ensures files_may_ask { AsksOnly (map (file_name (names_of words.now))
         (client_files words.now.device (length words.now.scripts)))
         (F.told files.old).asked (F.told files.new).asked }
@@ -75,13 +77,13 @@ where
     ensures links_kept { (N.told net.old).link_faults ≤ (N.told net.new).link_faults }
     ensures chance_kept { (C.told chance.old).faults ≤ (C.told chance.new).faults }
 {
+    let alloc = platform.alloc;
     let names = names_of(words);
     let editors = words.scripts.as_slice().len() as u32;
-    let member = read_member(rt, alloc, files, &names, words.device, editors)?;
+    let member = read_member(platform.rt, alloc, files, &names, words.device, editors)?;
     let disk = lend_disk(alloc, files, &names, words.device)?;
-    let (result, disk) = with_disk(
-        rt, alloc, words, member, disk, out, files, net, chance, gate,
-    );
+    let own = OwnFiles { says: member, disk };
+    let (result, disk) = with_disk(platform, words, own, out, files, net, chance);
     // No call: that the count of the folder can be told here is what `files_kept` rests on.
     let _faults = files.faults();
     files.take_back(disk);
@@ -98,36 +100,28 @@ fn with_disk<
     C: Chance + Send,
     G: Gate + Sync,
 >(
-    rt: &R,
-    alloc: Global,
+    platform: &Platform<'_, R, G>,
     words: &Words,
-    member: MemberFiles,
-    disk: D,
+    own: OwnFiles<D>,
     out: &mut O,
     files: &mut F,
     net: &mut N,
     chance: &mut C,
-    gate: &G,
 ) -> (Result<(), Fault>, D)
 where
     N::Link: Send,
-    requires limit { length member.editors ≤ MAX_EDITORS }
-    requires genesis { IsGenesis member.genesis }
-    requires height { IsLeafHeight (height_of member.tree.lms) }
-    ensures outcome { DiskOutcome D.told words.now member
-        (record {
-          out = use_of O.told out.old out.new;
-          folder = use_of F.told files.old files.new;
-          net = use_of N.told net.old net.new;
-          chance = use_of C.told chance.old chance.new;
-        })
-        disk result.1 result.0 }
+    requires limit { length own.says.editors ≤ MAX_EDITORS }
+    requires genesis { IsGenesis own.says.genesis }
+    requires height { IsLeafHeight (height_of own.says.tree.lms) }
+    ensures outcome { DiskOutcome D.told words.now own.says (uses (use_of O.told out.old out.new)
+        (use_of F.told files.old files.new) (use_of N.told net.old net.new)
+        (use_of C.told chance.old chance.new)) own.disk result.1 result.0 }
     ensures files_may_ask { AsksOnly
         (file_name (names_of words.now) (File.History words.now.device) ∷ [])
         (F.told files.old).asked (F.told files.new).asked }
     ensures lent { (F.told files.new).lent ≡ (F.told files.old).lent }
     ensures files_kept { (F.told files.old).faults ≤ (F.told files.new).faults }
-    ensures net_may_ask { AsksAtMost (links_for_hints member.ring + 1) (N.told net.old).asked
+    ensures net_may_ask { AsksAtMost (links_for_hints own.says.ring + 1) (N.told net.old).asked
         (N.told net.new).asked words.now.address }
     ensures out_kept { (O.told out.old).faults ≤ (O.told out.new).faults }
     ensures shut { AreShutBehind (N.told net.old).returned (N.told net.new).returned }
@@ -136,12 +130,14 @@ where
     ensures links_kept { (N.told net.old).link_faults ≤ (N.told net.new).link_faults }
     ensures chance_kept { (C.told chance.old).faults ≤ (C.told chance.new).faults }
 {
+    let OwnFiles { says, disk } = own;
     let MemberFiles {
         genesis,
         tree,
         ring,
         editors,
-    } = member;
+    } = says;
+    let alloc = platform.alloc;
     let device = words.device;
     let signer = match open_signer(alloc, disk, tree, device) {
         Ok(signer) => signer,
@@ -155,21 +151,15 @@ where
         genesis,
         device,
         ring,
-    };
-    match attend(
-        rt,
-        alloc,
-        member,
         saved,
-        signer,
-        net,
-        words.address.as_str(),
-        chance,
-        editors.as_slice(),
-        words.rounds,
-        words.until,
-        gate,
-    ) {
+    };
+    let wanted = Wanted {
+        rounds: words.rounds,
+        until: words.until,
+        editors,
+    };
+    let address = words.address.as_str();
+    match attend(platform, member, signer, net, address, chance, &wanted) {
         Ok(ended) => {
             let Concluded {
                 session,

@@ -14,7 +14,7 @@ use crate::session::Ended;
 use sporc_client::Client;
 use sporc_files::Fault;
 use sporc_outside::{Folder, LeafDisk, Sink, write_all};
-use sporc_shared::SessionFault;
+use sporc_session::SessionFault;
 use sporc_store::save;
 use std::alloc::Global;
 

@@ -3,12 +3,14 @@
 ghost use Rattle.std.specs.Prelude.{◌≡◌, ◌≤◌, Ok, IfErr, IfOk};
 ghost use Rattle.sporc_outside.specs.Told.{MayAppend};
 ghost use Rattle.sporc_outside.specs.Nets.{AreShutBehind};
+ghost use Rattle.sporc_outside.specs.Uses.{use_of};
 ghost use Rattle.sporc_clients.specs.Fetching.{IsFetchAt, NotFetched};
 
 use crate::causes::fetch_fault;
 use sporc_files::Fault;
 use sporc_outside::{Dial, Link};
-use sporc_shared::{Entries, fetch};
+use sporc_session::fetch;
+use sporc_wire::Entries;
 use std::alloc::Global;
 use std::sync::Wait;
 
@@ -23,12 +25,9 @@ pub(crate) fn fetch_entries<R: Wait, N: Dial>(
     member: u16,
 ) -> Result<Entries, Fault>
     ensures ok { IfOk result (λ entries. IsFetchAt address.now document.now member
-        (N.told net.old)
-        (N.told net.new) (Ok entries)) }
+        (use_of N.told net.old net.new) (Ok entries)) }
     ensures err { IfErr result (NotFetched address.now document.now member
-        (N.told net.old)
-        (N.told net.new)
-        (N.told net.old).faults (N.told net.new).faults) }
+        (use_of N.told net.old net.new)) }
     ensures shut { AreShutBehind (N.told net.old).returned (N.told net.new).returned }
     ensures links_out { (N.told net.new).out ≡ (N.told net.old).out }
     ensures may_ask { MayAppend (N.told net.old).asked (N.told net.new).asked address.now }

@@ -1,12 +1,8 @@
 //! What holds of a leaf file over runs. Its functions do nothing.
 
-ghost use Rattle.std.specs.Prelude.{IsSome, Result, ⊤};
+ghost use Rattle.std.specs.Prelude.{IsSome};
 ghost use Rattle.lms_leaf.specs.Lives.{IsLife};
-ghost use Rattle.sporc_files.specs.declared.fault.Fault.{Fault};
-ghost use Rattle.sporc_words.specs.declared.client.Client.{Client as Words};
-ghost use Rattle.sporc_clients.specs.declared.member_files.MemberFiles.{MemberFiles};
-ghost use Rattle.sporc_clients.specs.Lives.{SignOnce, signed_in};
-ghost use Rattle.sporc_clients.specs.Outcome.{ClientUse, DiskOutcome};
+ghost use Rattle.sporc_clients.specs.Lives.{ClientRun, SignOnce, life_of};
 
 use sporc_outside::LeafDisk;
 
@@ -16,15 +12,8 @@ use sporc_outside::LeafDisk;
 /// The disk is one that tells its bytes, and behaves as [`LeafDisk`] says. Of a disk that tells
 /// none, as a real file, this says nothing.
 pub fn runs_are_lives<D: LeafDisk>()
-    ensures life { (words : Words) (m : MemberFiles) (did : ClientUse) (first last : D)
-        (answer : Result ⊤ Fault)
-        (outcome : DiskOutcome D.told words m did first last answer)
-        → IsSome (D.told first).stored
-        → IsLife D.told (record {
-          lent = first;
-          last = last;
-          given = signed_in D.told words m did outcome;
-        }) }
+    ensures life { (run : ClientRun D.told) → IsSome (D.told run.first).stored
+        → IsLife D.told (life_of D.told run) }
 {}
 
 /// So over runs of `client` one behind another, whatever came of each, the leaves that sign rise,

@@ -14,7 +14,7 @@
 //! the member's ring and the scripts are what their files say; a joiner's keys are the hints of
 //! exactly the entries that were fetched; the device's client goes on with all entries of its saved
 //! history, each an accept by 0, over the leaves behind the last block that is taken in its leaf
-//! file; its session is one of `sporc_shared` on that client's log (`IsSession`), over a link of
+//! file; its session is one of `sporc_session` on that client's log (`IsSession`), over a link of
 //! its own; the file has exactly the entries of the client behind it, and what is printed is its
 //! journal and its report to the byte, or a prefix of them, however the session ended, and the
 //! session's fault comes first, unless memory ran out at one of these; a session that the link or
@@ -41,9 +41,11 @@ pub mod laws;
 mod leaf_file;
 mod member_files;
 mod opening;
+mod platform;
 mod reporting;
 mod resuming;
 mod session;
 mod working;
 
 pub use crate::command::client;
+pub use crate::platform::Platform;

@@ -3,8 +3,9 @@
 ghost use Rattle.std.specs.Prelude.{◌≡◌, ◌≤◌, [], IfErr, IfOk};
 ghost use Rattle.sporc_entry.specs.Genesis.{IsGenesis};
 ghost use Rattle.sporc_outside.specs.Nets.{AreShutBehind};
+ghost use Rattle.sporc_outside.specs.Uses.{use_of};
 ghost use Rattle.sporc_clients.specs.Nets.{AsksAtMost};
-ghost use Rattle.sporc_clients.specs.Opening.{NotOpened, Opens, links_for_hints};
+ghost use Rattle.sporc_clients.specs.Opening.{NotOpened, Opens, begin_with, links_for_hints};
 
 use crate::fetching::fetch_entries;
 use sporc_entry::Genesis;
@@ -28,17 +29,12 @@ pub(crate) fn open_member<R: Wait, N: Dial>(
     ring: &RingFile,
 ) -> Result<Line, Fault>
     requires genesis { IsGenesis genesis }
-    ensures ok { IfOk result (λ line. Opens
-        (record { genesis = genesis; device = device; ring = ring.now; address = address.now })
-        (N.told net.old)
-        (N.told net.new) line.kit) }
+    ensures ok { IfOk result (λ line. Opens (begin_with genesis device ring.now address.now)
+        (use_of N.told net.old net.new) line.kit) }
     ensures genesis { IfOk result (λ line. line.genesis ≡ genesis) }
     ensures empty { IfOk result (λ line. line.entries ≡ []) }
-    ensures err { IfErr result (NotOpened
-        (record { genesis = genesis; device = device; ring = ring.now; address = address.now })
-        (N.told net.old)
-        (N.told net.new)
-        (N.told net.old).faults (N.told net.new).faults) }
+    ensures err { IfErr result (NotOpened (begin_with genesis device ring.now address.now)
+        (use_of N.told net.old net.new)) }
     ensures shut { AreShutBehind (N.told net.old).returned (N.told net.new).returned }
     ensures links_out { (N.told net.new).out ≡ (N.told net.old).out }
     ensures may_ask { AsksAtMost (links_for_hints ring.now) (N.told net.old).asked

@@ -1,18 +1,20 @@
 //! A member's line with the history that it saved.
 
-ghost use Rattle.std.specs.Prelude.{◌≡◌, ◌≤◌, [], None, option_map, IfErr, IfOk};
+ghost use Rattle.std.specs.Prelude.{◌≡◌, ◌≤◌, [], option_map, IfErr, IfOk};
 ghost use Rattle.sporc_base.specs.Outcome.{Gives};
-ghost use Rattle.sporc_client.specs.Step.{log_of_entries};
 ghost use Rattle.sporc_entry.specs.Genesis.{IsGenesis};
 ghost use Rattle.sporc_outside.specs.Nets.{AreShutBehind};
+ghost use Rattle.sporc_outside.specs.Uses.{use_of};
 ghost use Rattle.sporc_files.specs.Faults.{AnswersUnlessOutside};
-ghost use Rattle.sporc_clients.specs.Attending.{IsResumed, NotResumed};
+ghost use Rattle.sporc_clients.specs.Attending.{IsResumed, NotResumed, begin_at, client_with};
+ghost use Rattle.sporc_clients.specs.Attending.{saved_of};
 ghost use Rattle.sporc_clients.specs.Nets.{AsksAtMost};
 ghost use Rattle.sporc_clients.specs.Opening.{links_for_hints};
 ghost use Rattle.sporc_clients.specs.Resuming.{entries_by, read_whole, whole_before};
 
 use crate::attending::Member;
 use crate::opening::open_member;
+use crate::platform::Platform;
 use lms_sign::Signer;
 use sporc_client::Client;
 use sporc_files::{Fault, File, stopped};
@@ -28,28 +30,16 @@ use std::thread::Threads;
 /// The line of a member's device with the entries of its saved history, if there is one. That of a
 /// joiner is read to its end before the entries of a server are fetched for hints.
 pub(crate) fn resume_line<R: Threads + Wait + Sync, N: Dial, G: Gate + Sync>(
-    rt: &R,
-    alloc: Global,
+    platform: &Platform<'_, R, G>,
     net: &mut N,
     address: &str,
     member: Member,
-    saved: Option<Vec<u8>>,
-    gate: &G,
 ) -> Result<Line, Fault>
     requires genesis { IsGenesis member.genesis }
-    ensures ok { IfOk result (IsResumed (record {
-      genesis = member.genesis;
-      device = member.device;
-      ring = member.ring;
-      address = address.now;
-    }) (option_map (λ bytes. bytes.items) saved) (N.told net.old) (N.told net.new)) }
-    ensures err { IfErr result (NotResumed (record {
-      genesis = member.genesis;
-      device = member.device;
-      ring = member.ring;
-      address = address.now;
-    }) (option_map (λ bytes. bytes.items) saved) (N.told net.old) (N.told net.new)
-        (N.told net.old).faults (N.told net.new).faults) }
+    ensures ok { IfOk result (IsResumed (begin_at member address.now) (saved_of member)
+        (use_of N.told net.old net.new)) }
+    ensures err { IfErr result (NotResumed (begin_at member address.now) (saved_of member)
+        (use_of N.told net.old net.new)) }
     ensures shut { AreShutBehind (N.told net.old).returned (N.told net.new).returned }
     ensures links_out { (N.told net.new).out ≡ (N.told net.old).out }
     ensures may_ask { AsksAtMost (links_for_hints member.ring) (N.told net.old).asked
@@ -61,10 +51,12 @@ pub(crate) fn resume_line<R: Threads + Wait + Sync, N: Dial, G: Gate + Sync>(
         genesis,
         device,
         ring,
+        saved,
     } = member;
     check_before(device, &ring, &genesis.document, &saved)?;
-    let line = open_member(rt, alloc, net, address, genesis, device, &ring)?;
-    load(rt, alloc, device, line, saved, gate)
+    let alloc = platform.alloc;
+    let line = open_member(platform.rt, alloc, net, address, genesis, device, &ring)?;
+    load(platform, device, line, saved)
 }
 
 // Whether the saved history of a joiner, who has no key of epoch 0, is whole.
@@ -99,12 +91,10 @@ fn read_whole(device: Device, document: &[u8; 16], saved: &Option<Vec<u8>>) -> R
 
 // The line with the entries of a saved history, if there is one.
 fn load<R: Threads + Wait + Sync, G: Gate + Sync>(
-    rt: &R,
-    alloc: Global,
+    platform: &Platform<'_, R, G>,
     device: Device,
     line: Line,
     saved: Option<Vec<u8>>,
-    gate: &G,
 ) -> Result<Line, Fault>
     requires empty { line.entries ≡ [] }
     ensures entries { AnswersUnlessOutside (λ full. full.entries) ⊥ result
@@ -115,7 +105,14 @@ fn load<R: Threads + Wait + Sync, G: Gate + Sync>(
     let Some(bytes) = saved else {
         return Ok(line);
     };
-    match load_many(rt, alloc, bytes.as_slice(), line, LOADERS, gate) {
+    match load_many(
+        platform.rt,
+        platform.alloc,
+        bytes.as_slice(),
+        line,
+        LOADERS,
+        platform.gate,
+    ) {
         Ok((line, stop)) => {
             stopped(File::History(device), stop)?;
             Ok(line)
@@ -130,12 +127,7 @@ pub(crate) fn resume_client<D: LeafDisk>(
     line: Line,
     signer: Signer<D>,
 ) -> Result<Client<D>, (Fault, Signer<D>)>
-    ensures resumed { IfOk result (λ client. client ≡ record {
-      opening = record { genesis = line.genesis; kit = line.kit; key = signer.key };
-      log = log_of_entries line.entries;
-      leaves = signer.leaves;
-      ticket = None;
-    }) }
+    ensures resumed { IfOk result (λ client. client ≡ client_with line signer) }
     ensures memory { IfErr result (λ e. e.0 ≡ Fault.Memory) }
     ensures returned { IfErr result (λ e. e.1 ≡ signer) }
 {

@@ -6,16 +6,28 @@ ghost use Rattle.sporc_client.specs.ClientModel.{Rise, leaves_of};
 ghost use Rattle.sporc_script.specs.declared.limits.TheConstants.{MAX_EDITORS};
 ghost use Rattle.sporc_shared.specs.Items.{past_of};
 ghost use Rattle.sporc_clients.specs.Counts.{RoseIfFailed, counts_around};
-ghost use Rattle.sporc_clients.specs.Sessions.{IsSessionOf, link_told};
+ghost use Rattle.sporc_clients.specs.Sessions.{IsSessionOf, link_use};
 
-use sporc_base::Memory;
+use crate::platform::Platform;
+use sporc_base::{Items, Memory};
 use sporc_client::Client;
 use sporc_outside::{Chance, Gate, LeafDisk, Link};
 use sporc_script::EditorScript;
-use sporc_shared::{SessionFault, SharedClient, session};
-use std::alloc::Global;
+use sporc_session::{SessionFault, session};
+use sporc_shared::SharedClient;
 use std::sync::Wait;
 use std::thread::Threads;
+
+/// What is asked of a session.
+#[derive(Drop)]
+pub struct Wanted {
+    /// How many rounds it has beside the editors, and at most after them.
+    pub rounds: u32,
+    /// How many entries the history is to have.
+    pub until: u32,
+    /// What the editors do.
+    pub editors: Items<EditorScript>,
+}
 
 /// A client after a session, and how the session ended.
 #[derive(Drop)]
@@ -33,29 +45,16 @@ pub(crate) fn run_session<
     C: Chance + Send,
     G: Gate + Sync,
 >(
-    rt: &R,
-    alloc: Global,
+    platform: &Platform<'_, R, G>,
     client: Client<D>,
     link: &mut L,
     chance: &mut C,
-    editors: &[EditorScript],
-    rounds: u32,
-    until: u32,
-    gate: &G,
+    wanted: &Wanted,
 ) -> Result<Ended<D>, (Client<D>, Memory)>
-    requires limit { length editors.now ≤ MAX_EDITORS }
-    ensures session { IfOk result
-        (λ ended. IsSessionOf (record { rounds = rounds; until = until; editors = editors.now })
-        (past_of client) (past_of ended.client)
-        (record {
-          link = link_told (L.told link.old);
-          chance = C.told chance.old;
-        })
-        (record {
-          link = link_told (L.told link.new);
-          chance = C.told chance.new;
-        })
-        ended.result) }
+    requires limit { length wanted.now.editors ≤ MAX_EDITORS }
+    ensures session { IfOk result (λ ended. IsSessionOf wanted.now (past_of client)
+        (past_of ended.client) (link_use (use_of L.told link.old link.new))
+        (use_of C.told chance.old chance.new) ended.result) }
     ensures leaves { IfOk result (λ ended. Rise
         (past_of ended.client).first_leaf ended.client.leaves.next (leaves_of ended.client.log)) }
     ensures causes { IfOk result (λ ended. RoseIfFailed (counts_around (L.told link.old).faults
@@ -66,10 +65,20 @@ pub(crate) fn run_session<
     ensures link { OnErr result (link.new ≡ link.old) }
     ensures chance { OnErr result (chance.new ≡ chance.old) }
 {
-    match SharedClient::open(alloc, client) {
+    match SharedClient::open(platform.alloc, client) {
         Ok((shared, first)) => {
+            let editors = wanted.editors.as_slice();
             let (result, first) = session(
-                rt, alloc, &shared, first, link, chance, editors, rounds, until, gate,
+                platform.rt,
+                platform.alloc,
+                &shared,
+                first,
+                link,
+                chance,
+                editors,
+                wanted.rounds,
+                wanted.until,
+                platform.gate,
             );
             match shared.close(first) {
                 Ok(client) => Ok(Ended { client, result }),

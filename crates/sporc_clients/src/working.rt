@@ -10,12 +10,11 @@ ghost use Rattle.sporc_shared.specs.Items.{past_of};
 ghost use Rattle.sporc_clients.specs.Counts.{RoseIfFailed, counts_around};
 ghost use Rattle.sporc_clients.specs.Nets.{IsWork, NotBegun};
 
-use crate::session::{Ended, run_session};
+use crate::platform::Platform;
+use crate::session::{Ended, Wanted, run_session};
 use sporc_client::Client;
 use sporc_files::Fault;
 use sporc_outside::{Chance, Dial, Gate, LeafDisk, Link};
-use sporc_script::EditorScript;
-use std::alloc::Global;
 use std::sync::Wait;
 use std::thread::Threads;
 
@@ -28,34 +27,25 @@ pub(crate) fn work<
     C: Chance + Send,
     G: Gate + Sync,
 >(
-    rt: &R,
-    alloc: Global,
+    platform: &Platform<'_, R, G>,
     client: Client<D>,
     net: &mut N,
     address: &str,
     chance: &mut C,
-    editors: &[EditorScript],
-    rounds: u32,
-    until: u32,
-    gate: &G,
+    wanted: &Wanted,
 ) -> Result<Ended<D>, (Fault, Client<D>)>
 where
     N::Link: Send,
-    requires limit { length editors.now ≤ MAX_EDITORS }
-    ensures work { IfOk result (λ ended. IsWork
-        (record { rounds = rounds; until = until; editors = editors.now }) address.now
-        (past_of client) (past_of ended.client)
-        (N.told net.old)
-        (N.told net.new)
-        (C.told chance.old)
-        (C.told chance.new)
-        ended.result) }
+    requires limit { length wanted.now.editors ≤ MAX_EDITORS }
+    ensures work { IfOk result (λ ended. IsWork wanted.now address.now (past_of client)
+        (past_of ended.client) (use_of N.told net.old net.new)
+        (use_of C.told chance.old chance.new) ended.result) }
     ensures leaves { IfOk result (λ ended. Rise
         (past_of ended.client).first_leaf ended.client.leaves.next (leaves_of ended.client.log)) }
     ensures causes { IfOk result (λ ended. RoseIfFailed (counts_around (N.told net.old).link_faults
         (N.told net.new).link_faults (use_of C.told chance.old chance.new)) ended.result) }
-    ensures err { IfErr result (λ e. NotBegun address.now (N.told net.old) (N.told net.new)
-        (N.told net.old).faults (N.told net.new).faults e.0) }
+    ensures err { IfErr result (λ e. NotBegun address.now (use_of N.told net.old net.new)
+        (N.told net.old).faults e.0) }
     ensures returned { IfErr result (λ e. e.1 ≡ client) }
     ensures chance { OnErr result (chance.new ≡ chance.old) }
     ensures chance_kept { (C.told chance.old).faults ≤ (C.told chance.new).faults }
@@ -67,12 +57,10 @@ where
 {
     // No call for its answer: that the links' count can be told here is what `links_kept` rests on.
     let _faults = net.link_faults();
-    let Ok(mut link) = net.connect(rt, address) else {
+    let Ok(mut link) = net.connect(platform.rt, address) else {
         return Err((Fault::Outside, client));
     };
-    let ended = run_session(
-        rt, alloc, client, &mut link, chance, editors, rounds, until, gate,
-    );
+    let ended = run_session(platform, client, &mut link, chance, wanted);
     link.shut();
     net.take_back(link);
     match ended {

@@ -1,21 +1,12 @@
 -- The names that a founding asks for.
 use Rattle.std.proofs.Common.{◌≡◌, ℕ, zero, suc, ◌<◌, List, [], ◌∷◌, ◌++◌, length, map, get_or, Option, sym, subst, arith}
-use Rattle.std.proofs.lemmas.List.{map-append}
+use Rattle.sporc_commands.proofs.Common.{map-append, AllByRecursion, Contains, NamedFile, Named, RingFile, IsFounding, in_order, numbers_of, ring_of, shared_keys, Participant, FileNames, file_name}
+use Rattle.sporc_commands.proofs.Common.{AsksOnly, AsksOnly-among, AsksOnly-trans, asks_first, AreNamed, found_files, founding_files, key_read, keys_read, names_in, ring_of_founding, rings_written}
 use Rattle.std.proofs.lemmas.List.Elements.{All-contains, All-contains_itself, All-from_recursion, All-weaker, Contains-append_left, Contains-append_right, recursion_from_All}
-use Rattle.std.specs.List.{AllByRecursion, Contains}
-use Rattle.sporc_outside.specs.declared.named_file.NamedFile.{NamedFile}
 use Rattle.sporc_keys.specs.declared.founding.Founding.{Founding}
-use Rattle.sporc_keys.specs.declared.named.Named.{Named}
 use Rattle.sporc_keys.specs.declared.pair.SharedKey.{SharedKey}
-use Rattle.sporc_keys.specs.declared.ring_file.RingFile.{RingFile}
-use Rattle.sporc_keys.specs.Founding.{IsFounding, in_order, numbers_of, ring_of, shared_keys}
 use Rattle.sporc_keys.proofs.Naming.{ordered_all}
-use Rattle.sporc_words.specs.declared.standing.Participant.{Participant}
 use Rattle.sporc_files.specs.declared.file.File.TheVariants as files
-use Rattle.sporc_files.specs.Names.{FileNames, file_name}
-use Rattle.sporc_files.specs.Uses.{AsksOnly}
-use Rattle.sporc_files.proofs.Asking.{AsksOnly-among, AsksOnly-trans, asks_first}
-use Rattle.sporc_commands.specs.Founding.{AreNamed, found_files, founding_files, key_read, keys_read, names_in, ring_of_founding, rings_written}
 use Rattle.sporc_commands.proofs.MayFound.{members_of, same_numbers}
 
 -- ---- one of many

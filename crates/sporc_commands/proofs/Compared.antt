@@ -1,23 +1,13 @@
 -- What a comparison found in files, step by step.
 use Rattle.std.proofs.Common.{◌≡◌, ℕ, ◌≤◌, List, [], ◌∷◌, Option, Result, Ok, Err, refl, sym, ap, ◌∙◌, subst, arith}
-use Rattle.std.specs.Global.{Vec}
-use Rattle.sporc_bytes.specs.Fields.{◌>>=◌}
+use Rattle.sporc_commands.proofs.Common.{Vec, ◌>>=◌, Rose, Use, NamedFile, Device, chain, genesis_value, next_value, Genesis, genesis_bytes, Fault, File, FileNames, file_name, IsFileFault, SaysFile}
+use Rattle.sporc_commands.proofs.Common.{genesis_file, AnswersUnlessOutside, AnswersOfFile, entries_in, genesis_in, AreOfOneGenesis, Chains, FindsChains, IsVerdictLine, both_chains, chain_in}
+use Rattle.sporc_commands.proofs.Common.{chains_in, values_of, CompareOutcome, fails_first, tells_behind, tells_later}
 use Rattle.sporc_bytes.proofs.Fields.{bind_ok}
-use Rattle.sporc_outside.specs.Counts.{Rose}
-use Rattle.sporc_outside.specs.declared.named_file.NamedFile.{NamedFile}
-use Rattle.sporc_member.specs.declared.device.Device.{Device}
-use Rattle.sporc_hash.specs.Chain.{chain, chain_after, genesis_value, next_value}
-use Rattle.sporc_entry.specs.declared.genesis.Genesis.{Genesis}
-use Rattle.sporc_entry.specs.Genesis.{genesis_bytes}
-use Rattle.sporc_files.specs.declared.fault.Fault.{Fault}
-use Rattle.sporc_files.specs.declared.file.File.{File}
+use Rattle.sporc_outside.specs.Folders.{FolderTold}
+use Rattle.sporc_outside.specs.Streams.{StreamTold}
+use Rattle.sporc_hash.specs.Chain.{chain_after}
 use Rattle.sporc_files.specs.declared.file.File.TheVariants as files
-use Rattle.sporc_files.specs.Names.{FileNames, file_name}
-use Rattle.sporc_files.specs.Reading.{IsFileFault, SaysFile, genesis_file}
-use Rattle.sporc_files.specs.Faults.{AnswersUnlessOutside}
-use Rattle.sporc_commands.specs.Contents.{AnswersOfFile, entries_in, genesis_in}
-use Rattle.sporc_commands.specs.Comparing.{AreOfOneGenesis, Chains, FindsChains, IsVerdictLine, both_chains, chain_in, chains_in, values_of}
-use Rattle.sporc_files.proofs.Answering.{fails_first, tells_behind, tells_later}
 use Rattle.sporc_commands.proofs.ReadFiles.{is_there, reads_none, says, there}
 
 -- both chains, and the second behind the first
@@ -126,3 +116,8 @@ of_one_genesis told told' name name' c c' d d' g file file' one other first seco
 pub verdict_says : (m n : Device) (a b a' b' : List (List ℕ)) (line line' : List ℕ) → a ≡ a' → b ≡ b' → line' ≡ line → IsVerdictLine m n (record { first = a; second = b }) line
     → IsVerdictLine m n (record { first = a'; second = b' }) line'
 verdict_says m n a b a' b' line line' a_is b_is line_is says = rw (← a_is, ← b_is, line_is) says
+
+-- what was done by the names that a command's words give
+pub compares : {T : Type 0} (m n : Device) (given names : FileNames) → given ≡ names → (folder : Use FolderTold) (out : Use StreamTold) (answer : Result T Fault)
+    → CompareOutcome given m n folder out answer → CompareOutcome names m n folder out answer
+compares m n given names same folder out answer = subst (λ (by : FileNames). CompareOutcome by m n folder out answer) same

@@ -1,26 +1,11 @@
 -- What an examination found in files, step by step.
 use Rattle.std.proofs.Common.{◌≡◌, ℕ, ◌≤◌, List, Option, Result, Ok, Err, subst}
-use Rattle.sporc_bytes.specs.Fields.{◌>>=◌}
-use Rattle.sporc_outside.specs.Counts.{Rose}
-use Rattle.sporc_outside.specs.declared.named_file.NamedFile.{NamedFile}
+use Rattle.sporc_commands.proofs.Common.{◌>>=◌, Rose, NamedFile, Genesis, Device, Kit, LineModel, Taken, ring_file_of_member, RingFile, Fault, File, FileNames, file_name, IsFileFault, SaysFile}
+use Rattle.sporc_commands.proofs.Common.{any_bytes, genesis_file, own_key_file, AnswersUnlessOutside, IsFileAt, bytes_in, said, CheckedLine, FindsLine, checked_line, examined, kit_in, line_of_whole}
+use Rattle.sporc_commands.proofs.Common.{tells_behind, tells_later}
 use Rattle.lms_tree.specs.LmsPrivate.{LmsPrivate}
-use Rattle.sporc_entry.specs.declared.genesis.Genesis.{Genesis}
-use Rattle.sporc_member.specs.declared.device.Device.{Device}
-use Rattle.sporc_line.specs.Kit.{Kit}
-use Rattle.sporc_line.specs.LineModel.{LineModel}
 use Rattle.sporc_store.specs.Loading.{a_member, loaded}
-use Rattle.sporc_store.specs.SavedFile.{Taken}
-use Rattle.sporc_keys.specs.RingFile.{ring_file_of_member}
-use Rattle.sporc_keys.specs.declared.ring_file.RingFile.{RingFile}
-use Rattle.sporc_files.specs.declared.fault.Fault.{Fault}
-use Rattle.sporc_files.specs.declared.file.File.{File}
 use Rattle.sporc_files.specs.declared.file.File.TheVariants as files
-use Rattle.sporc_files.specs.Names.{FileNames, file_name}
-use Rattle.sporc_files.specs.Reading.{IsFileFault, SaysFile, any_bytes, genesis_file, own_key_file}
-use Rattle.sporc_files.specs.Faults.{AnswersUnlessOutside}
-use Rattle.sporc_commands.specs.Contents.{IsFileAt, bytes_in, said}
-use Rattle.sporc_commands.specs.Checking.{CheckedLine, FindsLine, checked_line, examined, kit_in, line_of_whole}
-use Rattle.sporc_files.proofs.Answering.{tells_behind, tells_later}
 use Rattle.sporc_commands.proofs.ReadFiles.{is_there, reads_none, reads_value, says, there}
 
 -- a history was loaded behind the opening of its line

@@ -1,28 +1,18 @@
 -- Worked examples of the definitions: the lines of `check`, `compare` and `serve`, as docs/MANUAL.md has them, and which fault comes first.
 use Rattle.std.proofs.Common.{◌≡◌, ◌≢◌, List, ℕ, [], ◌∷◌, None, Some, Ok, Err, codes, refl, ap, append-nil, arith}
+use Rattle.sporc_commands.proofs.Common.{Genesis, chain, last_value, next_value, read_to, Kit, first_device, Device, IsCheckedLine, checked_in, line_of_whole, text_at, text_in, Chains, IsVerdictLine}
+use Rattle.sporc_commands.proofs.Common.{chains_in, OrderModel, ended, logged, order_of_whole, order_with, with_tail, after_last, log_line}
 use Rattle.std.specs.Fmt.{digits}
-use Rattle.sporc_entry.specs.declared.genesis.Genesis.{Genesis}
-use Rattle.sporc_hash.specs.Chain.{chain, chain_after, last_value, next_value, value_after}
+use Rattle.sporc_hash.specs.Chain.{chain_after, value_after}
 use Rattle.sporc_hash.specs.declared.verdict.Verdict.TheVariants.{Same, Prefix, Longer, ForkedAfter}
 use Rattle.sporc_head.specs.declared.refusal.Refusal.TheVariants.{BadSignature}
 use Rattle.sporc_serve.specs.declared.fault.ServeFault.TheVariants as serving
-use Rattle.sporc_store.specs.SavedFile.{read_to}
 use Rattle.sporc_store.specs.declared.stop.Stop.TheVariants.{Cut, End, Foreign, Refused}
 use Rattle.sporc_files.specs.declared.fault.Fault.TheVariants as faults
 use Rattle.sporc_files.specs.declared.file.File.TheVariants as files
 use Rattle.sporc_line.specs.Document.{forms_from}
-use Rattle.sporc_line.specs.Kit.{Kit}
-use Rattle.sporc_member.specs.Device.{first_device}
-use Rattle.sporc_member.specs.declared.device.Device.{Device}
-use Rattle.sporc_commands.specs.Checking.{IsCheckedLine, checked_in, line_of_whole}
-use Rattle.sporc_commands.specs.Telling.{text_at, text_in}
-use Rattle.sporc_commands.specs.Comparing.{Chains, IsVerdictLine, chains_in}
-use Rattle.sporc_order.specs.OrderModel.{OrderModel}
 use Rattle.sporc_store.specs.Loading.{accepted_behind}
 use Rattle.sporc_store.specs.TailBytes.{tail_behind}
-use Rattle.sporc_commands.specs.Serving.{ended, logged, order_of_whole, order_with, with_tail}
-use Rattle.sporc_commands.specs.Tails.{after_last}
-use Rattle.sporc_commands.specs.Outcomes.{log_line}
 
 -- the second device of member 2
 abbrev phone : Device

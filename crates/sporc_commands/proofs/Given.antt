@@ -1,10 +1,8 @@
 -- A tail that is given back.
 use Rattle.std.proofs.Common.{◌≡◌, ◌≤◌, ℕ, List, length, Option, None, Some}
-use Rattle.std.specs.Prelude.{IfSome}
+use Rattle.sporc_commands.proofs.Common.{IfSome, GivesAll, KeepsBehind, LogTailModel, AppendTold, file_images}
 use Rattle.std.proofs.Math.Logic.{∥∥₁_map}
-use Rattle.sporc_commands.specs.Tails.{GivesAll, KeepsBehind, LogTailModel}
 use Rattle.sporc_commands.proofs.Tails.{gives_all}
-use Rattle.sporc_outside.specs.AppendFile.{AppendTold, file_images}
 
 -- what holds of bytes that are told, at most once
 told_once : (o : Option (List ℕ)) (P : List ℕ → Type 0) → ∥ IfSome o P ∥₁ → IfSome o (λ bytes. ∥ P bytes ∥₁)

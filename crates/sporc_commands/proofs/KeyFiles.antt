@@ -1,14 +1,11 @@
 -- What stands of a key's files.
 use Rattle.std.proofs.Common.{◌≡◌, ℕ, List, [], ◌∷◌, Bool, true, false, Option, Some, None, option_map, Result, Ok, Err, refl, ap, ◌∙◌, subst}
+use Rattle.sporc_commands.proofs.Common.{HasNoFile, file_in, with_file, NamedFile, FileNames, file_name, Stores, file_with, with_files}
 use Rattle.std.specs.Result.{OnOk}
 use Rattle.std.specs.Str.{bytes_eq}
-use Rattle.sporc_outside.specs.Files.{HasNoFile, file_in, with_file}
-use Rattle.sporc_outside.specs.declared.named_file.NamedFile.{NamedFile}
 use Rattle.sporc_keys.specs.declared.new_key.NewKey.{NewKey}
 use Rattle.sporc_keys.specs.KeyFile.{key_file_bytes}
 use Rattle.sporc_files.specs.declared.file.File.TheVariants as files
-use Rattle.sporc_files.specs.Names.{FileNames, file_name}
-use Rattle.sporc_files.specs.Writing.{Stores, file_with, with_files}
 use Rattle.sporc_commands.specs.KeyMaking.{StoresKey}
 
 -- a file that is not there after another was written was not there before

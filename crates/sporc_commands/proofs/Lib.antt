@@ -18,3 +18,4 @@ pub mod Named
 pub mod RingLoop
 pub mod StoreFaults
 pub mod Showing
+pub mod Common

@@ -1,19 +1,13 @@
 -- How a command writes its line, or all its lines.
-use Rattle.std.proofs.Common.{◌≡◌, ◌∙◌, ℕ, List, Result, Ok, Err, inl, inr, ap}
+use Rattle.std.proofs.Common.{◌≡◌, ◌∙◌, ℕ, List, Result, Ok, Err, inl, inr, ap, subst}
+use Rattle.sporc_commands.proofs.Common.{◌>>=◌, Rose, Use, Fault, AnswersUnlessOutside, FileNames, LineModel, Device, AreCheckedFiles, CheckedFiles, CheckedLine, FindsLine, checked_files}
+use Rattle.sporc_commands.proofs.Common.{checked_line, line_in, Examines, fails_first, tells_alone, tells_behind}
 use Rattle.std.specs.Io.KnownBytes.{Appends}
-use Rattle.sporc_bytes.specs.Fields.{◌>>=◌}
-use Rattle.sporc_outside.specs.Counts.{Rose}
-use Rattle.sporc_outside.specs.Uses.{Use}
 use Rattle.sporc_outside.specs.Writing.{AppendsPrefix}
 use Rattle.sporc_outside.specs.Streams.{IsUnwritten, StreamTold}
 use Rattle.sporc_outside.specs.Folders.{FolderTold}
-use Rattle.sporc_files.specs.declared.fault.Fault.{Fault}
 use Rattle.sporc_files.specs.declared.fault.Fault.TheVariants as faults
-use Rattle.sporc_files.specs.Faults.{AnswersUnlessOutside}
-use Rattle.sporc_line.specs.LineModel.{LineModel}
-use Rattle.sporc_commands.specs.Checking.{CheckedLine, checked_line}
-use Rattle.sporc_commands.specs.Uses.{WritesLine}
-use Rattle.sporc_files.proofs.Answering.{fails_first, tells_alone, tells_behind}
+use Rattle.sporc_commands.specs.Uses.{OnlyReads, WritesLine}
 
 module _ {Y : Type 0} (Says : Y → List ℕ → Type 0) (folder : Use FolderTold) (out : Use StreamTold) (found : Result Y Fault) where
   -- nothing was found
@@ -60,3 +54,42 @@ module _ {Y : Type 0} (Says : Y → List ℕ → Type 0) (folder : Use FolderTol
         let Failed = Rose folder.before.faults folder.after.faults in
         not_found Says folder out (found >>= made) view fault r r_is
         (tells_behind view Failed (Err fault) found (checked_line line) made is (tells_alone view Failed (Err fault) (made (checked_line line)) told)) none
+
+-- ---- a command that examines a history by the names that its words give
+
+module _ {Y : Type 0} (Says : Y → List ℕ → Type 0) (made : CheckedLine → Result Y Fault) (names given : FileNames) (same : given ≡ names) (device : Device)
+    (folder : Use FolderTold) (out : Use StreamTold) where
+  abbrev pub Found : Result LineModel Fault → Type 0
+  Found result = FindsLine folder.before.files given device folder.before.faults folder.after.faults result
+
+  abbrev pub Does : Result (Unit {0}) Fault → Type 0
+  Does r = Examines Says (λ content. line_in device content >>= made) names device folder out r
+
+  does : (content : CheckedFiles) (r : Result (Unit {0}) Fault) → AreCheckedFiles folder.before.files given device content → OnlyReads given (checked_files device) folder
+      → WritesLine Says folder out (line_in device content >>= made) r → Does r
+  does content r are reads writes = subst (λ (n : FileNames). Examines Says (λ content. line_in device content >>= made) n device folder out r) same
+      (record { content = content; are = are; reads = reads; writes = writes })
+
+  -- the history was not found, or not accepted
+  pub none_examined : (fault : Fault) (r : Result (Unit {0}) Fault) → r ≡ Err fault → Found (Err fault) → OnlyReads given (checked_files device) folder → IsUnwritten out → Does r
+  none_examined fault r is (content, are, tells) reads none = does content r are reads (no_line Says folder out (line_in device content) made fault r is tells none)
+
+  module _ (line : LineModel) (found : Found (Ok line)) (reads : OnlyReads given (checked_files device) folder) where
+    -- memory ran out behind that
+    pub examined_in_vain : (r : Result (Unit {0}) Fault) → r ≡ Err faults.Memory → IsUnwritten out → Does r
+    examined_in_vain r is none = does found.0 r found.1 reads (no_memory Says folder out (line_in device found.0 >>= made) r is none)
+
+    -- nothing was made of it
+    pub examined_for_none : {X : Type 0} (view : X → Y) (fault : Fault) (r : Result (Unit {0}) Fault) → r ≡ Err fault → AnswersUnlessOutside view ⊥ (Err fault) (made (checked_line line))
+        → IsUnwritten out → Does r
+    examined_for_none view fault r is told none = does found.0 r found.1 reads (not_made Says folder out (line_in device found.0) made line found.2 view fault r is told none)
+
+    -- what was made of it was written, or a prefix of that
+    pub examined_to_write : (y : Y) (bytes : List ℕ) → made (checked_line line) ≡ Ok y → Says y bytes → Appends out.before.written out.after.written bytes → Does (Ok tt)
+    examined_to_write y bytes is says written = does found.0 (Ok tt) found.1 reads
+        (line_written Says folder out (line_in device found.0 >>= made) y bytes (is_made (line_in device found.0) made line found.2 y is) says written)
+
+    pub examined_to_cut : (y : Y) (bytes : List ℕ) (r : Result (Unit {0}) Fault) → r ≡ Err faults.Outside → made (checked_line line) ≡ Ok y → Says y bytes
+        → AppendsPrefix out.before.written out.after.written bytes → Rose out.before.faults out.after.faults → Does r
+    examined_to_cut y bytes r r_is is says written rose = does found.0 r found.1 reads
+        (line_cut Says folder out (line_in device found.0 >>= made) y bytes r r_is (is_made (line_in device found.0) made line found.2 y is) says written rose)

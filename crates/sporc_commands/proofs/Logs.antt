@@ -1,22 +1,9 @@
 -- The log that a server begins with, and why it does not begin.
 use Rattle.std.proofs.Common.{◌≡◌, ℕ, List, [], Option, None, Some, Result, Ok, Err, refl, sym, ap, ◌∙◌, subst, arith}
-use Rattle.sporc_bytes.specs.Fields.{◌>>=◌}
-use Rattle.sporc_outside.specs.Counts.{Rose}
-use Rattle.sporc_outside.specs.Files.{HasNoFile}
-use Rattle.sporc_outside.specs.declared.named_file.NamedFile.{NamedFile}
-use Rattle.sporc_entry.specs.declared.genesis.Genesis.{Genesis}
-use Rattle.sporc_order.specs.OrderModel.{OrderModel}
-use Rattle.sporc_files.specs.declared.fault.Fault.{Fault}
+use Rattle.sporc_commands.proofs.Common.{◌>>=◌, Rose, HasNoFile, NamedFile, Genesis, OrderModel, Fault, File, FileNames, file_name, IsFileFault, SaysFile, any_bytes, AnswersUnlessOutside}
+use Rattle.sporc_commands.proofs.Common.{AnswersOfFile, IsFileAt, logged, logged_in, order_with, FailsToBegin, tells_alone}
 use Rattle.sporc_files.specs.declared.fault.Fault.TheVariants as faults
-use Rattle.sporc_files.specs.declared.file.File.{File}
 use Rattle.sporc_files.specs.declared.file.File.TheVariants as files
-use Rattle.sporc_files.specs.Names.{FileNames, file_name}
-use Rattle.sporc_files.specs.Reading.{IsFileFault, SaysFile, any_bytes}
-use Rattle.sporc_files.specs.Faults.{AnswersUnlessOutside}
-use Rattle.sporc_commands.specs.Contents.{AnswersOfFile, IsFileAt}
-use Rattle.sporc_commands.specs.Serving.{logged, logged_in, order_with}
-use Rattle.sporc_commands.specs.Outcomes.{FailsToBegin}
-use Rattle.sporc_files.proofs.Answering.{tells_alone}
 use Rattle.sporc_commands.proofs.ReadFiles.{has_at, is_there, none_at, said_long, said_short, there}
 
 -- why nothing is served

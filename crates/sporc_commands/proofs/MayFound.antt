@@ -1,20 +1,14 @@
 -- Words that may found a document name those who can.
 use Rattle.std.proofs.Common.{◌≡◌, ℕ, ◌==◌, nat_eq, nat_le, not, suc, false, List, [], ◌∷◌, ◌&&◌, length, map, Option, refl, sym, ap, ◌∙◌, subst, arith}
-use Rattle.std.specs.List.{AllByRecursion, IsDistinct, list_any}
+use Rattle.sporc_commands.proofs.Common.{AllByRecursion, IsMember, NamedFile, Named, CanFound, is_first_admin, number_of, numbers_of, Participant, FileNames, AreNamed, IsNamed, MayFound}
+use Rattle.std.specs.List.{IsDistinct, list_any}
 use Rattle.std.specs.Cmp.{nat_eq_equiv}
 use Rattle.std.proofs.lemmas.Bool.{and_parts, leb-true, not-true, or_parts}
 use Rattle.sporc_member.specs.declared.limits.TheConstants.{MAX_MEMBERS}
-use Rattle.sporc_member.specs.Device.{IsMember}
-use Rattle.sporc_outside.specs.declared.named_file.NamedFile.{NamedFile}
-use Rattle.sporc_keys.specs.declared.named.Named.{Named}
-use Rattle.sporc_keys.specs.Founding.{CanFound, is_first_admin, number_of, numbers_of}
 use Rattle.sporc_words.specs.declared.found.Found.{Found}
 use Rattle.sporc_words.specs.declared.standing.Standing.{Standing}
 use Rattle.sporc_words.specs.declared.standing.Standing.TheVariants.{Founder, Joiner}
-use Rattle.sporc_words.specs.declared.standing.Participant.{Participant}
 use Rattle.sporc_words.specs.Values.{founds_admin, has_twice}
-use Rattle.sporc_files.specs.Names.{FileNames}
-use Rattle.sporc_commands.specs.Founding.{AreNamed, IsNamed, MayFound}
 
 abbrev pub members_of : List Participant → List ℕ
 members_of ps = map (λ p. p.member) ps

@@ -1,19 +1,10 @@
 -- Those who are named, one after another.
 use Rattle.std.proofs.Common.{◌≡◌, ℕ, suc, ◌+◌, ◌<◌, ◌≤◌, List, [], ◌∷◌, ◌++◌, length, take, drop, get_or, Option, sym, ap, ◌∙◌, subst, add-one}
+use Rattle.sporc_commands.proofs.Common.{take-append-drop, NamedFile, first_device, Named, Participant, Fault, FileNames, IsFileFault, key_file, file_later, AreNamed, FirstBadKey, IsNamed}
 use Rattle.std.proofs.Math.Seq.{drop-cons, take-suc}
-use Rattle.std.proofs.lemmas.List.{take-append-drop}
-use Rattle.sporc_outside.specs.declared.named_file.NamedFile.{NamedFile}
-use Rattle.sporc_member.specs.Device.{first_device}
-use Rattle.sporc_keys.specs.declared.named.Named.{Named}
 use Rattle.sporc_words.specs.declared.standing.Standing.TheVariants.{Joiner}
-use Rattle.sporc_words.specs.declared.standing.Participant.{Participant}
-use Rattle.sporc_files.specs.declared.fault.Fault.{Fault}
 use Rattle.sporc_files.specs.declared.fault.Fault.TheVariants as faults
 use Rattle.sporc_files.specs.declared.file.File.TheVariants as files
-use Rattle.sporc_files.specs.Names.{FileNames}
-use Rattle.sporc_files.specs.Reading.{IsFileFault, key_file}
-use Rattle.sporc_files.proofs.FaultCases.{file_later}
-use Rattle.sporc_commands.specs.Founding.{AreNamed, FirstBadKey, IsNamed}
 
 pub nobody : (told : Option (List NamedFile)) (names : FileNames) (ns : List Named) → ns ≡ [] → AreNamed told names [] ns
 nobody told names ns none = rw none tt

@@ -1,37 +1,24 @@
 -- What a server begins with: its genesis, the file of its tail, its log, and the tail.
 use Rattle.std.proofs.Common.{◌≡◌, ◌≤◌, ◌<◌, ◌⊎◌, inl, inr, ℕ, Bool, true, false, List, [], length, Option, Some, None, Result, Ok, Err, refl, sym, ap, ◌∙◌, subst, arith}
-use Rattle.std.specs.Prelude.{IfSome, IfOk, option_map}
+use Rattle.sporc_commands.proofs.Common.{IfSome, IfOk, option_map, ◌>>=◌, fault_as, Rose, count_of_both, AppendTold, ChangesFile, IsAppendedTo, TakesFile, file_in, made_in, or_empty, with_bytes}
+use Rattle.sporc_commands.proofs.Common.{NamedFile, Genesis, OrderModel, Taken, Fault, File, FileNames, file_name, IsAppendingFault, IsFileFault, SaysFile, any_bytes, genesis_file}
+use Rattle.sporc_commands.proofs.Common.{AnswersUnlessOutside, unless_stopped, IsFileAt, bytes_in, genesis_in, FindsOrder, FindsOrderBehind, HasLogged, fault_of_tail, logged, order_behind}
+use Rattle.sporc_commands.proofs.Common.{order_of_whole, order_with, tail_in, with_tail, tells_behind, tells_later}
 use Rattle.std.specs.Str.{bytes_eq}
 use Rattle.std.proofs.lemmas.Slice.Eq.{bytes_eq-Decides}
-use Rattle.sporc_bytes.specs.Fields.{◌>>=◌, fault_as}
-use Rattle.sporc_outside.specs.Counts.{Rose, count_of_both}
-use Rattle.sporc_outside.specs.AppendFile.{AppendTold}
-use Rattle.sporc_outside.specs.Files.{ChangesFile, IsAppendedTo, TakesFile, file_in, made_in, or_empty, with_bytes}
 use Rattle.sporc_outside.specs.declared.file_fault.TheConstants.{MAX_FILE}
-use Rattle.sporc_outside.specs.declared.named_file.NamedFile.{NamedFile}
 use Rattle.sporc_outside.proofs.Files.{file_in-other}
-use Rattle.sporc_entry.specs.declared.genesis.Genesis.{Genesis}
-use Rattle.sporc_order.specs.OrderModel.{OrderModel}
 use Rattle.sporc_store.specs.declared.tail_fault.TailFault.{TailFault}
 use Rattle.sporc_store.specs.declared.tail_fault.TailFault.TheVariants as tails
 use Rattle.sporc_store.specs.declared.stop.Stop.{Stop}
 use Rattle.sporc_store.specs.declared.stop.Stop.TheVariants.{End}
 use Rattle.sporc_store.specs.Loading.{accepted_from, an_order}
-use Rattle.sporc_store.specs.SavedFile.{Taken}
 use Rattle.sporc_store.specs.TailBytes.{TailTaken, tail_behind}
 use Rattle.sporc_store.specs.TailReadings.{AreTold, IsFaultOfRead, TakesRead}
-use Rattle.sporc_files.specs.declared.fault.Fault.{Fault}
 use Rattle.sporc_files.specs.declared.fault.Fault.TheVariants as faults
-use Rattle.sporc_files.specs.declared.file.File.{File}
 use Rattle.sporc_files.specs.declared.file.File.TheVariants as files
-use Rattle.sporc_files.specs.Names.{FileNames, file_name}
-use Rattle.sporc_files.specs.Reading.{IsAppendingFault, IsFileFault, SaysFile, any_bytes, genesis_file}
 use Rattle.sporc_files.proofs.NamesApart.{names_apart}
-use Rattle.sporc_files.specs.Faults.{AnswersUnlessOutside, unless_stopped}
-use Rattle.sporc_commands.specs.Contents.{IsFileAt, bytes_in, genesis_in}
 use Rattle.sporc_commands.specs.Opening.{FindsBehind, FindsTail, IsToldIn, RoseIn}
-use Rattle.sporc_commands.specs.Serving.{FindsOrder, FindsOrderBehind, HasLogged, fault_of_tail, logged, order_behind, order_of_whole, order_with, tail_in, with_tail}
-use Rattle.sporc_files.proofs.Answering.{tells_behind, tells_later}
 use Rattle.sporc_commands.proofs.ReadFiles.{has_at, is_there, reads_none, said_long, said_short, says, there}
 
 -- ---- the tail of a file, behind the order of a log

@@ -1,10 +1,8 @@
 -- The text after the first entries of a history, form by form.
 use Rattle.std.proofs.Common.{◌≡◌, ℕ, suc, ◌+◌, ◌-◌, List, [], ◌∷◌, ◌++◌, length, take, fold, Some, add-one, refl, sym, ap, ◌∙◌, subst, arith}
-use Rattle.std.specs.List.{slice_get}
+use Rattle.sporc_commands.proofs.Common.{slice_get, Genesis, Kit}
 use Rattle.sporc_delta.specs.Marks.{Mark, apply, base_len}
 use Rattle.sporc_suffix.proofs.Following.{Follow-at}
-use Rattle.sporc_entry.specs.declared.genesis.Genesis.{Genesis}
-use Rattle.sporc_line.specs.Kit.{Kit}
 use Rattle.sporc_line.specs.Document.{forms_of, text_after, text_of}
 use Rattle.sporc_line.specs.Good.{Good}
 use Rattle.sporc_line.proofs.FormLengths.{forms_follow, forms_take, text_at}

@@ -1,19 +1,10 @@
 -- What is read of files, and what follows of it.
 use Rattle.std.proofs.Common.{◌≡◌, ℕ, ◌≤◌, ◌<◌, List, length, Option, None, Some, Result, Ok, Err, refl, sym, ap, ◌∙◌, arith}
+use Rattle.sporc_commands.proofs.Common.{◌>>=◌, fault_as, Rose, HasFile, HasNoFile, file_in, NamedFile, Fault, File, FileNames, file_name, IsFileFault, SaysFile, AnswersUnlessOutside, fails_first}
+use Rattle.sporc_commands.proofs.Common.{tells_alone, tells_behind, IsFileAt, said}
 use Rattle.std.proofs.lemmas.Bool.{lt-ltb, le-ltb}
-use Rattle.sporc_bytes.specs.Fields.{◌>>=◌, fault_as}
-use Rattle.sporc_outside.specs.Counts.{Rose}
-use Rattle.sporc_outside.specs.Files.{HasFile, HasNoFile, file_in}
 use Rattle.sporc_outside.specs.declared.file_fault.TheConstants.{MAX_FILE}
-use Rattle.sporc_outside.specs.declared.named_file.NamedFile.{NamedFile}
-use Rattle.sporc_files.specs.declared.fault.Fault.{Fault}
 use Rattle.sporc_files.specs.declared.fault.Fault.TheVariants as faults
-use Rattle.sporc_files.specs.declared.file.File.{File}
-use Rattle.sporc_files.specs.Names.{FileNames, file_name}
-use Rattle.sporc_files.specs.Reading.{IsFileFault, SaysFile}
-use Rattle.sporc_files.specs.Faults.{AnswersUnlessOutside}
-use Rattle.sporc_files.proofs.Answering.{fails_first, tells_alone, tells_behind}
-use Rattle.sporc_commands.specs.Contents.{IsFileAt, said}
 
 -- ---- what a folder holds
 

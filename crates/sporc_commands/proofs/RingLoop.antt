@@ -1,15 +1,8 @@
 -- Rings that are written, and what stands if one is not.
 use Rattle.std.proofs.Common.{◌≡◌, ℕ, ◌+◌, ◌<◌, ◌≤◌, List, [], ◌∷◌, length, map, take, get_or, Option, inl, subst, add-one, arith}
-use Rattle.sporc_outside.specs.declared.named_file.NamedFile.{NamedFile}
-use Rattle.sporc_keys.specs.declared.ring_file.RingFile.{RingFile}
-use Rattle.sporc_keys.specs.RingFile.{ring_file_bytes}
-use Rattle.sporc_files.specs.declared.fault.Fault.{Fault}
+use Rattle.sporc_commands.proofs.Common.{NamedFile, RingFile, ring_file_bytes, Fault, FileNames, file_name, IsOutsideFault, LeavesFile, Stores, StoresFirst, StoresPrefix, file_with, WriteCase}
+use Rattle.sporc_commands.proofs.Common.{WriteFailed, WriteMemory, write_case, IsStoreFault, ring_of_founding}
 use Rattle.sporc_files.specs.declared.file.File.TheVariants as files
-use Rattle.sporc_files.specs.Names.{FileNames, file_name}
-use Rattle.sporc_files.specs.Faults.{IsOutsideFault}
-use Rattle.sporc_files.specs.Writing.{LeavesFile, Stores, StoresFirst, StoresPrefix, file_with}
-use Rattle.sporc_files.proofs.FaultCases.{WriteCase, WriteFailed, WriteMemory, write_case}
-use Rattle.sporc_commands.specs.Founding.{IsStoreFault, ring_of_founding}
 use Rattle.sporc_commands.proofs.Storing.{first_then, map_around, map_more, stored_all, stored_then}
 
 module _ (names : FileNames) (rings : List RingFile) (i : ℕ) (before between : Option (List NamedFile)) (stored : Stores (map (ring_of_founding names) (take i rings)) before between) (x : RingFile) (within : i < length rings) where

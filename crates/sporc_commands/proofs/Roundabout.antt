@@ -1,10 +1,8 @@
 -- Rounds of a server, one behind another.
 use Rattle.std.proofs.Common.{◌≡◌, ◌≤◌, ◌+◌, inl, inr, ℕ, zero, suc, List, [], ◌∷◌, ◌++◌, length, Option, Some, None, Ok, Err, refl, sym, ap, subst, ◌∙◌, arith, append-nil, append_assoc}
-use Rattle.std.specs.Prelude.{replicate}
-use Rattle.std.proofs.lemmas.List.{length-append}
+use Rattle.sporc_commands.proofs.Common.{replicate, length-append, Fault, AsksAgain}
 use Rattle.sporc_outside.specs.Told.{MayAppend}
-use Rattle.sporc_files.specs.declared.fault.Fault.{Fault}
-use Rattle.sporc_commands.specs.Rounds.{AsksAgain, GoRounds, GoWell, Round, Standing}
+use Rattle.sporc_commands.specs.Rounds.{GoRounds, GoWell, Round, Standing}
 
 module _ {X : Type 0} (IsRound : Standing X → Round X → Type 0) where
   -- one more that ended well

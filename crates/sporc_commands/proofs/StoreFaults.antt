@@ -1,21 +1,13 @@
 -- Why not all files of a document were written, case by case.
 use Rattle.std.proofs.Common.{◌≡◌, ℕ, ◌≤◌, List, [], ◌∷◌, Option, Result, Ok, Err, inr, subst, arith}
+use Rattle.sporc_commands.proofs.Common.{Rose, NamedFile, Use, Named, IsFounding, in_order, Participant, Fault, FileNames, names_of_document, Stores, StoresFirst, StoresPrefix, AreNamed, FoundOutcome}
+use Rattle.sporc_commands.proofs.Common.{IsStoreFault, founding_files}
 use Rattle.std.specs.Result.{IfErr}
-use Rattle.sporc_outside.specs.Counts.{Rose}
-use Rattle.sporc_outside.specs.declared.named_file.NamedFile.{NamedFile}
-use Rattle.sporc_outside.specs.Uses.{Use}
 use Rattle.sporc_outside.specs.Folders.{FolderTold}
 use Rattle.sporc_outside.specs.Chances.{ChanceTold}
 use Rattle.sporc_keys.specs.declared.founding.Founding.{Founding}
-use Rattle.sporc_keys.specs.declared.named.Named.{Named}
-use Rattle.sporc_keys.specs.Founding.{IsFounding, in_order}
 use Rattle.sporc_words.specs.declared.found.Found.{Found}
-use Rattle.sporc_words.specs.declared.standing.Participant.{Participant}
-use Rattle.sporc_files.specs.declared.fault.Fault.{Fault}
 use Rattle.sporc_files.specs.declared.fault.Fault.TheVariants as faults
-use Rattle.sporc_files.specs.Names.{FileNames, names_of_document}
-use Rattle.sporc_files.specs.Writing.{Stores, StoresFirst, StoresPrefix}
-use Rattle.sporc_commands.specs.Founding.{AreNamed, FoundOutcome, IsStoreFault, founding_files}
 use Rattle.sporc_commands.proofs.Storing.{first_then, stored_then}
 
 data StoreCase (new : List NamedFile) (before after : Option (List NamedFile)) (low high : ℕ) : Fault → Type 0 where

@@ -1,9 +1,7 @@
 -- Files that are written one after another.
 use Rattle.std.proofs.Common.{◌≡◌, ℕ, suc, ◌<◌, List, [], ◌∷◌, ◌++◌, length, map, take, drop, get_or, Option, Some, None, option_map, inr, refl, sym, ap, ◌∙◌, subst}
+use Rattle.sporc_commands.proofs.Common.{map-append, take-append-drop, NamedFile, Stores, StoresFirst, StoresPrefix, with_files, with_one}
 use Rattle.std.proofs.Math.Seq.{drop-cons, take-suc}
-use Rattle.std.proofs.lemmas.List.{map-append, take-append-drop}
-use Rattle.sporc_outside.specs.declared.named_file.NamedFile.{NamedFile}
-use Rattle.sporc_files.specs.Writing.{Stores, StoresFirst, StoresPrefix, with_files, with_one}
 
 pub none_yet : (before : Option (List NamedFile)) → Stores [] before before
 none_yet None = refl

@@ -1,14 +1,10 @@
 -- What the tail of a log keeps, and what its bytes give.
 use Rattle.std.proofs.Common.{◌≡◌, ◌≤◌, ℕ, ◌+◌, List, [], ◌∷◌, ◌++◌, length, take, drop, Option, None, Some, Result, Ok, Err, OnOk, OnErr, refl, sym, ap, ◌∙◌, subst, arith, append_assoc}
-use Rattle.std.specs.Prelude.{IfSome}
-use Rattle.std.proofs.lemmas.List.{append_cancel_left, length-append, take-append-drop, take_at}
-use Rattle.sporc_outside.specs.AppendFile.{AppendTold, file_images}
+use Rattle.sporc_commands.proofs.Common.{IfSome, append_cancel_left, length-append, take-append-drop, take_at, AppendTold, file_images, IsPrefix, GivesAll, KeepsBehind, KeepsLast, LogTailModel}
 use Rattle.sporc_order.specs.declared.tail.Unkept.{Unkept}
-use Rattle.sporc_store.specs.SavedFile.{IsPrefix}
 use Rattle.sporc_store.specs.TailBytes.{IsTail, Recovers}
 use Rattle.sporc_store.specs.TailFiles.{Between, Keeps, OpensBehind, Puts, TailFileModel}
 use Rattle.sporc_store.proofs.TailReads.{recovers, shorter_take}
-use Rattle.sporc_commands.specs.Tails.{GivesAll, KeepsBehind, KeepsLast, LogTailModel}
 
 -- ---- an entry is put
 

@@ -1,7 +1,6 @@
 -- Lists of entries, as a loop goes over them.
 use Rattle.std.proofs.Common.{◌≡◌, ℕ, ◌+◌, ◌<◌, List, [], ◌∷◌, ◌++◌, length, take, map, get_or, sym, ap, ◌∙◌}
-use Rattle.std.proofs.lemmas.List.{map-append, take_more}
-use Rattle.std.specs.Global.{Vec}
+use Rattle.sporc_commands.proofs.Common.{map-append, take_more, Vec}
 
 -- the bytes of entries
 abbrev pub bytes_of : List (Vec ℕ) → List (List ℕ)

@@ -1,5 +1,6 @@
 -- The examination of a device's saved history.
-use Rattle.std.specs.Prelude.{◌≡◌, ℕ, List, [], ◌++◌, length, codes, Option, None, Some, Result, Ok}
+use Rattle.std.specs.Prelude.{◌≡◌, ◌∷◌, ℕ, List, [], ◌++◌, length, codes, Option, None, Some}
+use Rattle.std.specs.Prelude.{Result, Ok}
 use Rattle.std.specs.Fmt.{decimal}
 use Rattle.sporc_bytes.specs.Fields.{◌>>=◌}
 use Rattle.sporc_outside.specs.Counts.{Rose}
@@ -13,6 +14,7 @@ use Rattle.sporc_member.specs.declared.device.Device.{Device}
 use Rattle.sporc_store.specs.Loading.{a_member, loaded}
 use Rattle.sporc_store.specs.SavedFile.{Taken, saved_in}
 use Rattle.sporc_files.specs.declared.fault.Fault.{Fault}
+use Rattle.sporc_files.specs.declared.file.File.{File}
 use Rattle.sporc_files.specs.declared.file.File.TheVariants as files
 use Rattle.sporc_files.specs.Faults.{AnswersUnlessOutside, whole}
 use Rattle.sporc_files.specs.Names.{FileNames, file_name}
@@ -28,6 +30,10 @@ pub record CheckedFiles : Type 0 where
   pub key : Option (List ℕ)
   pub ring : Option (List ℕ)
   pub history : Option (List ℕ)
+
+abbrev pub checked_files : Device → List File
+checked_files device =
+    files.Genesis ∷ files.Key device ∷ files.Ring device.member ∷ files.History device ∷ []
 
 -- those of an examination as a folder holds them
 pub record AreCheckedFiles (told : Option (List NamedFile)) (names : FileNames) (device : Device)

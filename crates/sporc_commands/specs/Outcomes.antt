@@ -12,57 +12,50 @@ use Rattle.sporc_outside.specs.Folders.{FolderTold}
 use Rattle.sporc_outside.specs.Nets.{NetTold}
 use Rattle.sporc_member.specs.declared.device.Device.{Device}
 use Rattle.sporc_order.specs.OrderModel.{OrderModel}
-use Rattle.sporc_serve.specs.declared.fault.ServeFault.{ServeFault}
 use Rattle.sporc_serve.specs.Served.{IsServed}
 use Rattle.sporc_files.specs.declared.fault.Fault.{Fault}
 use Rattle.sporc_files.specs.declared.fault.Fault.TheVariants as faults
 use Rattle.sporc_files.specs.declared.file.File.TheVariants as files
 use Rattle.sporc_files.specs.Names.{FileNames, file_name}
-use Rattle.sporc_commands.specs.Checking.{AreCheckedFiles, CheckedFiles, IsCheckedLine, checked_in}
+use Rattle.sporc_commands.specs.Checking.{AreCheckedFiles, CheckedFiles, IsCheckedLine}
+use Rattle.sporc_commands.specs.Checking.{checked_files, checked_in}
 use Rattle.sporc_commands.specs.Comparing.{AreComparedFiles, ComparedFiles, IsVerdictLine}
 use Rattle.sporc_commands.specs.Comparing.{chains_in}
 use Rattle.sporc_commands.specs.Telling.{IsJust, lines_in, text_in}
-use Rattle.sporc_commands.specs.Moments.{ChangesFolderAlone, IsBehind, Moment, at_end}
-use Rattle.sporc_commands.specs.Moments.{folder_between, sink_between}
-use Rattle.sporc_commands.specs.Rounds.{GoRounds, Round, Standing}
-use Rattle.sporc_commands.specs.Serving.{AreServedFiles, HasLogged, ServedFiles, ended, order_in}
+use Rattle.sporc_commands.specs.Moments.{ChangesFolderAlone, Moment, at_end, folder_between}
+use Rattle.sporc_commands.specs.Moments.{sink_between}
+use Rattle.sporc_commands.specs.Rounds.{GoRounds, IsRoundOf, Round, Standing}
+use Rattle.sporc_commands.specs.Serving.{AreServedFiles, HasLogged, ServedFiles, order_in}
 use Rattle.sporc_commands.specs.Serving.{saved_log}
 use Rattle.sporc_commands.specs.Tails.{GivesBack, after_last}
 use Rattle.sporc_commands.specs.Uses.{OnlyReads, WritesLine}
 
--- ---- check
+-- ---- check, text and entries
 
--- `check NAME M`: the genesis, the key of the device, the ring of its member and the history of the
--- device are read, the history is examined, and the line of how many entries it has is written
-pub record CheckOutcome {T : Type 0} (names : FileNames) (device : Device) (folder : Use FolderTold)
-    (out : Use StreamTold) (answer : Result T Fault) : Type 0 where
-  pub content : CheckedFiles
-  pub are : AreCheckedFiles folder.before.files names device content
-  pub reads : OnlyReads names (files.Genesis ∷ files.Key device ∷ files.Ring device.member
-      ∷ files.History device ∷ []) folder
-  pub writes : WritesLine IsCheckedLine folder out (checked_in device content) answer
-
--- ---- text and entries
-
--- `text NAME M --at POS`: the same files are read, the history is examined, and the committed text
--- is written, after so many of its entries or after all
-pub record TextOutcome {T : Type 0} (names : FileNames) (device : Device) (at : Option ℕ)
+-- the genesis, the key of a device, the ring of its member and the history of the device were read,
+-- the history was examined, and what was found in them was written as `Says` has it
+pub record Examines {X T : Type 0} (Says : X → List ℕ → Type 0)
+    (found : CheckedFiles → Result X Fault) (names : FileNames) (device : Device)
     (folder : Use FolderTold) (out : Use StreamTold) (answer : Result T Fault) : Type 0 where
   pub content : CheckedFiles
   pub are : AreCheckedFiles folder.before.files names device content
-  pub reads : OnlyReads names (files.Genesis ∷ files.Key device ∷ files.Ring device.member
-      ∷ files.History device ∷ []) folder
-  pub writes : WritesLine IsJust folder out (text_in device at content) answer
+  pub reads : OnlyReads names (checked_files device) folder
+  pub writes : WritesLine Says folder out (found content) answer
 
--- `entries NAME M --from POS`: the same, and the lines of the entries from that position on are
--- written
-pub record EntriesOutcome {T : Type 0} (names : FileNames) (device : Device) (from : ℕ)
-    (folder : Use FolderTold) (out : Use StreamTold) (answer : Result T Fault) : Type 0 where
-  pub content : CheckedFiles
-  pub are : AreCheckedFiles folder.before.files names device content
-  pub reads : OnlyReads names (files.Genesis ∷ files.Key device ∷ files.Ring device.member
-      ∷ files.History device ∷ []) folder
-  pub writes : WritesLine IsJust folder out (lines_in device from content) answer
+-- `check NAME M`: the line of how many entries the history has
+abbrev pub CheckOutcome : {T : Type 0} → FileNames → Device → Use FolderTold → Use StreamTold
+    → Result T Fault → Type 0
+CheckOutcome names device = Examines IsCheckedLine (checked_in device) names device
+
+-- `text NAME M --at POS`: the committed text, after so many of its entries or after all
+abbrev pub TextOutcome : {T : Type 0} → FileNames → Device → Option ℕ → Use FolderTold
+    → Use StreamTold → Result T Fault → Type 0
+TextOutcome names device at = Examines IsJust (text_in device at) names device
+
+-- `entries NAME M --from POS`: the lines of the entries from that position on
+abbrev pub EntriesOutcome : {T : Type 0} → FileNames → Device → ℕ → Use FolderTold → Use StreamTold
+    → Result T Fault → Type 0
+EntriesOutcome names device from = Examines IsJust (lines_in device from) names device
 
 -- ---- compare
 
@@ -121,16 +114,16 @@ pub record IsOpened (names : FileNames) (folder : Use FolderTold) (out : Use Str
   pub written : opened.out.written ≡ out.before.written
   pub sink_faults : opened.out.faults ≡ out.before.faults
 
+-- the log of an order was saved between two moments, and the line of how many entries it has was
+-- written
+abbrev pub KeepsOne : FileNames → OrderModel → Moment → Moment → Result (Unit {0}) Fault → Type 0
+KeepsOne names order a b saved = KeepsLog names (folder_between a b) (sink_between a b) order
+    (log_line (length order.entries)) saved
+
 module _ (names : FileNames) (sessions : ℕ) where
   -- one round: sessions were served from an order, and what came of it was saved
-  pub record IsRound (a : Standing OrderModel) (r : Round OrderModel) : Type 0 where
-    pub served : Result (Unit {0}) ServeFault
-    pub serves : IsServed a.held r.after.held a.net r.after.net sessions served
-    pub keeps : KeepsLog names (folder_between a.moment r.after.moment)
-        (sink_between a.moment r.after.moment) r.after.held
-        (log_line (length r.after.held.entries)) r.saved
-    pub answer_is : r.answer ≡ ended served r.saved
-    pub behind : IsBehind a.moment r.after.moment
+  abbrev pub IsRound : Standing OrderModel → Round OrderModel → Type 0
+  IsRound = IsRoundOf IsServed (KeepsOne names) sessions
 
   module _ (times : ℕ) (folder : Use FolderTold) (out : Use StreamTold) (old new : NetTold) where
     -- nothing was served: a file failed, memory ran out, or the folder failed; no file but the

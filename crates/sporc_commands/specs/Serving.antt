@@ -1,5 +1,5 @@
 -- What a server begins with, and the log that it saves.
-use Rattle.std.specs.Prelude.{◌≡◌, ℕ, List, [], length, Option, None, Some, Result, Ok, IfOk}
+use Rattle.std.specs.Prelude.{◌≡◌, ◌∷◌, ℕ, List, [], length, Option, None, Some, Result, Ok, IfOk}
 use Rattle.sporc_bytes.specs.Fields.{◌>>=◌, fault_as}
 use Rattle.sporc_outside.specs.Counts.{Rose}
 use Rattle.sporc_outside.specs.Files.{or_empty}
@@ -27,6 +27,9 @@ pub record ServedFiles : Type 0 where
   pub genesis : Option (List ℕ)
   pub log : Option (List ℕ)
   pub tail : Option (List ℕ)
+
+abbrev pub served_files : List File
+served_files = files.Genesis ∷ files.Tail ∷ files.Log ∷ []
 
 -- the files of a server, as a folder holds them
 pub record AreServedFiles (told : Option (List NamedFile)) (names : FileNames)

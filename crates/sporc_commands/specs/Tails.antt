@@ -5,6 +5,7 @@ use Rattle.sporc_outside.specs.Files.{RemovesFile, TakesFile}
 use Rattle.sporc_outside.specs.Uses.{Use}
 use Rattle.sporc_outside.specs.Folders.{FolderTold}
 use Rattle.sporc_outside.specs.AppendFile.{AppendTold}
+use Rattle.sporc_order.specs.OrderModel.{OrderModel}
 use Rattle.sporc_store.specs.SavedFile.{IsPrefix}
 use Rattle.sporc_store.specs.TailBytes.{Recovers}
 use Rattle.sporc_store.specs.TailFiles.{Keeps, TailFileModel}
@@ -74,3 +75,10 @@ abbrev pub after_last : Result (Unit {0}) Fault → Result (Unit {0}) Fault → 
 after_last (Ok done) given = given
 after_last (Err fault) (Err (faults.Malformed file at)) = Err (faults.Malformed file at)
 after_last (Err fault) given = Err fault
+
+-- the tail of this order was given back behind the last round, and this was answered of both
+abbrev pub GivesLastBack : List ℕ → Use FolderTold → ℕ → OrderModel → Result (Unit {0}) Fault
+    → Result (Unit {0}) Fault → Result (Unit {0}) Fault → Type 0
+GivesLastBack name folder logged order saved answer result = (given : Result (Unit {0}) Fault)
+    × GivesBack name folder logged order.genesis.document order.entries saved given
+    × (result ≡ after_last answer given)

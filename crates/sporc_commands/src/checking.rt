@@ -4,12 +4,13 @@ ghost use Rattle.std.specs.Prelude.{◌≤◌, IfOk, string_bytes};
 ghost use Rattle.sporc_commands.specs.Checking.{IsCheckedLine};
 ghost use Rattle.sporc_commands.specs.Outcomes.{CheckOutcome};
 ghost use Rattle.sporc_outside.specs.Uses.{use_of};
+ghost use Rattle.sporc_files.specs.Names.{names_of_document};
 
 use crate::reading::read_line;
 use sporc_base::Memory;
 use sporc_files::{Fault, Names};
-use sporc_member::Device;
 use sporc_outside::{Folder, Gate, Sink, write_all};
+use sporc_words::Check;
 use std::alloc::Global;
 use std::fmt::Write;
 use std::sync::Wait;
@@ -24,15 +25,15 @@ pub fn check<R: Threads + Wait + Sync, F: Folder, O: Sink, G: Gate + Sync>(
     alloc: Global,
     files: &mut F,
     out: &mut O,
-    names: &Names<'_>,
-    device: Device,
+    asked: &Check,
     gate: &G,
 ) -> Result<(), Fault>
-    ensures outcome { CheckOutcome names.now device (use_of F.told files.old files.new)
-        (use_of O.told out.old out.new) result }
+    ensures outcome { CheckOutcome (names_of_document asked.now.name) asked.now.device
+        (use_of F.told files.old files.new) (use_of O.told out.old out.new) result }
     ensures out_kept { (O.told out.old).faults ≤ (O.told out.new).faults }
 {
-    let line = read_line(rt, alloc, files, names, device, gate)?;
+    let names = Names::of_document(asked.name.as_str());
+    let line = read_line(rt, alloc, files, &names, asked.device, gate)?;
     let checked = checked_line(alloc, line.len())?;
     write_all(out, checked.as_bytes())?;
     Ok(())

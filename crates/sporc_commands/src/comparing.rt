@@ -2,7 +2,7 @@
 
 ghost use Rattle.std.specs.Prelude.{◌≡◌, ◌≤◌, [], ◌∷◌, IfOk, string_bytes};
 ghost use Rattle.sporc_outside.specs.Uses.{use_of};
-ghost use Rattle.sporc_files.specs.Names.{file_name};
+ghost use Rattle.sporc_files.specs.Names.{file_name, names_of_document};
 ghost use Rattle.sporc_files.specs.Uses.{AsksOnly};
 ghost use Rattle.sporc_commands.specs.Comparing.{AreOfOneGenesis, FindsChains, IsVerdictLine};
 ghost use Rattle.sporc_commands.specs.Outcomes.{CompareOutcome};
@@ -14,6 +14,7 @@ use sporc_hash::{Digest32, compare as compare_chains};
 use sporc_member::Device;
 use sporc_outside::{Folder, Sink, write_all};
 use sporc_report::push_verdict;
+use sporc_words::Compare;
 use std::alloc::Global;
 
 /// `compare NAME M N` writes how the saved history of one device of a document stands to that of
@@ -23,19 +24,19 @@ pub fn compare<F: Folder, O: Sink>(
     alloc: Global,
     files: &mut F,
     out: &mut O,
-    names: &Names<'_>,
-    first: Device,
-    second: Device,
+    asked: &Compare,
 ) -> Result<(), Fault>
-    ensures outcome { CompareOutcome names.now first second (use_of F.told files.old files.new)
-        (use_of O.told out.old out.new) result }
+    ensures outcome { CompareOutcome
+        (names_of_document asked.now.name) asked.now.first asked.now.second
+        (use_of F.told files.old files.new) (use_of O.told out.old out.new) result }
     ensures out_kept { (O.told out.old).faults ≤ (O.told out.new).faults }
 {
-    let chains = read_chains(alloc, files, names, first, second)?;
+    let names = Names::of_document(asked.name.as_str());
+    let chains = read_chains(alloc, files, &names, asked.first, asked.second)?;
     let line = verdict_line(
         alloc,
-        first,
-        second,
+        asked.first,
+        asked.second,
         chains.0.as_slice(),
         chains.1.as_slice(),
     )?;

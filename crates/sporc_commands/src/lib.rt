@@ -19,16 +19,16 @@
 //! keygen(alloc, &mut files, &mut chance, &mut out, &asked)?;
 //! // plan.genesis, plan.1.ring, plan.2.ring
 //! found(alloc, &mut files, &mut chance, &asked)?;
-//! let laptop = Device::first(2);
-//! let phone = Device { member: 2, number: 1 };
 //! // `checked 3`, or Fault::Refused(2, Refusal::BadSignature)
-//! check(rt, alloc, files, out, &names, laptop, &OpenGate)
+//! check(rt, alloc, &mut files, &mut out, &asked, &OpenGate)?;
 //! // `Buy bread.`, or Fault::Ahead(0)
-//! text(rt, alloc, files, out, &names, phone, Some(1), &OpenGate)
+//! text(rt, alloc, &mut files, &mut out, &asked, &OpenGate)?;
 //! // `1 1 1 0 edit i"Buy bread."`
-//! list_entries(rt, alloc, files, out, &names, phone, 1, &OpenGate)
-//! compare(alloc, files, out, &names, laptop, phone)         // `2 2.1 forked after 3`
-//! serve(rt, alloc, files, net, out, &names, "localhost:4000", 8, 1, &OpenGate) // `log 12`
+//! list_entries(rt, alloc, &mut files, &mut out, &asked, &OpenGate)?;
+//! // `2 2.1 forked after 3`
+//! compare(alloc, &mut files, &mut out, &asked)?;
+//! // `log 12`
+//! serve(rt, alloc, &mut files, &mut net, &mut out, &asked, &OpenGate)?;
 //! ```
 //!
 //! Proved: of `keygen`, `found` and `public`, which files are asked for, which stand after each
@@ -38,9 +38,9 @@
 //! of their bytes (`Checking`, `Telling`, `Comparing`, `Serving`), whose first fault is answered,
 //! unless memory runs out or something outside fails. Only tested: the files of a document in
 //! memory, the names asked for, in their order, each call outside failing in turn, the lines of
-//! histories with real signatures, and that calls succeed with ample memory (`sporc_commands_tests`).
-//! Neither: that a chance is random, that a real folder keeps what is written, and that a client
-//! gets an answer.
+//! histories with real signatures, and that calls succeed with ample memory
+//! (`sporc_commands_tests`). Neither: that a chance is random, that a real folder keeps what is
+//! written, and that a client gets an answer.
 #![tactic(auto)]
 
 mod chains;
@@ -68,7 +68,8 @@ pub use key_making::keygen;
 pub use key_showing::public;
 pub use listing::list_entries;
 pub use log::{read_log, save_log};
-pub use opening::{KeptOrder, OpenedOrder, open_order, open_order_behind};
+pub use opening::{OpenedOrder, open_order, open_order_behind};
+pub use rounds::{RoundEnd, Rounds};
 pub use serving::{after_last, end, keep_tail, remove_tail, serve};
 pub use tail::LogTail;
 pub use texts::text;

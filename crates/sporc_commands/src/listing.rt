@@ -2,6 +2,7 @@
 
 ghost use Rattle.std.specs.Prelude.{◌≡◌, ◌≤◌, IfOk, string_bytes};
 ghost use Rattle.sporc_outside.specs.Uses.{use_of};
+ghost use Rattle.sporc_files.specs.Names.{names_of_document};
 ghost use Rattle.sporc_report.specs.EntryLines.{entry_lines};
 ghost use Rattle.sporc_commands.specs.Outcomes.{EntriesOutcome};
 
@@ -9,9 +10,9 @@ use crate::reading::read_line;
 use sporc_base::Memory;
 use sporc_files::{Fault, Names};
 use sporc_line::Line;
-use sporc_member::Device;
 use sporc_outside::{Folder, Gate, Sink, write_all};
 use sporc_report::push_entries;
+use sporc_words::EntriesFrom;
 use std::alloc::Global;
 use std::sync::Wait;
 use std::thread::Threads;
@@ -25,17 +26,16 @@ pub fn list_entries<R: Threads + Wait + Sync, F: Folder, O: Sink, G: Gate + Sync
     alloc: Global,
     files: &mut F,
     out: &mut O,
-    names: &Names<'_>,
-    device: Device,
-    from: u32,
+    asked: &EntriesFrom,
     gate: &G,
 ) -> Result<(), Fault>
-    ensures outcome { EntriesOutcome names.now device from (use_of F.told files.old files.new)
-        (use_of O.told out.old out.new) result }
+    ensures outcome { EntriesOutcome (names_of_document asked.now.name) asked.now.device
+        asked.now.from (use_of F.told files.old files.new) (use_of O.told out.old out.new) result }
     ensures out_kept { (O.told out.old).faults ≤ (O.told out.new).faults }
 {
-    let line = read_line(rt, alloc, files, names, device, gate)?;
-    let lines = entry_lines(alloc, &line, from)?;
+    let names = Names::of_document(asked.name.as_str());
+    let line = read_line(rt, alloc, files, &names, asked.device, gate)?;
+    let lines = entry_lines(alloc, &line, asked.from)?;
     write_all(out, lines.as_bytes())?;
     Ok(())
 }

@@ -17,23 +17,17 @@ use sporc_entry::Genesis;
 use sporc_files::{Appended, Fault, File, Names, append_to_file, read_genesis_file};
 use sporc_order::Order;
 use sporc_outside::{AppendFile, Counted, Folder, Gate};
+use sporc_serve::KeptOrder;
 use sporc_store::{TailFault, TailFile};
 use std::alloc::Global;
 use std::sync::Wait;
 use std::thread::Threads;
 
-/// An order, and the tail that keeps its entries.
-#[derive(Drop)]
-pub struct KeptOrder<A: AppendFile> {
-    pub order: Order,
-    pub tail: LogTail<A>,
-}
-
 /// What a server begins with: an order with its tail, the name of the tail's file, and how many
 /// entries the log has.
 #[derive(Drop)]
 pub struct OpenedOrder<A: AppendFile> {
-    pub kept: KeptOrder<A>,
+    pub kept: KeptOrder<LogTail<A>>,
     pub name: String,
     pub logged: u32,
 }
@@ -41,7 +35,7 @@ pub struct OpenedOrder<A: AppendFile> {
 // An order with its tail, and how many entries the log has.
 #[derive(Drop)]
 struct LoggedOrder<A: AppendFile> {
-    kept: KeptOrder<A>,
+    kept: KeptOrder<LogTail<A>>,
     logged: u32,
 }
 

@@ -1,9 +1,9 @@
 //! The saved history of a device, read and examined.
 
-ghost use Rattle.std.specs.Prelude.{◌≡◌, ◌≤◌, [], ◌∷◌};
+ghost use Rattle.std.specs.Prelude.{◌≡◌, ◌≤◌, map};
 ghost use Rattle.sporc_files.specs.Names.{file_name};
 ghost use Rattle.sporc_files.specs.Uses.{AsksOnly};
-ghost use Rattle.sporc_commands.specs.Checking.{FindsLine};
+ghost use Rattle.sporc_commands.specs.Checking.{FindsLine, checked_files};
 
 use crate::examining::examine;
 use sporc_files::{
@@ -29,9 +29,7 @@ pub(crate) fn read_line<R: Threads + Wait + Sync, F: Folder, G: Gate + Sync>(
         (F.told files.new).faults result }
     ensures files { (F.told files.new).files ≡ (F.told files.old).files }
     ensures lent { (F.told files.new).lent ≡ (F.told files.old).lent }
-    ensures may_ask { AsksOnly (file_name names.now File.Genesis
-        ∷ file_name names.now (File.Key device) ∷ file_name names.now (File.Ring device.member)
-        ∷ file_name names.now (File.History device) ∷ [])
+    ensures may_ask { AsksOnly (map (file_name names.now) (checked_files device))
         (F.told files.old).asked (F.told files.new).asked }
     ensures kept { (F.told files.old).faults ≤ (F.told files.new).faults }
 {

@@ -1,70 +1,75 @@
 //! `serve NAME ADDRESS --sessions K --times T`.
 
-ghost use Rattle.std.specs.Prelude.{◌≡◌, ◌≤◌, [], ◌∷◌, Result};
+ghost use Rattle.std.specs.Prelude.{◌≡◌, ◌≤◌, map};
 ghost use Rattle.sporc_wire.specs.declared.limits.TheConstants.{MAX_SESSIONS};
 ghost use Rattle.sporc_outside.specs.Uses.{use_of};
 ghost use Rattle.sporc_outside.specs.Nets.{AreShutBehind};
-ghost use Rattle.sporc_files.specs.Names.{file_name};
+ghost use Rattle.sporc_files.specs.Names.{file_name, names_of_document};
 ghost use Rattle.sporc_files.specs.Uses.{AsksOnly};
-ghost use Rattle.sporc_commands.specs.Serving.{ended, serve_fault};
+ghost use Rattle.sporc_commands.specs.Serving.{ended, serve_fault, served_files};
 ghost use Rattle.sporc_commands.specs.Outcomes.{ServeOutcome};
 ghost use Rattle.sporc_commands.specs.Rounds.{AsksAgain};
-ghost use Rattle.sporc_commands.specs.Tails.{GivesBack, KeepsBehind, KeepsTail, RemovesTail};
+ghost use Rattle.sporc_commands.specs.Tails.{GivesLastBack, KeepsBehind, KeepsTail, RemovesTail};
 ghost use Rattle.sporc_commands.specs.Tails.{after_last};
-ghost use Rattle.sporc_files.specs.declared.fault.Fault.{Fault};
 
-use crate::opening::{KeptOrder, OpenedOrder, open_order};
-use crate::rounds::{RoundEnd, serve_rounds};
+use crate::opening::{OpenedOrder, open_order};
+use crate::rounds::{RoundEnd, Rounds, serve_rounds};
 use crate::tail::LogTail;
 use sporc_files::{Fault, File, Names, first_fault};
 use sporc_order::Order;
 use sporc_outside::{AppendFile, Counted, Folder, Gate, Listen, Sink};
-use sporc_serve::ServeFault;
+use sporc_serve::{KeptOrder, ServeFault};
+use sporc_words::Serve;
 use std::alloc::Global;
 use std::sync::Wait;
 use std::thread::Threads;
 
-/// `serve NAME ADDRESS --sessions K` serves so many sessions from the log of a document, or from an
-/// empty one if there is none, saves the log and writes `log LEN`, how many entries it then has,
-/// whatever came of the sessions. A fault of the server goes before one of saving, but out of
-/// memory at the saving before it.
+/// `serve NAME ADDRESS --sessions K --times T` serves so many sessions from the log of a document,
+/// or from an empty one if there is none, saves the log and writes `log LEN`, how many entries it
+/// then has, whatever came of the sessions; and so again, up to a time that does not end well. A
+/// fault of the server goes before one of saving, but out of memory at the saving before it.
 pub fn serve<R: Threads + Wait + Sync, F: Folder, N: Listen + Send, O: Sink, G: Gate + Sync>(
     rt: &R,
     alloc: Global,
     files: &mut F,
     net: &mut N,
     out: &mut O,
-    names: &Names<'_>,
-    address: &str,
-    sessions: u32,
-    times: u32,
+    asked: &Serve,
     gate: &G,
 ) -> Result<(), Fault>
 where
     F::Appended: Send,
     N::Link: Send,
-    requires positive { 1 ≤ sessions }
-    requires limit { sessions ≤ MAX_SESSIONS }
-    requires times_positive { 1 ≤ times }
-    ensures outcome { ServeOutcome names.now sessions times (use_of F.told files.old files.new)
-        (use_of O.told out.old out.new) (N.told net.old) (N.told net.new) result }
+    requires positive { 1 ≤ asked.now.sessions }
+    requires limit { asked.now.sessions ≤ MAX_SESSIONS }
+    requires times_positive { 1 ≤ asked.now.times }
+    ensures outcome { ServeOutcome (names_of_document asked.now.name) asked.now.sessions
+        asked.now.times (use_of F.told files.old files.new) (use_of O.told out.old out.new)
+        (N.told net.old) (N.told net.new) result }
     ensures lent { (F.told files.new).lent ≡ (F.told files.old).lent }
-    ensures files_may_ask { AsksOnly (file_name names.now File.Genesis
-        ∷ file_name names.now File.Tail ∷ file_name names.now File.Log ∷ [])
+    ensures files_may_ask { AsksOnly
+        (map (file_name (names_of_document asked.now.name)) served_files)
         (F.told files.old).asked (F.told files.new).asked }
     ensures files_kept { (F.told files.old).faults ≤ (F.told files.new).faults }
-    ensures net_may_ask { AsksAgain times (N.told net.old).asked
-        (N.told net.new).asked address.now }
+    ensures net_may_ask { AsksAgain asked.now.times (N.told net.old).asked (N.told net.new).asked
+        asked.now.address }
     ensures shut { AreShutBehind (N.told net.old).returned (N.told net.new).returned }
     ensures links_out { (N.told net.new).out ≡ (N.told net.old).out }
     ensures net_kept { (N.told net.old).faults ≤ (N.told net.new).faults }
     ensures out_kept { (O.told out.old).faults ≤ (O.told out.new).faults }
 {
-    let opened = open_order(rt, alloc, files, names, gate)?;
+    let names = Names::of_document(asked.name.as_str());
+    let opened = open_order(rt, alloc, files, &names, gate)?;
     let OpenedOrder { kept, name, logged } = opened;
-    let last = serve_rounds(
-        rt, alloc, files, net, out, names, address, kept, sessions, times, gate,
-    );
+    let address = asked.address.as_str();
+    let rounds = Rounds {
+        names: &names,
+        address,
+        sessions: asked.sessions,
+        times: asked.times,
+        gate,
+    };
+    let last = serve_rounds(rt, alloc, files, net, out, &rounds, kept);
     give_back(files, name.as_str(), logged, last)
 }
 
@@ -73,18 +78,16 @@ fn give_back<F: Folder>(
     files: &mut F,
     name: &str,
     logged: u32,
-    last: RoundEnd<F::Appended>,
+    last: RoundEnd<KeptOrder<LogTail<F::Appended>>>,
 ) -> Result<(), Fault>
-    requires tail { ∥ KeepsBehind F.Appended.told last.kept.tail last.kept.order.entries ∥₁ }
-    ensures given { (given : Result (Unit {0}) Fault)
-        × GivesBack name.now (use_of F.told files.old files.new) logged
-        last.kept.order.genesis.document last.kept.order.entries last.saved given
-        × (result ≡ after_last last.answer given) }
+    requires tail { ∥ KeepsBehind F.Appended.told last.held.tail last.held.order.entries ∥₁ }
+    ensures given { GivesLastBack name.now (use_of F.told files.old files.new) logged
+        last.held.order last.saved last.answer result }
     ensures lent { (F.told files.new).lent ≡ (F.told files.old).lent }
     ensures asked { (F.told files.new).asked ≡ (F.told files.old).asked }
     ensures kept { (F.told files.old).faults ≤ (F.told files.new).faults }
 {
-    let KeptOrder { order, tail } = last.kept;
+    let KeptOrder { order, tail } = last.held;
     let given = match last.saved {
         Ok(()) => remove_tail(files, name, tail),
         Err(_) => keep_tail(files, name, &order, logged, tail),

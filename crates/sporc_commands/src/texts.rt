@@ -5,6 +5,7 @@ ghost use Rattle.std.specs.Str.{encode_utf8_all};
 ghost use Rattle.sporc_outside.specs.Uses.{use_of};
 ghost use Rattle.sporc_line.specs.Document.{text_of};
 ghost use Rattle.sporc_line.specs.Good.{Good};
+ghost use Rattle.sporc_files.specs.Names.{names_of_document};
 ghost use Rattle.sporc_files.specs.Faults.{AnswersUnlessOutside};
 ghost use Rattle.sporc_commands.specs.Checking.{checked_line};
 ghost use Rattle.sporc_commands.specs.Telling.{text_at};
@@ -14,9 +15,9 @@ use crate::reading::read_line;
 use sporc_base::Memory;
 use sporc_files::{Fault, Names};
 use sporc_line::Line;
-use sporc_member::Device;
 use sporc_outside::{Folder, Gate, Sink, write_all};
 use sporc_text::Doc;
+use sporc_words::TextAt;
 use std::alloc::Global;
 use std::sync::Wait;
 use std::thread::Threads;
@@ -30,17 +31,16 @@ pub fn text<R: Threads + Wait + Sync, F: Folder, O: Sink, G: Gate + Sync>(
     alloc: Global,
     files: &mut F,
     out: &mut O,
-    names: &Names<'_>,
-    device: Device,
-    at: Option<u32>,
+    asked: &TextAt,
     gate: &G,
 ) -> Result<(), Fault>
-    ensures outcome { TextOutcome names.now device at (use_of F.told files.old files.new)
-        (use_of O.told out.old out.new) result }
+    ensures outcome { TextOutcome (names_of_document asked.now.name) asked.now.device asked.now.at
+        (use_of F.told files.old files.new) (use_of O.told out.old out.new) result }
     ensures out_kept { (O.told out.old).faults ≤ (O.told out.new).faults }
 {
-    let line = read_line(rt, alloc, files, names, device, gate)?;
-    let text = text_at(alloc, &line, at)?;
+    let names = Names::of_document(asked.name.as_str());
+    let line = read_line(rt, alloc, files, &names, asked.device, gate)?;
+    let text = text_at(alloc, &line, asked.at)?;
     write_all(out, text.as_bytes())?;
     Ok(())
 }

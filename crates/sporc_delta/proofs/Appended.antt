@@ -1,12 +1,10 @@
 -- Parts that are appended, joined with a last one of their kind.
 use Rattle.std.proofs.Common.{◌≡◌, ℕ, ◌+◌, ◌-◌, ◌<◌, ◌≤◌, true, false, List, [], ◌∷◌, ◌++◌, length, refl, ap, sym, subst, ◌∙◌, ◌⊎◌, inl, inr, append_assoc, arith, Some, Result, Ok, Err, set}
-use Rattle.std.proofs.lemmas.List.{map-append, length-append, replicate-append-replicate, append-nil}
+use Rattle.sporc_delta.proofs.Common.{map-append, length-append, replicate-append-replicate, append-nil, slice_get, OnOk, Part, KeepRun, InsertText, RemoveRun, Keep, Insert, base_len, out_len}
+use Rattle.sporc_delta.proofs.Common.{keep_marks, remove_marks, insert_marks, part_marks, marks_of, same_kind, part_len, AreRuns, Appends, kept_by, removed_by, inserted_by, kept_at_end, removed_at_end}
+use Rattle.sporc_delta.proofs.Common.{text_at_end}
 use Rattle.std.proofs.Math.Seq.{set-append_seam}
-use Rattle.std.specs.Prelude.{slice_get, OnOk}
-use Rattle.sporc_delta.specs.declared.part.Part.{Part}
-use Rattle.sporc_delta.specs.declared.part.Part.TheVariants.{Keep as KeepRun, Insert as InsertText, Remove as RemoveRun}
-use Rattle.sporc_delta.specs.Marks.{Keep, Remove, Insert, base_len, out_len, keep_marks, remove_marks, insert_marks}
-use Rattle.sporc_delta.specs.Parts.{part_marks, marks_of, same_kind, part_len, AreRuns, Appends, kept_by, removed_by, inserted_by, kept_at_end, removed_at_end, text_at_end}
+use Rattle.sporc_delta.specs.Marks.{Remove}
 use Rattle.sporc_delta.proofs.Lengths.{out_len-append, base_len-append, out_len-keep_marks, base_len-remove_marks, out_len-insert_marks}
 use Rattle.sporc_delta.proofs.Runs.{marks_of-append}
 

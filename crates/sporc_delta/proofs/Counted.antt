@@ -1,12 +1,10 @@
 -- Texts in UTF-8 that count their characters.
 use Rattle.std.proofs.Common.{◌≡◌, ℕ, zero, suc, [], ◌∷◌, take, drop, ◌+◌, ◌≤◌, Bool, true, false, List, ◌++◌, length, refl, ap, sym, ◌∙◌, arith, add-one, append_assoc, ◌<◌, ◌-◌, Option, Some, None}
-use Rattle.std.specs.Prelude.{MatchOption}
-use Rattle.std.proofs.lemmas.List.{append-nil, length-drop, length-take, take_at, drop_at, length-append, take-append-drop}
-use Rattle.std.proofs.lemmas.Str.{chars-append, encodes-chars, length-le-encodes, encodes-append, scalars-chars, chars-encodes, chars_past_char, chars-nil, IsUtf8-past_char, IsCharBoundary-at_seam, IsUtf8-append, IsUtf8-from_is_utf8, is_utf8-from_IsUtf8}
+use Rattle.sporc_delta.proofs.Common.{MatchOption, append-nil, length-drop, length-take, take_at, drop_at, length-append, take-append-drop, chars-append, encodes-chars, length-le-encodes}
+use Rattle.sporc_delta.proofs.Common.{encodes-append, scalars-chars, chars-encodes, chars_past_char, chars-nil, IsUtf8-past_char, IsCharBoundary-at_seam, IsUtf8-append, IsUtf8-from_is_utf8}
+use Rattle.sporc_delta.proofs.Common.{is_utf8-from_IsUtf8, chars, all_scalars, IsUtf8, IsCharBoundary, is_utf8, encode_utf8_all, and_parts}
 use lib.Utf8.{scalar}
 use Rattle.std.specs.Char.{encode_utf8}
-use Rattle.std.specs.Str.{chars, all_scalars, IsUtf8, IsCharBoundary, is_utf8, encode_utf8_all}
-use Rattle.std.proofs.lemmas.Bool.{and_parts}
 use Rattle.sporc_delta.specs.Texts.{TextInvariant}
 
 -- the bytes are those of their characters

@@ -1,21 +1,15 @@
 -- Reading parts one after the other, as a loop does.
 use Rattle.std.proofs.Common.{◌≡◌, ℕ, zero, suc, ◌+◌, ◌≤◌, ◌<◌, Bool, true, false, cond, eqb, List, [], ◌∷◌, ◌++◌, length, drop, Option, Some, None, Result, Ok, Err, refl, sym, ap, subst, ◌∙◌, append_assoc, arith}
-use Rattle.std.proofs.lemmas.Bool.{eqb-true, eqb-false, ne_eqb}
-use Rattle.std.proofs.lemmas.List.{append-nil}
-use Rattle.std.specs.Prelude.{IsTrue, ◌↔◌, slice_index}
-use Rattle.std.specs.Int.{w64, from_be_bytes}
-use Rattle.std.specs.Str.{chars, is_utf8}
+use Rattle.sporc_delta.proofs.Common.{eqb-true, eqb-false, ne_eqb, append-nil, IsTrue, ◌↔◌, slice_index, w64, from_be_bytes, chars, is_utf8, Part, InsertText, Remove, Mark, marks_of, kind_of}
+use Rattle.sporc_delta.proofs.Common.{part_marks, kind_at, count_at, is_kind, body_at}
 use Rattle.sporc_bytes.specs.Fields.{Reading, ◌>>=◌, bytes_at}
 use Rattle.sporc_bytes.proofs.Fields.{bind_ok, bytes_len, fault_as_ok}
 use Rattle.sporc_delta.specs.declared.fault.DeltaFault.{DeltaFault}
 use Rattle.sporc_delta.specs.declared.fault.DeltaFault.TheVariants as faults
 use Rattle.sporc_delta.specs.declared.part.Kind.{Kind}
 use Rattle.sporc_delta.specs.declared.part.Kind.TheVariants as kinds
-use Rattle.sporc_delta.specs.declared.part.Part.{Part}
-use Rattle.sporc_delta.specs.declared.part.Part.TheVariants.{Keep, Insert as InsertText, Remove}
-use Rattle.sporc_delta.specs.Marks.{Mark}
-use Rattle.sporc_delta.specs.Parts.{marks_of, kind_of, part_marks}
-use Rattle.sporc_delta.specs.Reading.{piece_at, kind_at, count_at, is_kind, head_at, text_at, body_at, part_at, parts_at, read_delta}
+use Rattle.sporc_delta.specs.declared.part.Part.TheVariants.{Keep}
+use Rattle.sporc_delta.specs.Reading.{piece_at, head_at, text_at, part_at, parts_at, read_delta}
 
 -- what was read before, and what is still read
 abbrev pub with_front : List Mark → Result (List Part) DeltaFault → Result (List Mark) DeltaFault

@@ -1,27 +1,20 @@
 -- What is read is spelled so, and what is spelled so is read.
 use Rattle.std.proofs.Common.{◌≡◌, ℕ, zero, suc, ◌+◌, ◌≤◌, ◌<◌, Bool, true, false, ◌||◌, cond, eqb, ltb, List, [], ◌∷◌, ◌++◌, length, drop, Option, Some, None, Ok, Err, refl, sym, ap, subst, ◌∙◌, append_assoc, arith}
-use Rattle.std.specs.Prelude.{slice_index}
-use Rattle.std.specs.Int.{w64, from_be_bytes, to_be_bytes}
-use Rattle.std.specs.Str.{all_scalars, encode_utf8_all}
-use Rattle.std.proofs.lemmas.Bool.{eqb-false, eqb-true, le-ltb, ltb-false, ne_eqb, or_parts}
-use Rattle.std.proofs.lemmas.List.{append-nil, length-append}
+use Rattle.sporc_delta.proofs.Common.{slice_index, w64, from_be_bytes, to_be_bytes, all_scalars, encode_utf8_all, eqb-false, eqb-true, le-ltb, ltb-false, ne_eqb, or_parts, append-nil, length-append}
+use Rattle.sporc_delta.proofs.Common.{chars-encodes, encodes-chars, scalars-chars, IsUtf8-from_is_utf8, is_utf8-from_IsUtf8, length-le-encodes, MAX_COUNT, Part, InsertText, Remove, Mark, marks_of}
+use Rattle.sporc_delta.proofs.Common.{runs, kind_of, part_len, same_kind, BeginsUnlike, AreRuns, kind_byte, part_bytes, parts_bytes, HasSpelling, HaveSpellings, Spells, kind_at, count_at, is_kind}
+use Rattle.sporc_delta.proofs.Common.{body_at}
 use Rattle.std.proofs.lemmas.Nat.{be_bytes_8, from_be_bytes-to_be_bytes_8}
-use Rattle.std.proofs.lemmas.Str.{chars-encodes, encodes-chars, scalars-chars, IsUtf8-from_is_utf8, is_utf8-from_IsUtf8, length-le-encodes}
 use Rattle.sporc_base.specs.Bytes.{IsBytes}
 use Rattle.sporc_base.proofs.ByteLemmas.{IsBytes-rest}
 use Rattle.sporc_bytes.specs.Fields.{Reading, ◌>>=◌}
 use Rattle.sporc_bytes.proofs.Fields.{Takes, Takes-then, bind_ok, bytes_again, bytes_takes}
 use Rattle.sporc_delta.specs.declared.encode.TheConstants.{INSERT, KEEP, REMOVE}
-use Rattle.sporc_delta.specs.declared.limits.TheConstants.{MAX_COUNT}
 use Rattle.sporc_delta.specs.declared.fault.DeltaFault.TheVariants as faults
 use Rattle.sporc_delta.specs.declared.part.Kind.{Kind}
 use Rattle.sporc_delta.specs.declared.part.Kind.TheVariants as kinds
-use Rattle.sporc_delta.specs.declared.part.Part.{Part}
-use Rattle.sporc_delta.specs.declared.part.Part.TheVariants.{Keep, Insert as InsertText, Remove}
-use Rattle.sporc_delta.specs.Marks.{Mark}
-use Rattle.sporc_delta.specs.Parts.{marks_of, runs, kind_of, part_len, same_kind, BeginsUnlike, AreRuns}
-use Rattle.sporc_delta.specs.Format.{kind_byte, part_bytes, parts_bytes, HasSpelling, HaveSpellings, Spells}
-use Rattle.sporc_delta.specs.Reading.{kind_at, count_at, is_kind, head_at, text_at, body_at, part_at, parts_at, read_delta}
+use Rattle.sporc_delta.specs.declared.part.Part.TheVariants.{Keep}
+use Rattle.sporc_delta.specs.Reading.{head_at, text_at, part_at, parts_at, read_delta}
 use Rattle.sporc_delta.proofs.Counted.{IsUtf8-encode_all}
 use Rattle.sporc_delta.proofs.Decoding.{guard_ok, head_ok, text_ok, no_parts}
 use Rattle.sporc_delta.proofs.Runs.{runs-marks_of, marks_of-runs, AreRuns-runs}

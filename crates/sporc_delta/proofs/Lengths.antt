@@ -1,6 +1,7 @@
 -- The lengths of the texts before and after a delta.
 use Rattle.std.proofs.Common.{◌≡◌, ℕ, zero, suc, ◌+◌, List, [], ◌∷◌, ◌++◌, length, refl, ap, arith}
-use Rattle.sporc_delta.specs.Marks.{Mark, Keep, Remove, Insert, base_len, out_len, inserted_len, keep_marks, remove_marks, insert_marks}
+use Rattle.sporc_delta.proofs.Common.{Mark, Keep, Insert, base_len, out_len, keep_marks, remove_marks, insert_marks}
+use Rattle.sporc_delta.specs.Marks.{Remove, inserted_len}
 
 pub base_len-append : (ms ns : List Mark) → base_len (ms ++ ns) ≡ base_len ms + base_len ns
 base_len-append [] ns = omega arith

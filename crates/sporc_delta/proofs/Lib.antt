@@ -10,3 +10,4 @@ pub mod Grammar
 pub mod SameLists
 pub mod Same
 pub mod Typing
+pub mod Common

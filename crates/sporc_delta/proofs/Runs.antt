@@ -1,9 +1,8 @@
 -- The parts of a delta are its runs of equal marks.
 use Rattle.std.proofs.Common.{◌≡◌, ℕ, zero, suc, List, [], ◌∷◌, ◌++◌, refl, ap, sym, ◌∙◌, append_assoc, arith}
-use Rattle.sporc_delta.specs.declared.part.Part.{Part}
-use Rattle.sporc_delta.specs.declared.part.Part.TheVariants.{Keep as KeepRun, Insert as InsertText, Remove as RemoveRun}
-use Rattle.sporc_delta.specs.Marks.{Mark, Keep, Remove, Insert, keep_marks, remove_marks, insert_marks}
-use Rattle.sporc_delta.specs.Parts.{part_marks, marks_of, with_mark, runs, BeginsUnlike, AreRuns, same_kind}
+use Rattle.sporc_delta.proofs.Common.{Part, KeepRun, InsertText, RemoveRun, Mark, Keep, Insert, keep_marks, remove_marks, insert_marks, part_marks, marks_of, with_mark, runs, BeginsUnlike, AreRuns}
+use Rattle.sporc_delta.proofs.Common.{same_kind}
+use Rattle.sporc_delta.specs.Marks.{Remove}
 
 pub marks_of-append : (ps qs : List Part) → marks_of (ps ++ qs) ≡ marks_of ps ++ marks_of qs
 marks_of-append [] qs = refl

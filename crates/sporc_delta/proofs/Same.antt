@@ -1,13 +1,10 @@
 -- The tests of sameness tell whether two deltas are the same.
 use Rattle.std.proofs.Common.{◌≡◌, List, refl, ap, sym, ◌∙◌}
+use Rattle.sporc_delta.proofs.Common.{Part, Remove, Mark, marks_of, runs, same_part, same_delta}
 use Rattle.std.specs.Bool.{Decides}
 use Rattle.std.proofs.lemmas.Bool.Decides.{Decides-eqb}
 use Rattle.std.proofs.lemmas.Slice.Eq.{slice_eq-Decides, bytes_eq-Decides}
-use Rattle.sporc_delta.specs.declared.part.Part.{Part}
-use Rattle.sporc_delta.specs.declared.part.Part.TheVariants.{Keep, Insert, Remove}
-use Rattle.sporc_delta.specs.Marks.{Mark}
-use Rattle.sporc_delta.specs.Parts.{marks_of, runs}
-use Rattle.sporc_delta.specs.Same.{same_part, same_delta}
+use Rattle.sporc_delta.specs.declared.part.Part.TheVariants.{Keep, Insert}
 use Rattle.sporc_delta.proofs.Runs.{marks_of-runs}
 
 pub same_part-Decides : (p q : Part) → Decides (same_part p q) (p ≡ q)

@@ -1,19 +1,8 @@
 -- Two lists that are compared element by element.
-use Rattle.std.proofs.Common.{◌≡◌, ℕ, suc, ◌<◌, Bool, true, false, ◌&&◌, List, [], ◌∷◌, length, drop, get_or, refl, ap, ◌∙◌, drop-cons}
+use Rattle.std.proofs.Common.{◌≡◌, ℕ, suc, ◌<◌, Bool, false, ◌&&◌, List, length, drop, get_or, refl, drop-cons}
 use Rattle.std.specs.Cmp.Lexicographic.{pointwise}
 
 module _ {X : Type 0} (same : X → X → Bool) where
-  -- lists of different lengths are not one
-  pub different_lengths : (xs ys : List X) → (length xs ≡ length ys → ⊥) → pointwise same xs ys ≡ false
-  different_lengths [] [] h = absurd (h refl)
-  different_lengths [] (y ∷ ys) h = refl
-  different_lengths (x ∷ xs) [] h = refl
-  different_lengths (x ∷ xs) (y ∷ ys) h = ap (λ b. same x y && b) (different_lengths xs ys (λ e. h (ap suc e))) ∙ none (same x y)
-    where
-      none : (b : Bool) → (b && false) ≡ false
-      none true = refl
-      none false = refl
-
   first_of_both : (xs ys : List X) (i : ℕ) (x y : X) → i < length xs → i < length ys → x ≡ get_or xs i x → y ≡ get_or ys i y
       → pointwise same (drop i xs) (drop i ys) ≡ (same x y && pointwise same (drop (suc i) xs) (drop (suc i) ys))
   first_of_both xs ys i x y in_x in_y is_x is_y = rw (drop-cons xs i x in_x, drop-cons ys i y in_y, ← is_x, ← is_y) refl

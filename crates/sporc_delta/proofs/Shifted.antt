@@ -1,14 +1,8 @@
 -- Deltas that keep another count at one of their ends.
 use Rattle.std.proofs.Common.{◌≡◌, ℕ, zero, suc, ◌+◌, ◌-◌, ◌<◌, ◌≤◌, List, [], ◌∷◌, ◌++◌, length, drop, take, set, refl, ap, sym, subst, ◌∙◌, arith}
-use Rattle.std.proofs.lemmas.List.{append-nil, drop_at, length-append, length-replicate, take_at}
-use Rattle.sporc_delta.specs.declared.limits.TheConstants.{MAX_TEXT_LEN}
-use Rattle.sporc_delta.specs.declared.part.Part.{Part}
-use Rattle.sporc_delta.specs.declared.part.Part.TheVariants.{Keep as KeepRun, Insert as InsertText, Remove as RemoveRun}
+use Rattle.sporc_delta.proofs.Common.{append-nil, drop_at, length-append, length-replicate, take_at, MAX_TEXT_LEN, Part, KeepRun, InsertText, RemoveRun, First, Last, Mark, Keep, base_len, out_len}
+use Rattle.sporc_delta.proofs.Common.{keep_marks, AreRuns, DeltaInvariant, kept_at_end, marks_of, runs, CanShift, Shifts, count_of, kept_at_start, kept_first, kept_last, kept_there, shifted}
 use Rattle.sporc_delta.specs.declared.shift.Shift.{Shift}
-use Rattle.sporc_delta.specs.declared.shift.Shift.TheVariants.{First, Last}
-use Rattle.sporc_delta.specs.Marks.{Mark, Keep, base_len, out_len, keep_marks}
-use Rattle.sporc_delta.specs.Parts.{AreRuns, DeltaInvariant, kept_at_end, marks_of, runs}
-use Rattle.sporc_delta.specs.Shifts.{CanShift, Shifts, count_of, kept_at_start, kept_first, kept_last, kept_there, shifted}
 use Rattle.sporc_delta.proofs.Appended.{AreRuns-grown, kept_end, marks_of-last, same_keep, set_last}
 use Rattle.sporc_delta.proofs.Lengths.{base_len-append, base_len-keep_marks, out_len-append, out_len-keep_marks}
 use Rattle.sporc_delta.proofs.Runs.{marks_of-runs, runs-marks_of}

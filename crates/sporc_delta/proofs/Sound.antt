@@ -1,9 +1,6 @@
 -- What a delta keeps of its parts, as they grow at the end.
 use Rattle.std.proofs.Common.{◌≡◌, ℕ, ◌+◌, ◌≤◌, List, refl, ap, ◌∙◌, arith}
-use Rattle.sporc_delta.specs.declared.limits.TheConstants.{MAX_TEXT_LEN}
-use Rattle.sporc_delta.specs.declared.part.Part.{Part}
-use Rattle.sporc_delta.specs.Marks.{Mark, base_len, out_len}
-use Rattle.sporc_delta.specs.Parts.{marks_of, DeltaInvariant, Appends}
+use Rattle.sporc_delta.proofs.Common.{MAX_TEXT_LEN, Part, Mark, base_len, out_len, marks_of, DeltaInvariant, Appends}
 use Rattle.sporc_delta.proofs.Lengths.{base_len-append, out_len-append}
 
 -- the lengths after these marks, where the delta before is seen as `seen`

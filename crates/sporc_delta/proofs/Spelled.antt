@@ -1,30 +1,17 @@
 -- The bytes of parts.
 use Rattle.std.proofs.Common.{◌≡◌, ℕ, suc, ◌<◌, ◌+◌, ◌*◌, ◌≤◌, List, [], ◌∷◌, ◌++◌, length, ap, sym, subst, ◌∙◌, arith, take, drop, get_or, add-one, append_assoc}
-use Rattle.std.proofs.lemmas.List.{length-append, append-nil, take_all, drop_all, take_more}
+use Rattle.sporc_delta.proofs.Common.{length-append, append-nil, take_all, drop_all, take_more, length-encode, len_utf8_bounds, w64, to_be_bytes, encode_utf8_all, AllByRecursion, Part, InsertText}
+use Rattle.sporc_delta.proofs.Common.{Remove, out_len, part_marks, marks_of, part_bytes, parts_bytes, IsTypedPart}
 use Rattle.std.proofs.Math.Seq.{drop-cons}
 use Rattle.std.specs.Char.{encode_utf8}
-use Rattle.std.proofs.lemmas.Str.{length-encode, len_utf8_bounds}
-use Rattle.std.specs.Int.{w64, to_be_bytes}
-use Rattle.std.specs.Str.{encode_utf8_all}
-use Rattle.std.specs.List.{AllByRecursion}
 use Rattle.sporc_base.proofs.ListLemmas.{all_append}
-use Rattle.sporc_delta.specs.declared.part.Part.{Part}
-use Rattle.sporc_delta.specs.declared.part.Part.TheVariants.{Keep, Insert as InsertText, Remove}
-use Rattle.sporc_delta.specs.Marks.{out_len}
-use Rattle.sporc_delta.specs.Parts.{part_marks, marks_of}
-use Rattle.sporc_delta.specs.Format.{part_bytes, parts_bytes}
-use Rattle.sporc_delta.specs.Typed.{IsTypedPart}
+use Rattle.sporc_delta.specs.declared.part.Part.TheVariants.{Keep}
 use Rattle.sporc_delta.proofs.Lengths.{out_len-append, out_len-insert_marks}
 
 -- a character has at most four bytes
 pub length-encode_all : (text : List ℕ) → length (encode_utf8_all text) ≤ 4 * length text
 length-encode_all [] = omega arith
 length-encode_all (c ∷ text) = omega (arith, length-encode_all text, length-append (encode_utf8 c) (encode_utf8_all text), length-encode c, len_utf8_bounds c)
-
--- and at least one
-pub length-le-encode_all : (text : List ℕ) → length text ≤ length (encode_utf8_all text)
-length-le-encode_all [] = omega arith
-length-le-encode_all (c ∷ text) = omega (arith, length-le-encode_all text, length-append (encode_utf8 c) (encode_utf8_all text), length-encode c, len_utf8_bounds c)
 
 -- a part has nine bytes, and the bytes of its text
 length-part_bytes : (p : Part) → length (part_bytes p) ≤ 9 + 4 * out_len (part_marks p)

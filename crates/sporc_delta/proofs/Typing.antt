@@ -1,15 +1,8 @@
 -- Deltas of short texts are typed.
 use Rattle.std.proofs.Common.{◌≡◌, ℕ, zero, suc, ◌+◌, ◌-◌, ◌^◌, ◌<◌, true, ◌&&◌, List, [], ◌∷◌, ◌++◌, length, refl, sym, ap, ap₂, ◌∙◌, subst, arith, length-append, append-nil}
-use Rattle.std.specs.Int.{w64, to_be_bytes}
-use Rattle.std.specs.List.{AllByRecursion}
-use Rattle.std.specs.Str.{all_scalars, encode_utf8_all}
-use Rattle.std.proofs.lemmas.Bool.{and_parts}
-use Rattle.sporc_delta.specs.declared.part.Part.{Part}
-use Rattle.sporc_delta.specs.declared.part.Part.TheVariants.{Keep as KeepRun, Insert as InsertText, Remove as RemoveRun}
-use Rattle.sporc_delta.specs.Format.{delta_bytes, part_bytes, parts_bytes}
-use Rattle.sporc_delta.specs.Marks.{Mark, Keep, Remove, Insert, base_len, remove_marks, insertion, insert_marks, removal, keep_marks}
-use Rattle.sporc_delta.specs.Parts.{marks_of, part_marks, runs}
-use Rattle.sporc_delta.specs.Typed.{IsTypedDelta, IsTypedPart}
+use Rattle.sporc_delta.proofs.Common.{w64, to_be_bytes, AllByRecursion, all_scalars, encode_utf8_all, and_parts, Part, KeepRun, InsertText, RemoveRun, delta_bytes, part_bytes, parts_bytes, Mark, Keep}
+use Rattle.sporc_delta.proofs.Common.{Insert, base_len, remove_marks, insert_marks, keep_marks, marks_of, part_marks, runs, IsTypedDelta, IsTypedPart}
+use Rattle.sporc_delta.specs.Marks.{Remove, insertion, removal}
 use Rattle.sporc_delta.proofs.Lengths.{base_len-append, base_len-keep_marks, base_len-remove_marks}
 use Rattle.sporc_delta.proofs.Runs.{marks_of-runs}
 

@@ -1,16 +1,7 @@
 -- The document that a first message names, by its place and by the orders that are held.
 use Rattle.std.proofs.Common.{◌≡◌, ◌∙◌, ◌||◌, ℕ, zero, suc, ◌+◌, Bool, true, false, List, [], ◌∷◌, ◌++◌, map, reverse, find, Option, Some, None, Result, Ok, Err, slice_get, cond, refl, ap, sym, subst, arith, bytes_eq}
-use Rattle.std.specs.List.{position_from, list_any}
-use Rattle.std.proofs.lemmas.List.{reverse-append, reverse-reverse}
-use Rattle.std.proofs.lemmas.Slice.Eq.{bytes_eq-Decides}
-use Rattle.sporc_wire.specs.declared.to_server.ToServer.{ToServer}
-use Rattle.sporc_wire.specs.declared.to_server.ToServer.TheVariants.{Hello, Submit, Pull}
-use Rattle.sporc_order.specs.OrderModel.{OrderModel}
-use Rattle.sporc_serve.specs.declared.end.SessionEnd.{SessionEnd}
-use Rattle.sporc_serve.specs.Visits.{Visit}
-use Rattle.sporc_docs.specs.Lists.{is_of, list_of, AreApart}
-use Rattle.sporc_docs.specs.Machine.{bound_by}
-use Rattle.sporc_docs.specs.Sessions.{named_by, IsUnboundEnd, IsBound}
+use Rattle.sporc_docs.proofs.Common.{position_from, list_any, reverse-append, reverse-reverse, bytes_eq-Decides, ToServer, Hello, Submit, Pull, OrderModel, SessionEnd, Visit, is_of, list_of, AreApart}
+use Rattle.sporc_docs.proofs.Common.{bound_by, named_by, IsUnboundEnd, IsBound}
 use Rattle.sporc_docs.proofs.Places.{none_more, apart_more}
 use Rattle.sporc_docs.proofs.Columns.{document_at}
 

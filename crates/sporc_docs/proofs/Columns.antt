@@ -1,27 +1,15 @@
 -- The passes of one lock: number 0, those that were split from it, and the sessions that had them.
 use Rattle.std.proofs.Common.{◌≡◌, ◌≢◌, ◌∙◌, ◌==◌, ℕ, suc, ◌+◌, ◌≤◌, ◌<◌, Bool, true, false, List, [], ◌∷◌, length, drop, map, replicate, All, Option, Some, None, get_or, slice_get, refl, ap, sym, subst, arith, inl, inr}
+use Rattle.sporc_docs.proofs.Common.{Known, Pass, first_known, splitting, known_of, read_of, OrderModel, SessionEnd, Item, by_of, placed, IsLogOf, IsWornAt, log_at_first, Visit, Splits, Joins, IsBack}
+use Rattle.sporc_docs.proofs.Common.{Ends, Session, IsOneOf, AttendsDocument, AttendAll, Serves}
 use Rattle.std.proofs.lemmas.List.Elements.{All-head, All-tail}
-use Rattle.sporc_turn.specs.declared.known.Known.{Known}
 use Rattle.sporc_turn.specs.declared.known.Joined.{Joined}
 use Rattle.sporc_turn.specs.declared.limits.TheConstants.{MAX_TICKETS}
-use Rattle.sporc_turn.specs.declared.pass.Pass.{Pass}
-use Rattle.sporc_turn.specs.Knowing.{first_known, splitting}
 use Rattle.sporc_turn.specs.Log.{StartsWith, own}
-use Rattle.sporc_turn.specs.Passes.{known_of, read_of}
-use Rattle.sporc_order.specs.OrderModel.{OrderModel}
-use Rattle.sporc_serve.specs.declared.end.SessionEnd.{SessionEnd}
-use Rattle.sporc_serve.specs.declared.item.Item.{Item}
-use Rattle.sporc_serve.specs.Logs.{by_of, placed, IsLogOf}
-use Rattle.sporc_serve.specs.Served.{IsWornAt, log_at_first}
 use Rattle.sporc_serve.specs.Turns.{HasReadLast}
-use Rattle.sporc_serve.specs.Visits.{Visit}
 use Rattle.sporc_serve.proofs.Tracing.{starts_then, starts_same}
 use Rattle.sporc_serve.proofs.Serving.{none_of}
 use Rattle.sporc_serve.proofs.Turning.{starts_log}
-use Rattle.sporc_docs.specs.Hands.{Splits, Joins}
-use Rattle.sporc_docs.specs.Locks.{IsBack, Ends}
-use Rattle.sporc_docs.specs.Served.{Session, IsOneOf, AttendsDocument, AttendAll}
-use Rattle.sporc_docs.specs.Sessions.{Serves}
 
 -- ---- number 0
 

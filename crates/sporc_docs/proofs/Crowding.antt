@@ -1,31 +1,13 @@
 -- Sessions of many documents beside one another.
 use Rattle.std.proofs.Common.{◌≡◌, ◌∙◌, ℕ, suc, ◌+◌, ◌≤◌, Bool, true, false, List, [], ◌∷◌, length, cond, Option, Some, None, Result, Ok, Err, slice_get, refl, sym, subst, arith, bytes_eq}
-use Rattle.std.specs.List.{position_from}
+use Rattle.sporc_docs.proofs.Common.{position_from, NetTold, StreamTold, Pass, Turn, known_of, stream_of, ToServer, Hello, Submit, Pull, Ghosts, Desk, SessionEnd, ServeFault, Item, stand_at, Inlet}
+use Rattle.sporc_docs.proofs.Common.{inlet_at, IsFirst, visit, came, handed_back, AreFrom, AreBehind, TellsOf, with_end, Hand, IsCrowd, AllHands, Both, HasPass, HavePasses, LogsBegin, MayHave}
+use Rattle.sporc_docs.proofs.Common.{pass_at, named_by, IsUnboundEnd, Sits}
 use Rattle.sporc_outside.specs.Counts.{Rose}
 use Rattle.sporc_outside.specs.Told.{AppendsItem, TakesItem, IsFalseIfTold}
-use Rattle.sporc_outside.specs.Nets.{NetTold}
-use Rattle.sporc_outside.specs.Streams.{StreamTold}
-use Rattle.sporc_turn.specs.declared.pass.Pass.{Pass}
-use Rattle.sporc_turn.specs.declared.turn.Turn.{Turn}
-use Rattle.sporc_turn.specs.Passes.{known_of}
-use Rattle.sporc_wire.specs.Messages.{stream_of}
-use Rattle.sporc_wire.specs.declared.to_server.ToServer.{ToServer}
-use Rattle.sporc_wire.specs.declared.to_server.ToServer.TheVariants.{Hello, Submit, Pull}
-use Rattle.sporc_order.specs.declared.tail.Tail.{Ghosts}
-use Rattle.sporc_serve.specs.declared.desk.Desk.{Desk}
-use Rattle.sporc_serve.specs.declared.end.SessionEnd.{SessionEnd}
 use Rattle.sporc_serve.specs.declared.end.SessionEnd.TheVariants.{Closed, LinkEnded, LinkFault, BadFrame, Worn, Memory, Unkept}
-use Rattle.sporc_serve.specs.declared.fault.ServeFault.{ServeFault}
 use Rattle.sporc_serve.specs.declared.fault.ServeFault.TheVariants as faults
-use Rattle.sporc_serve.specs.declared.item.Item.{Item}
-use Rattle.sporc_serve.specs.Traces.{stand_at}
-use Rattle.sporc_serve.specs.Endings.{Inlet, inlet_at, IsFirst}
-use Rattle.sporc_serve.specs.Visits.{visit, came, handed_back, AreFrom, AreBehind, TellsOf, with_end}
 use Rattle.sporc_serve.proofs.Crowding.{IsLastTicket, last_ticket, tells_more, kept_more, from_more, from_none, behind_more, behind_none}
-use Rattle.sporc_docs.specs.declared.hands.Hand.{Hand}
-use Rattle.sporc_docs.specs.Crowds.{IsCrowd}
-use Rattle.sporc_docs.specs.Hands.{AllHands, Both, HasPass, HavePasses, LogsBegin, MayHave, pass_at}
-use Rattle.sporc_docs.specs.Sessions.{named_by, IsUnboundEnd, Sits}
 use Rattle.sporc_docs.proofs.Ending.{same_place, both_at}
 
 -- a place that is named is within the documents

@@ -1,27 +1,9 @@
 -- The sessions of many documents, once their passes were joined back.
 use Rattle.std.proofs.Common.{◌≡◌, ◌≢◌, ◌∙◌, ℕ, zero, suc, List, [], ◌∷◌, length, map, reverse, Option, Some, None, Result, Err, slice_get, refl, ap, sym, subst, arith}
-use Rattle.std.proofs.lemmas.List.{length-map}
-use Rattle.sporc_outside.specs.Nets.{NetTold}
-use Rattle.sporc_turn.specs.declared.known.Known.{Known}
-use Rattle.sporc_turn.specs.declared.pass.Pass.{Pass}
-use Rattle.sporc_turn.specs.declared.turn.Turn.{Turn}
-use Rattle.sporc_turn.specs.Knowing.{splitting}
-use Rattle.sporc_turn.specs.Passes.{known_of}
-use Rattle.sporc_order.specs.OrderModel.{OrderModel}
-use Rattle.sporc_order.specs.declared.tail.Tail.{Ghosts}
-use Rattle.sporc_serve.specs.declared.desk.Desk.{Desk}
-use Rattle.sporc_serve.specs.declared.item.Item.{Item}
-use Rattle.sporc_serve.specs.Served.{log_at_first}
-use Rattle.sporc_serve.specs.declared.fault.ServeFault.{ServeFault}
+use Rattle.sporc_docs.proofs.Common.{length-map, NetTold, Known, Pass, Turn, splitting, known_of, OrderModel, Ghosts, Desk, Item, log_at_first, ServeFault, Visit, CameOpen, came, handed_back, AreFrom}
+use Rattle.sporc_docs.proofs.Common.{AreBehind, NoneUnkept, TellsOf, Hand, AllSit, IsCrowd, Both, AllHands, HasFirst, HasPass, MayHave, LogsBegin, Splits, SplitsAt, JoinsAt, column, pass_at, AreApart}
+use Rattle.sporc_docs.proofs.Common.{AreBack, IsBack, KnowsFirst, Ends, AreEnding, AreBound, visits_of, Serves}
 use Rattle.sporc_serve.specs.declared.fault.ServeFault.TheVariants as faults'
-use Rattle.sporc_serve.specs.Visits.{Visit, CameOpen, came, handed_back, AreFrom, AreBehind, NoneUnkept, TellsOf}
-use Rattle.sporc_docs.specs.declared.hands.Hand.{Hand}
-use Rattle.sporc_docs.specs.Crowds.{AllSit, IsCrowd}
-use Rattle.sporc_docs.specs.Hands.{Both, AllHands, HasFirst, HasPass, MayHave, LogsBegin, Splits, SplitsAt, JoinsAt, column, pass_at}
-use Rattle.sporc_docs.specs.Lists.{AreApart}
-use Rattle.sporc_docs.specs.Locks.{AreBack, IsBack, KnowsFirst, Ends, AreEnding}
-use Rattle.sporc_docs.specs.Served.{AreBound, visits_of}
-use Rattle.sporc_docs.specs.Sessions.{Serves}
 use Rattle.sporc_docs.proofs.Binding.{bound_to, documents_of, apart_reverse, one_place}
 use Rattle.sporc_docs.proofs.Columns.{Seat, session_of, AllServe, back, ends}
 use Rattle.sporc_docs.proofs.Opening.{both_length}

@@ -1,11 +1,8 @@
 -- Worked examples: two documents, and sessions of each.
 use Rattle.std.proofs.Common.{◌≡◌, List, [], ◌∷◌, refl, Some, None}
-use Rattle.sporc_order.specs.OrderModel.{OrderModel}
+use Rattle.sporc_docs.proofs.Common.{OrderModel, Hello, Pull, place_of, route_of, AreApart, Event, at_first, answers_of, answers_to, is_bound_to, projected, bound_in}
 use Rattle.sporc_order.specs.declared.session.Answer.TheVariants.{Send, Silent, Close}
-use Rattle.sporc_wire.specs.declared.to_server.ToServer.TheVariants.{Hello, Pull}
 use Rattle.sporc_wire.specs.declared.to_client.ToClient.TheVariants.{Entries, Empty}
-use Rattle.sporc_docs.specs.Lists.{place_of, route_of, AreApart}
-use Rattle.sporc_docs.specs.Machine.{Event, at_first, answers_of, answers_to, is_bound_to, projected, bound_in}
 
 -- document 7, whose list has one entry, and document 8 with none
 abbrev seven : OrderModel

@@ -1,16 +1,11 @@
 -- The sessions of one document, beside those of others.
 use Rattle.std.proofs.Common.{◌≡◌, ◌∙◌, ℕ, ◌==◌, Bool, true, false, List, [], ◌∷◌, Option, Some, None, refl, ap, sym, subst, cond, find, filter, ◌||◌, if◌then◌else◌, arith}
-use Rattle.std.specs.List.{list_any}
+use Rattle.sporc_docs.proofs.Common.{list_any, bytes_eq-Decides, OrderModel, ToServer, Hello, Submit, Pull, is_of, list_of, Event, Machine, at_first, bound_by, bound_with, is_later, Asked, behind}
+use Rattle.sporc_docs.proofs.Common.{asked_of, asked_by, asked_at, after_event, answers_of, answers_to, bound_in, is_document, is_bound_to, IsIsolated}
 use Rattle.std.specs.Str.{bytes_eq}
-use Rattle.std.proofs.lemmas.Slice.Eq.{bytes_eq-Decides}
 use Rattle.sporc_entry.specs.declared.genesis.Genesis.{Genesis}
-use Rattle.sporc_order.specs.OrderModel.{OrderModel}
 use Rattle.sporc_order.specs.Sessions.{step_of}
-use Rattle.sporc_wire.specs.declared.to_server.ToServer.{ToServer}
-use Rattle.sporc_wire.specs.declared.to_server.ToServer.TheVariants.{Hello, Submit, Pull}
 use Rattle.sporc_serve.proofs.Logs.{step_genesis}
-use Rattle.sporc_docs.specs.Lists.{is_of, list_of}
-use Rattle.sporc_docs.specs.Machine.{Event, Machine, at_first, bound_by, bound_with, is_later, Asked, behind, asked_of, asked_by, asked_at, after_event, answers_of, answers_to, bound_in, is_document, is_bound_to, IsIsolated}
 
 -- ---- one list
 

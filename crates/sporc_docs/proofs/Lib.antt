@@ -9,3 +9,4 @@ pub mod Ending
 pub mod Crowding
 pub mod Served
 mod Examples
+pub mod Common

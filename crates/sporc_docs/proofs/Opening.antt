@@ -1,22 +1,9 @@
 -- Locks, and lists with one item more or less at their ends.
 use Rattle.std.proofs.Common.{◌≡◌, ◌∙◌, ℕ, List, [], ◌∷◌, ◌++◌, length, reverse, replicate, suc, Option, Some, None, refl, ap, sym, subst, subst₂, append_assoc, arith}
-use Rattle.std.proofs.lemmas.List.{reverse-append, map-append}
+use Rattle.sporc_docs.proofs.Common.{reverse-append, map-append, Pass, Turn, Known, first_known, known_of, IsPassOf, OrderModel, Ghosts, Desk, Item, log_at_first, Hand, Both, AllHands, IsEmpty}
+use Rattle.sporc_docs.proofs.Common.{HasFirst, KnowsFirst, AreOpen, AreBack, IsBack, AreKept}
 use Rattle.std.specs.Prelude.{IsSome}
-use Rattle.sporc_turn.specs.declared.pass.Pass.{Pass}
-use Rattle.sporc_turn.specs.declared.turn.Turn.{Turn}
-use Rattle.sporc_turn.specs.declared.known.Known.{Known}
-use Rattle.sporc_turn.specs.Knowing.{first_known}
-use Rattle.sporc_turn.specs.Passes.{known_of, IsPassOf}
-use Rattle.sporc_order.specs.OrderModel.{OrderModel}
-use Rattle.sporc_order.specs.declared.tail.Tail.{Ghosts}
-use Rattle.sporc_serve.specs.declared.desk.Desk.{Desk}
-use Rattle.sporc_serve.specs.declared.item.Item.{Item}
-use Rattle.sporc_serve.specs.Served.{log_at_first}
-use Rattle.sporc_docs.specs.declared.hands.Hand.{Hand}
 use Rattle.sporc_docs.specs.declared.locks.Locks.{Locks}
-use Rattle.sporc_docs.specs.Hands.{Both, AllHands, IsEmpty, HasFirst}
-use Rattle.sporc_docs.specs.Locks.{KnowsFirst, AreOpen, AreBack, IsBack}
-use Rattle.sporc_docs.specs.Served.{AreKept}
 
 module _ {A B : Type 0} (R : A → B → Type 0) where
   pub both_more : (xs : List A) (ys : List B) (x : A) (y : B) → Both R xs ys → R x y → Both R (xs ++ x ∷ []) (ys ++ y ∷ [])

@@ -1,14 +1,7 @@
 -- Hands of passes.
 use Rattle.std.proofs.Common.{◌≡◌, ℕ, suc, ◌+◌, ◌≤◌, ◌<◌, ◌^◌, List, [], ◌∷◌, Option, Some, None, Result, Ok, Err, OnOk, sym, subst, arith}
+use Rattle.sporc_docs.proofs.Common.{Known, Pass, Turn, known_of, Ghosts, Desk, Item, Both, HasFirst, Joins, JoinsAt, Splits, SplitsAt, HasRoom, HaveRoom, pass_at}
 use Rattle.std.specs.Result.{result_and}
-use Rattle.sporc_turn.specs.declared.known.Known.{Known}
-use Rattle.sporc_turn.specs.declared.pass.Pass.{Pass}
-use Rattle.sporc_turn.specs.declared.turn.Turn.{Turn}
-use Rattle.sporc_turn.specs.Passes.{known_of}
-use Rattle.sporc_order.specs.declared.tail.Tail.{Ghosts}
-use Rattle.sporc_serve.specs.declared.desk.Desk.{Desk}
-use Rattle.sporc_serve.specs.declared.item.Item.{Item}
-use Rattle.sporc_docs.specs.Hands.{Both, HasFirst, Joins, JoinsAt, Splits, SplitsAt, HasRoom, HaveRoom, pass_at}
 
 -- both went well
 pub both_ok : {E : Type 0} (A B : Type 0) (a b r : Result (Unit {0}) E) → r ≡ result_and a b → OnOk a A → OnOk b B → OnOk r (A × B)

@@ -1,10 +1,7 @@
 -- Places of documents, and lists with one more.
 use Rattle.std.proofs.Common.{◌≡◌, ◌∙◌, ℕ, ◌+◌, ◌<◌, Bool, true, false, List, [], ◌∷◌, ◌++◌, Option, Some, None, refl, ap, sym, subst, cond, find, drop, length, length-append, arith, bytes_eq, slice_index_or, add-one, suc, is_ok, is_some, if◌then◌else◌, ◌≤◌, Result, Ok, Err}
-use Rattle.std.specs.List.{position_from}
+use Rattle.sporc_docs.proofs.Common.{position_from, bytes_eq-Decides, OrderModel, is_of, list_of, AreApart}
 use Rattle.std.proofs.Math.Seq.{drop-cons}
-use Rattle.std.proofs.lemmas.Slice.Eq.{bytes_eq-Decides}
-use Rattle.sporc_order.specs.OrderModel.{OrderModel}
-use Rattle.sporc_docs.specs.Lists.{is_of, list_of, AreApart}
 
 -- a document has a place exactly if a list is its own
 pub none_held : (d : List ℕ) (i : ℕ) (os : List OrderModel) → position_from (is_of d) i os ≡ None → list_of os d ≡ None

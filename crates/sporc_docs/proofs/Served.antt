@@ -1,27 +1,13 @@
 -- Orders, before and after.
 use Rattle.std.proofs.Common.{◌≡◌, ◌∙◌, ℕ, ◌+◌, ◌<◌, ◌≤◌, ◌^◌, Bool, List, [], ◌∷◌, ◌++◌, length, reverse, replicate, cond, find, true, false, length-append, ◌-◌, is_err, Ok, Err, OnOk, All, Option, Some, None, Result, refl, ap, sym, subst, arith}
-use Rattle.std.proofs.lemmas.List.{drop_all, reverse-reverse, length-reverse, length-map}
+use Rattle.sporc_docs.proofs.Common.{drop_all, reverse-reverse, length-reverse, length-map, NetTold, StreamTold, Known, Pass, known_of, OrderModel, Ghosts, ServeFault, Item, by_of, order_at, placed}
+use Rattle.sporc_docs.proofs.Common.{log_at_first, came, handed_back, AreFrom, AreBehind, TellsOf, Both, HasFirst, HaveRoom, list_of, is_of, AreApart, KnowsFirst, AreOpen, AreBack, Closes, Ends}
+use Rattle.sporc_docs.proofs.Common.{AreEnding, Session, visits_of, IsOneOf, IsServedDocument, AreServed}
 use Rattle.std.proofs.lemmas.List.Elements.{All-nil}
-use Rattle.sporc_outside.specs.Nets.{NetTold}
-use Rattle.sporc_outside.specs.Streams.{StreamTold}
-use Rattle.sporc_turn.specs.declared.known.Known.{Known}
-use Rattle.sporc_turn.specs.declared.pass.Pass.{Pass}
-use Rattle.sporc_turn.specs.Passes.{known_of}
-use Rattle.sporc_order.specs.OrderModel.{OrderModel}
-use Rattle.sporc_order.specs.declared.tail.Tail.{Ghosts}
-use Rattle.sporc_serve.specs.declared.fault.ServeFault.{ServeFault}
-use Rattle.sporc_serve.specs.declared.item.Item.{Item}
-use Rattle.sporc_serve.specs.Logs.{by_of, order_at, placed}
-use Rattle.sporc_serve.specs.Served.{log_at_first}
-use Rattle.sporc_serve.specs.Visits.{came, handed_back, AreFrom, AreBehind, TellsOf}
 use Rattle.sporc_serve.proofs.Tracing.{starts_same}
 use Rattle.sporc_serve.proofs.Crowding.{from_none, behind_none}
 use Rattle.sporc_serve.proofs.Serving.{first_is, tells_before}
 use Rattle.sporc_docs.specs.declared.locks.Locks.{Locks}
-use Rattle.sporc_docs.specs.Hands.{Both, HasFirst, HaveRoom}
-use Rattle.sporc_docs.specs.Lists.{list_of, is_of, AreApart}
-use Rattle.sporc_docs.specs.Locks.{KnowsFirst, AreOpen, AreBack, Closes, Ends, AreEnding}
-use Rattle.sporc_docs.specs.Served.{Session, visits_of, IsOneOf, IsServedDocument, AreServed}
 use Rattle.sporc_docs.proofs.Opening.{both_append, both_reverse, both_length}
 
 both_join : {A B C : Type 0} (R : A → B → Type 0) (S : B → C → Type 0) (T : A → C → Type 0) → ((x : A) (y : B) (z : C) → R x y → S y z → T x z) → (xs : List A) (ys : List B) (zs : List C)

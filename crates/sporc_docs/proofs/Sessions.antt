@@ -1,28 +1,14 @@
 -- A session of many documents.
 use Rattle.std.proofs.Common.{◌≡◌, ◌∙◌, ℕ, zero, suc, ◌<◌, false, List, [], ◌∷◌, length, set, Option, Some, Ok, slice_index_or, refl, ap, sym, subst, subst₂, arith}
+use Rattle.sporc_docs.proofs.Common.{Shuts, StreamTold, Known, ToServer, Unread, stream_of, next, Ghosts, SessionEnd, inlet_at, IsFirst, IsLogOf, ServerStand, stand, stand_at, Leads, visit}
+use Rattle.sporc_docs.proofs.Common.{IsServedSession, Pass, Turn, Desk, Item, HasPass, HavePasses, pass_at, Became}
 use Rattle.std.specs.Io.KnownBytes.{Consumes}
 use Rattle.std.proofs.KnownBytes.{Consumes-nil}
-use Rattle.sporc_outside.specs.Streams.{Shuts, StreamTold}
 use Rattle.sporc_entry.specs.declared.genesis.Genesis.{Genesis}
-use Rattle.sporc_turn.specs.declared.known.Known.{Known}
-use Rattle.sporc_wire.specs.declared.to_server.ToServer.{ToServer}
-use Rattle.sporc_wire.specs.Messages.{Unread, stream_of, next}
 use Rattle.sporc_wire.specs.ToServer.{to_server_of}
-use Rattle.sporc_order.specs.declared.tail.Tail.{Ghosts}
-use Rattle.sporc_serve.specs.declared.end.SessionEnd.{SessionEnd}
-use Rattle.sporc_serve.specs.Endings.{inlet_at, IsFirst}
-use Rattle.sporc_serve.specs.Logs.{IsLogOf}
-use Rattle.sporc_serve.specs.Traces.{ServerStand, stand, stand_at, Leads}
-use Rattle.sporc_serve.specs.Visits.{visit, IsServedSession}
 use Rattle.sporc_serve.proofs.Going.{kept}
 use Rattle.sporc_serve.proofs.Stepping.{session_ended}
 use Rattle.sporc_serve.proofs.Waiting.{trace_waits}
-use Rattle.sporc_turn.specs.declared.pass.Pass.{Pass}
-use Rattle.sporc_turn.specs.declared.turn.Turn.{Turn}
-use Rattle.sporc_serve.specs.declared.desk.Desk.{Desk}
-use Rattle.sporc_serve.specs.declared.item.Item.{Item}
-use Rattle.sporc_docs.specs.Hands.{HasPass, HavePasses, pass_at}
-use Rattle.sporc_docs.specs.Sessions.{Became}
 
 -- ---- passes of many locks
 

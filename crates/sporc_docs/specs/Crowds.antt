@@ -1,16 +1,19 @@
 -- Sessions of many documents beside one another, for inner contracts.
-use Rattle.std.specs.Prelude.{◌≡◌, ◌≢◌, ℕ, List, [], ◌∷◌, length, Result, Err}
-use Rattle.sporc_outside.specs.Nets.{NetTold}
+use Rattle.std.specs.Prelude.{◌≡◌, ◌≢◌, ◌≤◌, ℕ, List, [], ◌∷◌, length, Option, Result, Err}
+use Rattle.sporc_outside.specs.Nets.{AreShutBehind, NetTold}
+use Rattle.sporc_outside.specs.Told.{IsTrueIfTold}
+use Rattle.sporc_turn.specs.declared.pass.Pass.{Pass}
 use Rattle.sporc_turn.specs.declared.turn.Turn.{Turn}
 use Rattle.sporc_order.specs.declared.tail.Tail.{Ghosts}
 use Rattle.sporc_serve.specs.declared.desk.Desk.{Desk}
+use Rattle.sporc_serve.specs.declared.end.SessionEnd.TheVariants as ends
 use Rattle.sporc_serve.specs.declared.fault.ServeFault.{ServeFault}
 use Rattle.sporc_serve.specs.declared.fault.ServeFault.TheVariants.{Unkept}
 use Rattle.sporc_serve.specs.declared.item.Item.{Item}
 use Rattle.sporc_serve.specs.Visits.{Visit, CameOpen, came, handed_back, AreFrom, AreBehind}
 use Rattle.sporc_serve.specs.Visits.{NoneUnkept, TellsOf}
 use Rattle.sporc_docs.specs.declared.hands.Hand.{Hand}
-use Rattle.sporc_docs.specs.Hands.{HavePasses}
+use Rattle.sporc_docs.specs.Hands.{AllHands, HavePasses, LogsBegin}
 use Rattle.sporc_docs.specs.Sessions.{Sits}
 
 module _ {T : Type 0} {tail : Ghosts T} (turns : List (Turn (Desk T tail) Item))
@@ -38,3 +41,19 @@ module _ {T : Type 0} {tail : Ghosts T} (turns : List (Turn (Desk T tail) Item))
       → Result (Unit {0}) ServeFault → Type 0
   IsCrowd hands hands' old new result =
       (visits : List Visit) × Crowd hands hands' old new result visits
+
+  -- the sessions of these hands were served at a net, if the log of each pass began with its
+  -- document: their links came back shut, and nothing else was asked of the net
+  abbrev pub ServesOthers : List Hand → List Hand → NetTold → NetTold
+      → Result (Unit {0}) ServeFault → Type 0
+  ServesOthers hands hands' old new result =
+      AllHands (HavePasses turns) hands'
+      × (AllHands LogsBegin hands → IsCrowd hands hands' old new result)
+      × AreShutBehind old.returned new.returned × (new.asked ≡ old.asked) × (new.out ≡ old.out)
+      × (old.faults ≤ new.faults) × (result ≡ Err Unkept → tail.may_fail)
+
+  -- one session was served with a hand of passes, and its link is shut
+  abbrev pub ServesOne : Visit → List (Option (Pass Item)) → List (Option (Pass Item)) → Type 0
+  ServesOne v hand hand' =
+      HavePasses turns hand' × Sits documents v hand hand' × IsTrueIfTold v.after.is_shut
+      × (v.end ≡ ends.Unkept → tail.may_fail)

@@ -18,6 +18,7 @@ use Rattle.sporc_serve.specs.declared.fault.ServeFault.{ServeFault}
 use Rattle.sporc_serve.specs.declared.fault.ServeFault.TheVariants.{Unkept}
 use Rattle.sporc_docs.specs.declared.locks.Locks.{Locks}
 use Rattle.sporc_docs.specs.Hands.{Both, HasFirst}
+use Rattle.sporc_docs.specs.Lists.{AreApart}
 use Rattle.sporc_docs.specs.Served.{Session, visits_of, AreBound, IsServedDocument}
 
 -- number 0 of the lock round an order, as it was opened
@@ -70,3 +71,12 @@ abbrev pub AreEnding : List OrderModel → List (Option (Pass Item))
     → NetTold → NetTold → ℕ → Result (Unit {0}) ServeFault → Type 0
 AreEnding orders firsts old new count result =
     (sessions : List Session) × Ending orders firsts old new count result sessions
+
+-- whichever orders of these documents were under locks that were just opened, the last order's
+-- first
+abbrev pub EndsAll : List (List ℕ) → List (Option (Pass Item)) → List (Option (Pass Item))
+    → NetTold → NetTold → ℕ → Result (Unit {0}) ServeFault → Type 0
+EndsAll documents firsts firsts' old new count result =
+    (orders : List OrderModel) → AreApart orders
+    → documents ≡ map (λ o. o.genesis.document) (reverse orders)
+    → Both KnowsFirst (reverse orders) firsts → AreEnding orders firsts' old new count result

@@ -2,14 +2,13 @@
 
 ghost use Rattle.std.specs.Prelude.{◌≡◌, ◌≤◌, Err, length, OnOk};
 ghost use Rattle.std.specs.Thread.{IsSync, IsSend};
-ghost use Rattle.sporc_outside.specs.Told.{IsTrueIfTold};
 ghost use Rattle.sporc_outside.specs.Nets.{AreShutBehind};
 ghost use Rattle.sporc_serve.specs.Visits.{visit};
-ghost use Rattle.sporc_docs.specs.Crowds.{IsCrowd};
+ghost use Rattle.sporc_docs.specs.Crowds.{IsCrowd, ServesOne, ServesOthers};
 ghost use Rattle.sporc_docs.specs.Hands.{AllHands, Both, HavePasses, LogsBegin, MayHave};
-ghost use Rattle.sporc_docs.specs.Sessions.{Sits};
 
 use crate::hands::Hand;
+use crate::locked_docs::LockedDocs;
 use crate::session::serve_hand;
 use sporc_base::Memory;
 use sporc_order::Tail;
@@ -58,26 +57,16 @@ where
             requires { IsSync R.row × IsSync G.row × IsSend N.row × IsSend N.Link.row × IsSend T.row
                 × AllHands (HavePasses turns.now) others.now
                 × (length documents.now ≡ length turns.now) }
-            ensures { AllHands (HavePasses turns.entry.now) others.exit.now
-                × (AllHands LogsBegin others.entry.now
-                → IsCrowd turns.entry.now documents.entry.now others.entry.now others.exit.now
-                (N.told net.entry.now) (N.told net.exit.now) result)
-                × AreShutBehind (N.told net.entry.now).returned (N.told net.exit.now).returned
-                × ((N.told net.exit.now).asked ≡ (N.told net.entry.now).asked)
-                × ((N.told net.exit.now).out ≡ (N.told net.entry.now).out)
-                × ((N.told net.entry.now).faults ≤ (N.told net.exit.now).faults)
-                × (result ≡ Err ServeFault.Unkept → T.may_fail) }
+            ensures { ServesOthers turns.entry.now documents.entry.now others.entry.now
+                others.exit.now (N.told net.entry.now) (N.told net.exit.now) result }
         { crowd(rt, alloc, net, turns, documents, gate, others) },
         &mut || -> SessionEnd
             requires { IsSync R.row × IsSync G.row × IsSend T.row
                 × HavePasses turns.now hand.now.passes.items
                 × (length documents.now ≡ length turns.now) }
-            ensures { HavePasses turns.entry.now hand.exit.now.passes.items
-                × Sits documents.entry.now
+            ensures { ServesOne turns.entry.now documents.entry.now
                 (visit (N.Link.told link.entry) (N.Link.told link.exit) result)
-                hand.entry.now.passes.items hand.exit.now.passes.items
-                × IsTrueIfTold (N.Link.told link.exit).is_shut
-                × (result ≡ SessionEnd.Unkept → T.may_fail) }
+                hand.entry.now.passes.items hand.exit.now.passes.items }
         { serve_hand(rt, alloc, turns, documents, gate, &mut link, hand) },
     );
     net.take_back(link);
@@ -89,8 +78,7 @@ pub(crate) fn crowd_if<R: Threads + Wait + Sync, N: Listen, G: Gate + Sync, T: T
     rt: &R,
     alloc: Global,
     net: &mut N,
-    turns: &[Turn<Desk<T>>],
-    documents: &[[u8; 16]],
+    locked: &LockedDocs<'_, T>,
     gate: &G,
     split: Result<(), Memory>,
     hands: &mut [Hand],
@@ -98,12 +86,12 @@ pub(crate) fn crowd_if<R: Threads + Wait + Sync, N: Listen, G: Gate + Sync, T: T
 where
     N: Send,
     N::Link: Send,
-    requires hands { AllHands (Both MayHave turns.now) hands.old }
-    requires locks { OnOk split (AllHands (HavePasses turns.now) hands.old) }
-    requires one_length { length documents.now ≡ length turns.now }
-    ensures hands { AllHands (Both MayHave turns.now) hands.new }
+    requires hands { AllHands (Both MayHave locked.now.turns.now) hands.old }
+    requires locks { OnOk split (AllHands (HavePasses locked.now.turns.now) hands.old) }
+    requires one_length { length locked.now.documents.now ≡ length locked.now.turns.now }
+    ensures hands { AllHands (Both MayHave locked.now.turns.now) hands.new }
     ensures crowd { AllHands LogsBegin hands.old
-        → IsCrowd turns.now documents.now hands.old hands.new (N.told net.old)
+        → IsCrowd locked.now.turns.now locked.now.documents.now hands.old hands.new (N.told net.old)
         (N.told net.new) result }
     ensures shut { AreShutBehind (N.told net.old).returned (N.told net.new).returned }
     ensures asked { (N.told net.new).asked ≡ (N.told net.old).asked }
@@ -112,7 +100,7 @@ where
     ensures unkept { result ≡ Err ServeFault.Unkept → T.may_fail }
 {
     match split {
-        Ok(()) => crowd(rt, alloc, net, turns, documents, gate, hands),
+        Ok(()) => crowd(rt, alloc, net, locked.turns, locked.documents, gate, hands),
         Err(_) => Err(ServeFault::Memory),
     }
 }

@@ -14,7 +14,7 @@
 //! let (docs, answer) = serve_docs(&rt, alloc, &mut net, "localhost:4000", docs, 2, &OpenGate);
 //! docs.into_orders()                                       // as they were added
 //! // a server with a tail for each document
-//! serve_docs_kept(.., docs, tails, 2, &OpenGate)
+//! serve_docs_kept(.., KeptDocs { docs, tails }, 2, &OpenGate)
 //! ```
 //!
 //! Proved: which orders are held, no two of one document, and which of them a message names; of the
@@ -30,7 +30,9 @@ mod crowd;
 mod docs;
 mod fault;
 mod hands;
+mod kept_docs;
 pub mod laws;
+mod locked_docs;
 mod locks;
 mod server;
 mod serving;
@@ -38,5 +40,6 @@ mod session;
 
 pub use crate::docs::Docs;
 pub use crate::fault::{DocsFault, DocsServeFault};
+pub use crate::kept_docs::KeptDocs;
 pub use crate::server::{serve_docs, serve_docs_kept};
 pub use sporc_wire::MAX_DOCUMENTS;

@@ -1,21 +1,21 @@
 //! Orders under locks of their own, and taken out again.
 
 ghost use Rattle.std.specs.Prelude.{◌≡◌, ◌≤◌, ◌<◌, ◌+◌, ◌∷◌, ◌++◌, List, [], Some, Err, length};
-ghost use Rattle.std.specs.Prelude.{map, reverse, IfOk, OnOk};
+ghost use Rattle.std.specs.Prelude.{reverse, IfOk, OnOk};
 ghost use Rattle.std.specs.Vec.{vec_len, vec_capacity};
 ghost use Rattle.sporc_outside.specs.Nets.{AreShutBehind};
 ghost use Rattle.sporc_order.specs.OrderModel.{OrderModel};
 ghost use Rattle.sporc_docs.specs.Hands.{AllHands, Both, HasFirst, HaveRoom, IsEmpty};
-ghost use Rattle.sporc_docs.specs.Lists.{AreApart};
-ghost use Rattle.sporc_docs.specs.Locks.{AreBack, AreEnding, AreOpen, Closes, KnowsFirst};
+ghost use Rattle.sporc_docs.specs.Locks.{AreBack, AreOpen, Closes, EndsAll};
 ghost use Rattle.sporc_docs.specs.Served.{AreKept};
 
 use crate::hands::Hand;
+use crate::locked_docs::LockedDocs;
 use crate::serving::serve_hands;
 use sporc_base::Memory;
 use sporc_order::{Order, Tail};
 use sporc_outside::{Gate, Listen};
-use sporc_serve::{Desk, Item, ServeFault, close_kept, open_kept};
+use sporc_serve::{Desk, Item, KeptOrder, ServeFault, close_kept, open_kept};
 use sporc_turn::{Pass, Turn};
 use std::alloc::{AllocError, Global};
 use std::sync::Wait;
@@ -73,11 +73,11 @@ impl<T: Tail> Locks<T> {
         while let Some(order) = orders.pop() {
             let tail = tails.pop().unwrap();
             let document = *order.document();
-            match open_kept(alloc, order, tail) {
+            match open_kept(alloc, KeptOrder { order, tail }) {
                 Ok((turn, first)) => self.push(turn, document, first),
-                Err((order, tail)) => {
-                    orders.push_reserved(order);
-                    tails.push_reserved(tail);
+                Err(kept) => {
+                    orders.push_reserved(kept.order);
+                    tails.push_reserved(kept.tail);
                     return Err(AllocError);
                 }
             }
@@ -124,27 +124,19 @@ impl<T: Tail> Locks<T> {
         requires one_length { length self.old.documents.items ≡ length self.old.turns.items }
         ensures turns { self.new.turns ≡ self.old.turns }
         ensures firsts { Both HasFirst self.new.turns.items self.new.firsts.items }
-        ensures ending { (orders : List OrderModel) → AreApart orders
-            → self.old.documents.items ≡ map (λ o. o.genesis.document) (reverse orders)
-            → Both KnowsFirst (reverse orders) self.old.firsts.items
-            → AreEnding orders self.new.firsts.items (N.told net.old) (N.told net.new)
-            (length hands.old) result }
+        ensures ending { EndsAll self.old.documents.items self.old.firsts.items
+            self.new.firsts.items (N.told net.old) (N.told net.new) (length hands.old) result }
         ensures shut { AreShutBehind (N.told net.old).returned (N.told net.new).returned }
         ensures asked { (N.told net.new).asked ≡ (N.told net.old).asked }
         ensures links_out { (N.told net.new).out ≡ (N.told net.old).out }
         ensures kept { (N.told net.old).faults ≤ (N.told net.new).faults }
         ensures unkept { result ≡ Err ServeFault.Unkept → T.may_fail }
     {
-        serve_hands(
-            rt,
-            alloc,
-            net,
-            &self.turns,
-            &self.documents,
-            &mut self.firsts,
-            gate,
-            hands,
-        )
+        let locked = LockedDocs {
+            turns: &self.turns,
+            documents: &self.documents,
+        };
+        serve_hands(rt, alloc, net, &locked, &mut self.firsts, gate, hands)
     }
 
     // Takes the orders and their tails out of their locks, the last lock's first.
@@ -167,9 +159,9 @@ impl<T: Tail> Locks<T> {
         while let Some(turn) = turns.pop() {
             let first = firsts.pop().unwrap().unwrap();
             match close_kept(turn, first) {
-                Ok((order, tail)) => {
-                    orders.push_reserved(order);
-                    tails.push_reserved(tail);
+                Ok(kept) => {
+                    orders.push_reserved(kept.order);
+                    tails.push_reserved(kept.tail);
                 }
                 Err(_) => unreachable!(),
             }

@@ -11,6 +11,7 @@ ghost use Rattle.sporc_docs.specs.Served.{AreKept, AreServed, as_served};
 use crate::docs::Docs;
 use crate::fault::DocsServeFault;
 use crate::hands::empty_hands;
+use crate::kept_docs::KeptDocs;
 use crate::locks::Locks;
 use sporc_order::{NoTail, Order, Tail};
 use sporc_outside::{Gate, Listen};
@@ -103,8 +104,9 @@ where
     let Ok(tails) = vec![in alloc; NoTail; docs.len()] else {
         return (docs, unserved(net, address));
     };
-    let (docs, _, answer) = serve_docs_kept(rt, alloc, net, address, docs, tails, sessions, gate);
-    (docs, answer)
+    let kept = KeptDocs { docs, tails };
+    let (kept, answer) = serve_docs_kept(rt, alloc, net, address, kept, sessions, gate);
+    (kept.docs, answer)
 }
 
 /// Serves as [`serve_docs`] does, with a tail for each document, in their order. A tail keeps each
@@ -115,22 +117,21 @@ pub fn serve_docs_kept<R: Threads + Wait + Sync, N: Listen, G: Gate + Sync, T: T
     alloc: Global,
     net: &mut N,
     address: &str,
-    docs: Docs,
-    tails: Vec<T>,
+    kept: KeptDocs<T>,
     sessions: u32,
     gate: &G,
-) -> (Docs, Vec<T>, Result<(), DocsServeFault>)
+) -> (KeptDocs<T>, Result<(), DocsServeFault>)
 where
     N: Send,
     N::Link: Send,
     requires positive { 1 ≤ sessions }
     requires limit { sessions ≤ MAX_SESSIONS }
-    requires tails { AreKept T.keeps tails.items docs }
-    ensures served { AreServed docs result.0 (N.told net.old) (N.told net.new) sessions
-        (as_served result.2) }
-    ensures tails { AreKept T.keeps result.1.items result.0 }
-    ensures unkept { result.2 ≡ Err DocsServeFault.Unkept → T.may_fail }
-    ensures asked { result.2 ≢ Err DocsServeFault.ListenFault
+    requires tails { AreKept T.keeps kept.tails.items kept.docs }
+    ensures served { AreServed kept.docs result.0.docs (N.told net.old) (N.told net.new) sessions
+        (as_served result.1) }
+    ensures tails { AreKept T.keeps result.0.tails.items result.0.docs }
+    ensures unkept { result.1 ≡ Err DocsServeFault.Unkept → T.may_fail }
+    ensures asked { result.1 ≢ Err DocsServeFault.ListenFault
         → AppendsItem (N.told net.old).asked (N.told net.new).asked address.now }
     ensures may_ask { MayAppend (N.told net.old).asked (N.told net.new).asked address.now }
     ensures shut { AreShutBehind (N.told net.old).returned (N.told net.new).returned }
@@ -138,12 +139,17 @@ where
     ensures kept { (N.told net.old).faults ≤ (N.told net.new).faults }
 {
     let Ok(()) = net.listen(address) else {
-        return (docs, tails, Err(DocsServeFault::ListenFault));
+        return (kept, Err(DocsServeFault::ListenFault));
     };
+    let KeptDocs { docs, tails } = kept;
     let mut orders = docs.into_orders();
     let mut tails = tails;
     let answer = serve_orders(rt, alloc, net, &mut orders, &mut tails, sessions, gate);
-    (Docs::of(orders), tails, told(answer))
+    let kept = KeptDocs {
+        docs: Docs::of(orders),
+        tails,
+    };
+    (kept, told(answer))
 }
 
 // What is answered where memory ran out before a link could be taken.

@@ -1,14 +1,12 @@
 //! One session of a server of many documents.
 
-ghost use Rattle.std.specs.Prelude.{◌≡◌, ◌<◌, Ok, Some, length, IfSome, false, []};
+ghost use Rattle.std.specs.Prelude.{◌≡◌, ◌<◌, length, IfSome};
 ghost use Rattle.sporc_outside.specs.Told.{IsTrueIfTold};
 ghost use Rattle.sporc_turn.specs.declared.pass.Pass.{Pass};
 ghost use Rattle.sporc_turn.specs.declared.turn.Turn.{Turn};
 ghost use Rattle.sporc_turn.specs.Passes.{known_of, read_of};
-ghost use Rattle.sporc_wire.specs.Messages.{Unread, next, stream_of};
-ghost use Rattle.sporc_wire.specs.ToServer.{to_server_of};
 ghost use Rattle.sporc_order.specs.Sessions.{IsFramed};
-ghost use Rattle.sporc_serve.specs.Traces.{stand_at, Leads};
+ghost use Rattle.sporc_serve.specs.Traces.{LeadsFrom};
 ghost use Rattle.sporc_serve.specs.Turns.{HasReadLast};
 ghost use Rattle.std.specs.List.{position_from};
 ghost use Rattle.std.specs.Str.{bytes_eq};
@@ -20,7 +18,7 @@ use crate::hands::Hand;
 use sporc_base::is_same;
 use sporc_order::Tail;
 use sporc_outside::{Gate, Link};
-use sporc_serve::{Desk, Item, SessionEnd, first_message, serve_from};
+use sporc_serve::{Desk, Item, Service, SessionEnd, first_message, serve_from};
 use sporc_turn::{Pass, Turn};
 use sporc_wire::{Frames, ToServer};
 use std::alloc::Global;
@@ -29,31 +27,24 @@ use std::sync::Wait;
 // The session over a link from its first message on, by the pass that is kept for the document
 // which that names.
 fn serve_at<R: Wait, L: Link, G: Gate, T: Tail>(
-    rt: &R,
-    alloc: Global,
-    turn: &Turn<Desk<T>>,
-    gate: &G,
+    service: &Service<'_, R, G, T>,
     link: &mut L,
     frames: &mut Frames,
     first: &ToServer,
     pass: &mut Option<Pass<Item>>,
 ) -> SessionEnd
-    requires lock { HasPass turn.now pass.old }
+    requires lock { HasPass service.now.turn.now pass.old }
     requires framed { IsFramed first.now }
-    ensures lock { HasPass turn.now pass.new }
+    ensures lock { HasPass service.now.turn.now pass.new }
     ensures number { Became (λ p p'. (known_of p').number ≡ (known_of p).number) pass.old pass.new }
     ensures worn { Became (λ p p'. HasReadLast (read_of p') result) pass.old pass.new }
     ensures as_shut { (L.told link.new).is_shut ≡ (L.told link.old).is_shut }
     ensures unkept { result ≡ SessionEnd.Unkept → T.may_fail }
-    ensures goes { Became
-        (λ p p'. (unread : Unread) → (next to_server_of unread).answer ≡ Ok (Some first.now)
-        → frames.old ≡ (next to_server_of unread).after
-        → Leads (stand_at (known_of p) (L.told link.old) unread false)
-        (stand_at (known_of p') (L.told link.new) (stream_of []) false) (Some result))
-        pass.old pass.new }
+    ensures goes { Became (λ p p'. LeadsFrom first.now frames.old (L.told link.old)
+        (L.told link.new) result (known_of p) (known_of p')) pass.old pass.new }
 {
     let taken = pass.take().unwrap();
-    let (end, after) = serve_from(rt, alloc, turn, gate, link, frames, first, taken);
+    let (end, after) = serve_from(service, link, frames, first, taken);
     *pass = Some(after);
     end
 }
@@ -113,16 +104,13 @@ fn serve_one<R: Wait, L: Link, G: Gate, T: Tail>(
         link.shut();
         return SessionEnd::Closed;
     };
-    let end = serve_at(
+    let service = Service {
         rt,
         alloc,
-        &turns[place],
+        turn: &turns[place],
         gate,
-        link,
-        &mut frames,
-        &first,
-        &mut hand[place],
-    );
+    };
+    let end = serve_at(&service, link, &mut frames, &first, &mut hand[place]);
     link.shut();
     end
 }

@@ -1,29 +1,16 @@
 -- The body of a change that is read is spelled so, and one that is spelled so is read again.
 use Rattle.std.proofs.Common.{◌≡◌, ℕ, ◌+◌, ◌^◌, ◌<◌, ◌≤◌, Bool, true, false, cond, eqb, List, [], ◌∷◌, ◌++◌, length, Result, Ok, Err, refl, sym, ap, subst, ◌∙◌, append_assoc, arith}
-use Rattle.std.specs.Prelude.{IfOk}
-use Rattle.std.specs.List.{flat_map}
-use Rattle.std.specs.Int.{w8, w16, to_be_bytes}
-use Rattle.std.proofs.lemmas.Bool.{eqb-true, eqb-false}
-use Rattle.std.proofs.lemmas.List.{append-nil}
-use Rattle.sporc_bytes.specs.Fields.{Reading, ◌>>=◌, fault_as, bytes_at, number_at, end_at, number_within, values_at}
-use Rattle.sporc_base.specs.Bytes.{IsBytes}
-use Rattle.sporc_bytes.proofs.Fields.{bind_ok, ok_is, Takes, Takes-then, wide16, wide8, number_takes, bytes_takes, bytes_again, u8_again, u16_again, end_takes, within_takes, u16_within_again, fault_as_ok}
+use Rattle.sporc_entry.proofs.Common.{IfOk, flat_map, w8, w16, to_be_bytes, eqb-true, eqb-false, append-nil, Reading, ◌>>=◌, fault_as, bytes_at, number_at, end_at, number_within, values_at, IsBytes}
+use Rattle.sporc_entry.proofs.Common.{bind_ok, ok_is, Takes, Takes-then, wide16, wide8, number_takes, bytes_takes, bytes_again, u8_again, u16_again, end_takes, within_takes, u16_within_again}
+use Rattle.sporc_entry.proofs.Common.{fault_as_ok, MAX_MEMBERS, HIGHEST_MEMBER, Add, Remove, SetRole, AddDevice, DropDevice, Upgrade, role_code_of, ChangeBody, Malformed, Memory, GivesUnless, ADD}
+use Rattle.sporc_entry.proofs.Common.{REMOVE, SET_ROLE, ADD_DEVICE, DROP_DEVICE, UPGRADE, wrap_bytes, IsChangeBody, has_kind}
 use Rattle.sporc_bytes.proofs.ListLaws.{values_take, values_again}
-use Rattle.sporc_member.specs.declared.limits.TheConstants.{MAX_MEMBERS}
-use Rattle.sporc_entry.specs.declared.limits.TheConstants.{HIGHEST_MEMBER}
 use Rattle.sporc_member.specs.declared.change.Change.{Change}
-use Rattle.sporc_member.specs.declared.change.Change.TheVariants.{Add, Remove, SetRole, AddDevice, DropDevice, Upgrade}
-use Rattle.sporc_member.specs.Role.{role_code_of}
-use Rattle.sporc_entry.specs.declared.change.ChangeBody.{ChangeBody}
 use Rattle.sporc_entry.specs.declared.fault.EntryFault.{EntryFault}
 use Rattle.sporc_entry.specs.declared.wrap.Wrap.{Wrap}
 use Rattle.sporc_entry.specs.Fields.{role_at}
-use Rattle.sporc_entry.specs.declared.fault.EntryFault.TheVariants.{Malformed, Memory}
-use Rattle.sporc_base.specs.Outcome.{GivesUnless}
-use Rattle.sporc_entry.specs.declared.version.TheConstants.{ADD, REMOVE, SET_ROLE, ADD_DEVICE, DROP_DEVICE, UPGRADE}
 use Rattle.sporc_member.specs.Device.{IsMember}
-use Rattle.sporc_entry.specs.ChangeBody.{kind_at, change_of_device, change_of_member, change_of_kind, change_at, wrap_at, change_body_at, change_body_from, kind_of, change_fields, change_bytes, wrap_bytes, change_body_bytes, IsChange, IsWrap, IsChangeBody}
-use Rattle.sporc_entry.specs.Version.{has_kind}
+use Rattle.sporc_entry.specs.ChangeBody.{kind_at, change_of_device, change_of_member, change_of_kind, change_at, wrap_at, change_body_at, change_body_from, kind_of, change_fields, change_bytes, change_body_bytes, IsChange, IsWrap}
 use Rattle.sporc_entry.proofs.FieldLaws.{Leaves, byte_is, role_takes, role_again}
 use Rattle.sporc_entry.proofs.VersionLaws.{kind_known, kind_takes, kind_again}
 

@@ -1,24 +1,12 @@
 -- An entry that is read is spelled so, and one that is spelled so is read again.
 use Rattle.std.proofs.Common.{◌≡◌, ℕ, ◌+◌, ◌^◌, ◌<◌, ◌≤◌, Bool, true, false, cond, eqb, List, [], ◌∷◌, ◌++◌, length, drop, Some, Result, Ok, Err, refl, sym, ap, subst, ◌∙◌, append_assoc, arith, lit<, length-append}
-use Rattle.std.specs.Prelude.{IfOk}
-use Rattle.std.specs.Int.{w16, w32, to_be_bytes}
-use Rattle.std.proofs.lemmas.Bool.{eqb-false}
-use Rattle.std.proofs.lemmas.List.{take_at, drop_at}
-use Rattle.sporc_bytes.specs.Fields.{Reading, ◌>>=◌, fault_as, counted_at, counted}
-use Rattle.sporc_base.specs.Bytes.{IsBytes}
+use Rattle.sporc_entry.proofs.Common.{IfOk, w16, w32, to_be_bytes, eqb-false, take_at, drop_at, Reading, ◌>>=◌, fault_as, counted_at, counted, IsBytes, bind_ok, ok_is, wide16, wide32, number_takes}
+use Rattle.sporc_entry.proofs.Common.{bytes_takes, bytes_again, u16_again, u32_again, counted_takes, counted_again, end_takes, byte_takes, byte_again, fault_as_ok, ChangeBody, Entry, Header, Malformed}
+use Rattle.sporc_entry.proofs.Common.{Memory, GivesUnless, change_body_from, IsChangeBody, SpellsChange, FIRST_VERSION, DEVICES_VERSION, MAX_EDIT_BODY, MAX_CHANGE_BODY, MAX_SIGNATURE, MAX_ENTRY}
+use Rattle.sporc_entry.proofs.Common.{body_limit, body_read, device_bytes, counted_bytes, IsEntry, header_len, body_place}
 use Rattle.sporc_base.proofs.ByteLemmas.{IsBytes-drop, IsBytes-take}
-use Rattle.sporc_bytes.proofs.Fields.{bind_ok, ok_is, wide16, wide32, number_takes, bytes_takes, bytes_again, u16_again, u32_again, counted_takes, counted_again, end_takes, byte_takes, byte_again, fault_as_ok}
-use Rattle.sporc_entry.specs.declared.change.ChangeBody.{ChangeBody}
-use Rattle.sporc_entry.specs.declared.entry.Entry.{Entry}
 use Rattle.sporc_entry.specs.declared.fault.EntryFault.{EntryFault}
-use Rattle.sporc_entry.specs.declared.header.Header.{Header}
-use Rattle.sporc_entry.specs.declared.fault.EntryFault.TheVariants.{Malformed, Memory}
-use Rattle.sporc_base.specs.Outcome.{GivesUnless}
-use Rattle.sporc_entry.specs.ChangeBody.{change_body_from, IsChangeBody, SpellsChange}
-use Rattle.sporc_entry.specs.declared.version.TheConstants.{FIRST_VERSION, DEVICES_VERSION}
-use Rattle.sporc_entry.specs.declared.limits.TheConstants.{MAX_EDIT_BODY, MAX_CHANGE_BODY, MAX_SIGNATURE, MAX_ENTRY}
-use Rattle.sporc_entry.specs.Entry.{header_at, body_limit, body_read, entry_of, change_of, device_bytes, header_bytes, counted_bytes, entry_bytes, IsHeader, IsEntry}
-use Rattle.sporc_entry.specs.Version.{header_len, body_place}
+use Rattle.sporc_entry.specs.Entry.{header_at, entry_of, change_of, header_bytes, entry_bytes, IsHeader}
 use Rattle.sporc_entry.proofs.FieldLaws.{Leaves}
 use Rattle.sporc_entry.proofs.VersionLaws.{version_known, fits, device_takes, device_again, header_len_is, header_len-le}
 use Rattle.sporc_entry.proofs.ChangeLaws.{change_body_takes, change_body_again}

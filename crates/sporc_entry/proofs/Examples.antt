@@ -1,13 +1,10 @@
 -- Worked examples: an entry of each version, and the kinds of change that each has.
 use Rattle.std.proofs.Common.{◌≡◌, ℕ, false, [], ◌∷◌, ◌++◌, Ok, Err, refl, replicate}
+use Rattle.sporc_entry.proofs.Common.{AddDevice, DropDevice, Upgrade, Entry, Header, fits_version, body_place}
 use Rattle.std.specs.Str.{bytes_eq}
 use Rattle.sporc_bytes.specs.Fields.{bytes_at, number_at, number_within, counted_at}
-use Rattle.sporc_member.specs.declared.change.Change.TheVariants.{AddDevice, DropDevice, Upgrade}
-use Rattle.sporc_entry.specs.declared.entry.Entry.{Entry}
-use Rattle.sporc_entry.specs.declared.header.Header.{Header}
 use Rattle.sporc_entry.specs.ChangeBody.{kind_at, change_of_device, change_of_member, change_of_kind, change_at}
 use Rattle.sporc_entry.specs.Entry.{header_at, header_bytes, entry_of, entry_bytes}
-use Rattle.sporc_entry.specs.Version.{fits_version, body_place}
 
 -- an edit of two bytes by a device of member 258
 abbrev edit : ℕ → ℕ → Entry

@@ -1,16 +1,11 @@
 -- A role that is read is spelled by the byte that it took, and a spelled role is read again.
 use Rattle.std.proofs.Common.{◌≡◌, ℕ, ◌+◌, ◌<◌, ◌≤◌, ◌^◌, List, [], ◌∷◌, Ok, refl, sym, ap, subst, arith}
-use Rattle.std.specs.Prelude.{◌==◌}
-use Rattle.std.specs.Int.{w8, to_be_bytes}
-use Rattle.std.proofs.lemmas.Bool.{eqb-true}
-use Rattle.sporc_base.specs.Bytes.{IsBytes}
+use Rattle.sporc_entry.proofs.Common.{◌==◌, w8, to_be_bytes, eqb-true, IsBytes, Reading, ◌>>=◌, number_within, present, bind_ok, ok_is, present_ok, Takes, byte_takes, byte_again, role_code_of}
+use Rattle.sporc_entry.proofs.Common.{role_with_code}
 use Rattle.sporc_base.proofs.ListLemmas.{found_passes}
-use Rattle.sporc_bytes.specs.Fields.{Reading, ◌>>=◌, number_within, present}
-use Rattle.sporc_bytes.proofs.Fields.{bind_ok, ok_is, present_ok, Takes, byte_takes, byte_again}
 pub use Rattle.sporc_bytes.proofs.Fields.{fault_as_ok}
 use Rattle.sporc_member.specs.declared.role.Role.{Role}
 use Rattle.sporc_member.specs.declared.role.Role.TheVariants.{Reader, Editor, Admin}
-use Rattle.sporc_member.specs.Role.{role_code_of, role_with_code}
 use Rattle.sporc_entry.specs.Fields.{role_at}
 
 -- reading took the bytes that are spelled so, what is left among them

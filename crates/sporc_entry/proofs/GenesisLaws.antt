@@ -1,70 +1,32 @@
 -- A genesis that is read is spelled so, and one that is spelled so is read again.
-use Rattle.std.proofs.Common.{◌≡◌, ℕ, zero, suc, ◌+◌, ◌^◌, ◌<◌, ◌≤◌, List, [], ◌∷◌, ◌++◌, length, get_or, Option, Some, None, Result, Ok, Err, refl, sym, ap, subst, ◌∙◌, append_assoc, arith, lit<}
-use Rattle.std.specs.Prelude.{IfOk}
-use Rattle.std.specs.List.{flat_map, AllByRecursion}
+use Rattle.std.proofs.Common.{◌≡◌, ℕ, ◌+◌, ◌^◌, ◌<◌, ◌≤◌, List, [], ◌∷◌, ◌++◌, length, Option, Some, None, Result, Ok, Err, refl, sym, ap, subst, ◌∙◌, append_assoc, arith, lit<}
+use Rattle.sporc_entry.proofs.Common.{IfOk, flat_map, AllByRecursion, w16, to_be_bytes, append-nil, Reading, ◌>>=◌, fault_as, end_at, IsBytes, bind_ok, ok_is, Takes, Takes-then, wide16, bytes_takes}
+use Rattle.sporc_entry.proofs.Common.{bytes_again, end_takes, within_takes, byte_takes, u16_within_again, byte_again, MAX_MEMBERS, HIGHEST_MEMBER, role_code_of, GivesUnless, accepted, tested}
+use Rattle.sporc_entry.proofs.Common.{founder_bytes}
 use Rattle.std.specs.List.Sorted.{IsStrictlyIncreasing}
-use Rattle.std.specs.Int.{w16, to_be_bytes}
-use Rattle.std.proofs.lemmas.List.{append-nil}
-use Rattle.sporc_bytes.specs.Fields.{Reading, ◌>>=◌, fault_as, end_at, values_at}
-use Rattle.sporc_base.specs.Bytes.{IsBytes}
-use Rattle.sporc_bytes.proofs.Fields.{bind_ok, ok_is, Takes, Takes-then, wide16, bytes_takes, bytes_again, end_takes, within_takes, byte_takes, u16_within_again, byte_again}
-use Rattle.sporc_bytes.proofs.ListLaws.{Ascends, IsReadFrom, ascending_take, ascending_again}
-use Rattle.sporc_member.specs.declared.limits.TheConstants.{MAX_MEMBERS}
-use Rattle.sporc_entry.specs.declared.limits.TheConstants.{HIGHEST_MEMBER}
+use Rattle.sporc_bytes.proofs.Ascending.{Ascends, increasing_ascends}
+use Rattle.sporc_bytes.proofs.ListLaws.{AreReadFrom, IsReadFrom, ReadsAgain, ascending_take, ascending_again}
 use Rattle.sporc_member.specs.declared.founder.Founder.{Founder}
-use Rattle.sporc_member.specs.Role.{role_code_of}
 use Rattle.sporc_member.specs.Roster.{founder_numbers}
 use Rattle.sporc_entry.specs.declared.fault.GenesisFault.{GenesisFault}
 use Rattle.sporc_entry.specs.declared.fault.GenesisFault.TheVariants.{Malformed, Memory}
 use Rattle.sporc_entry.specs.declared.genesis.Genesis.{Genesis}
-use Rattle.sporc_base.specs.Outcome.{GivesUnless}
-use Rattle.sporc_entry.specs.Genesis.{founder_at, next_founder, founders_at, genesis_at, genesis_in, founders_fault, accepted, tested, genesis_of, founder_bytes, genesis_bytes, IsFounder, IsGenesis}
+use Rattle.sporc_entry.specs.Genesis.{founder_at, founders_at, genesis_at, genesis_in, founders_fault, genesis_of, genesis_bytes, IsFounder, IsGenesis}
 use Rattle.sporc_entry.proofs.FieldLaws.{Leaves, is_one, role_takes, role_again}
 
--- ---- numbers in ascending order
-
--- a list whose second number is above its first, and that increases from there
-pub increasing_cons : (x y : ℕ) (ys : List ℕ) → x < y → IsStrictlyIncreasing (y ∷ ys) → IsStrictlyIncreasing (x ∷ y ∷ ys)
-increasing_cons x y ys lt is zero h = lt
-increasing_cons x y ys lt is (suc k) h =
-    let one : suc k + 1 ≡ suc (k + 1) = omega arith in
-    let P : ℕ → Type 0 = λ j. get_or (y ∷ ys) k 0 < get_or (x ∷ y ∷ ys) j 0 in
-    subst P (sym one) (is k (omega (arith, h)))
-
-pub increasing_tail : (x y : ℕ) (ys : List ℕ) → IsStrictlyIncreasing (x ∷ y ∷ ys) → (x < y) × IsStrictlyIncreasing (y ∷ ys)
-increasing_tail x y ys is = (is 0 (omega arith), later)
-  where
-    later : IsStrictlyIncreasing (y ∷ ys)
-    later k h =
-        let one : suc k + 1 ≡ suc (k + 1) = omega arith in
-        let P : ℕ → Type 0 = λ j. get_or (y ∷ ys) k 0 < get_or (x ∷ y ∷ ys) j 0 in
-        subst P one (is (suc k) (omega (arith, h)))
+-- ---- founders
 
 -- a founder's number
 abbrev number_of : Founder → ℕ
 number_of m = m.member
 
-ascends_increasing : (least : ℕ) (ms : List Founder) → Ascends number_of least ms → IsStrictlyIncreasing (founder_numbers ms)
-ascends_increasing least [] is = λ k h. absurd (omega (arith, h))
-ascends_increasing least (m ∷ []) is = λ k h. absurd (omega (arith, h))
-ascends_increasing least (m ∷ n ∷ ms) is = increasing_cons m.member n.member (founder_numbers ms) (omega (arith, is.1.0)) (ascends_increasing (m.member + 1) (n ∷ ms) is.1)
-
-increasing_ascends : (least : ℕ) (m : Founder) (ms : List Founder) → least ≤ m.member → IsStrictlyIncreasing (founder_numbers (m ∷ ms)) → Ascends number_of least (m ∷ ms)
-increasing_ascends least m [] le is = (le, tt)
-increasing_ascends least m (n ∷ ms) le is =
-    let t = increasing_tail m.member n.member (founder_numbers ms) is in
-    (le, increasing_ascends (m.member + 1) n ms (omega (arith, t.0)) t.1)
-
--- ---- founders
-
 -- a founder that is read, from a least number on
-founder_takes : (least : ℕ) (r : Reading) (x : Founder × (ℕ × Reading)) → 1 ≤ least → IsBytes r.rest → next_founder (least, r) ≡ Ok x → IsReadFrom number_of founder_bytes IsFounder least r x
-unfolding founder_at next_founder
+founder_takes : (least : ℕ) (r : Reading) (x : Founder × Reading) → 1 ≤ least → IsBytes r.rest → founder_at least r ≡ Ok x → IsReadFrom number_of founder_bytes IsFounder least r x
+unfolding founder_at
 founder_takes least r x pos h e =
-    let f = bind_ok (founder_at least r) (λ m. Ok (m.0, (m.0.member + 1, m.1))) x e in
-    let a = bind_ok _ _ f.0 f.1 in
-    let b = bind_ok _ _ f.0 a.2 in
-    let c = bind_ok _ _ f.0 b.2 in
+    let a = bind_ok _ _ x e in
+    let b = bind_ok _ _ x a.2 in
+    let c = bind_ok _ _ x b.2 in
     let ta = within_takes least HIGHEST_MEMBER w16 (2 ^ 16) wide16 r a.0 h a.1 in
     let tb = role_takes a.0.1 b.0 ta.0.bytes b.1 in
     let tc = bytes_takes 56 b.0.1 c.0 tb.bytes c.1 in
@@ -72,55 +34,35 @@ founder_takes least r x pos h e =
     let last = Takes-then a.0.1 (role_code_of b.0.0 ∷ []) b.0.1 c.0.0 c.0.1 tb tc.0 in
     let whole = Takes-then r (to_be_bytes w16 a.0.0) a.0.1 ((role_code_of b.0.0 ∷ []) ++ c.0.0) c.0.1 ta.0 last in
     let is : IsFounder made.0 = record { member = (omega (arith, pos, ta.1), omega (arith, ta.2)); key = tc.1 } in
-    let P : Founder × Reading → Type 0 = λ y. IsReadFrom number_of founder_bytes IsFounder least r (y.0, (y.0.member + 1, y.1)) in
-    let Q : Founder × (ℕ × Reading) → Type 0 = λ y. IsReadFrom number_of founder_bytes IsFounder least r y in
-    subst Q (ok_is (f.0.0, (f.0.0.member + 1, f.0.1)) x f.2) (subst P (ok_is made f.0 c.2) (record { text = whole; above = ta.1; next = refl; is = is }))
+    let P : Founder × Reading → Type 0 = λ y. IsReadFrom number_of founder_bytes IsFounder least r y in
+    subst P (ok_is made x c.2) (record { text = whole; above = ta.1; is = is })
 
-founder_again : (least : ℕ) (m : Founder) (at : ℕ) (rest : List ℕ) → IsFounder m → least ≤ m.member → founder_at least (record { rest = founder_bytes m ++ rest; at = at }) ≡ Ok (m, record { rest = rest; at = at + 2 + 1 + 56 })
+founder_again : ReadsAgain founder_at number_of founder_bytes IsFounder
 unfolding founder_at
 founder_again least m at rest is le =
-    let regrouped : founder_bytes m ++ rest ≡ to_be_bytes w16 m.member ++ (role_code_of m.role ∷ (m.key ++ rest)) = append_assoc (to_be_bytes w16 m.member) (role_code_of m.role ∷ m.key) rest in
-    ap (λ (bs : List ℕ). founder_at least (record { rest = bs; at = at })) regrouped ∙ rw (
-      u16_within_again least HIGHEST_MEMBER m.member at (role_code_of m.role ∷ (m.key ++ rest)) le (omega (arith, is.member.1)) is.member.1,
-      role_again m.role (at + 2) (m.key ++ rest),
-      bytes_again 56 (at + 2 + 1) m.key rest is.key,
-    ) refl
+    let regrouped : founder_bytes m ++ rest ≡ to_be_bytes w16 m.member ++ (role_code_of m.role ∷ (m.key ++ rest)) = append_assoc (to_be_bytes w16 m.member) (role_code_of m.role ∷ m.key) rest in (
+      at + 2 + 1 + 56,
+      ap (λ (bs : List ℕ). founder_at least (record { rest = bs; at = at })) regrouped ∙ rw (
+        u16_within_again least HIGHEST_MEMBER m.member at (role_code_of m.role ∷ (m.key ++ rest)) le (omega (arith, is.member.1)) is.member.1,
+        role_again m.role (at + 2) (m.key ++ rest),
+        bytes_again 56 (at + 2 + 1) m.key rest is.key,
+      ) refl,
+    )
 
-next_again : (least : ℕ) (m : Founder) (at : ℕ) (rest : List ℕ) → IsFounder m → least ≤ m.member
-    → (after : ℕ) × (next_founder (least, record { rest = founder_bytes m ++ rest; at = at }) ≡ Ok (m, (m.member + 1, record { rest = rest; at = after })))
-unfolding next_founder
-next_again least m at rest is le = (at + 2 + 1 + 56, rw (founder_again least m at rest is le) refl)
-
--- founders that are read from the first on
-pub record AreFounders (n : ℕ) (r : Reading) (x : List Founder × Reading) : Type 0 where
-  pub text : Takes r (flat_map founder_bytes x.0) x.1
-  pub count : length x.0 ≡ n
-  pub each : AllByRecursion IsFounder x.0
-  pub ascending : IsStrictlyIncreasing (founder_numbers x.0)
-
-founders_take : (n : ℕ) (r : Reading) (x : List Founder × Reading) → IsBytes r.rest → founders_at n r ≡ Ok x → AreFounders n r x
+founders_take : (n : ℕ) (r : Reading) (x : List Founder × Reading) → IsBytes r.rest → founders_at n r ≡ Ok x → AreReadFrom number_of founder_bytes IsFounder n r x
 unfolding founders_at
-founders_take n r x h e =
-    let l = bind_ok (values_at next_founder n (1, r)) (λ founders. Ok (founders.0, founders.1.1)) x e in
-    let t = ascending_take next_founder number_of founder_bytes IsFounder 1 founder_takes n 1 r l.0 (omega arith) h l.1 in
-    let P : List Founder × Reading → Type 0 = λ y. AreFounders n r y in
-    subst P (ok_is (l.0.0, l.0.1.1) x l.2) (record { text = t.text; count = t.count; each = t.each; ascending = ascends_increasing 1 l.0.0 t.ascending })
+founders_take n r x h e = ascending_take founder_at number_of founder_bytes IsFounder 1 founder_takes n r x h e
 
 -- founders in range ascend from 1 on
-ascends_from_one : (ms : List Founder) → AllByRecursion IsFounder ms → IsStrictlyIncreasing (founder_numbers ms) → Ascends number_of 1 ms
+ascends_from_one : (ms : List Founder) → AllByRecursion IsFounder ms → IsStrictlyIncreasing (founder_numbers ms) → Ascends 1 (founder_numbers ms)
 ascends_from_one [] is asc = tt
-ascends_from_one (m ∷ ms) is asc = increasing_ascends 1 m ms (omega (arith, is.0.member.0)) asc
+ascends_from_one (m ∷ ms) is asc = increasing_ascends 1 m.member (founder_numbers ms) (omega (arith, is.0.member.0)) asc
 
 -- the founders of all bytes that are left
 founders_again : (ms : List Founder) (at : ℕ) → AllByRecursion IsFounder ms → IsStrictlyIncreasing (founder_numbers ms)
     → (after : ℕ) × (founders_at (length ms) (record { rest = flat_map founder_bytes ms; at = at }) ≡ Ok (ms, record { rest = []; at = after }))
 unfolding founders_at
-founders_again ms at is asc =
-    let t = ascending_again next_founder number_of founder_bytes IsFounder next_again ms 1 at [] is (ascends_from_one ms is asc) in
-    let regrouped : flat_map founder_bytes ms ++ [] ≡ flat_map founder_bytes ms = append-nil (flat_map founder_bytes ms) in
-    let read : values_at next_founder (length ms) (1, record { rest = flat_map founder_bytes ms; at = at }) ≡ Ok (ms, (t.0, record { rest = []; at = t.1 })) =
-    ap (λ (bs : List ℕ). values_at next_founder (length ms) (1, record { rest = bs; at = at })) (sym regrouped) ∙ t.2 in
-    (t.1, rw read refl)
+founders_again ms at is asc = ascending_again founder_at number_of founder_bytes IsFounder founder_again ms 1 at is (ascends_from_one ms is asc)
 
 -- ---- geneses
 

@@ -1,4 +1,3 @@
-pub mod FounderLoop
 pub mod FieldLaws
 pub mod VersionLaws
 pub mod ChangeLaws
@@ -9,3 +8,4 @@ pub mod Places
 pub mod ViewLaws
 mod Skimmed
 mod Examples
+pub mod Common

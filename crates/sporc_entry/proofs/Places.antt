@@ -1,25 +1,17 @@
 -- The place of a fault is within the bytes that are read.
 use Rattle.std.proofs.Common.{◌≡◌, ℕ, zero, suc, ◌+◌, ◌≤◌, Bool, true, false, cond, ltb, leb, eqb, List, [], ◌∷◌, length, take, drop, Option, Some, None, Result, Ok, Err, refl, subst, arith}
-use Rattle.std.specs.Prelude.{◌&&◌, MatchResult, option_map}
-use Rattle.std.specs.Int.{Width, w8, w16, w32, byte_len}
-use Rattle.std.proofs.lemmas.Bool.{ltb-false}
-use Rattle.std.proofs.lemmas.List.{length-take, length-drop}
-use Rattle.sporc_bytes.specs.Fields.{Reading, ◌>>=◌, bytes_at, number_at, only_if, counted_at, end_at, present, fault_as, number_within, values_at}
+use Rattle.sporc_entry.proofs.Common.{◌&&◌, MatchResult, option_map, Width, w8, w16, w32, byte_len, ltb-false, length-take, length-drop, Reading, ◌>>=◌, only_if, end_at, present, fault_as, MAX_MEMBERS}
+use Rattle.sporc_entry.proofs.Common.{Add, Remove, SetRole, AddDevice, DropDevice, Upgrade, role_with_code, HIGHEST_MEMBER, MAX_SIGNATURE, Header, FIRST_VERSION, DEVICES_VERSION, ADD, REMOVE, SET_ROLE}
+use Rattle.sporc_entry.proofs.Common.{ADD_DEVICE, UPGRADE, device_at, body_limit, body_read, accepted, tested, names_device, has_kind, header_len, body_place}
+use Rattle.sporc_bytes.specs.Fields.{ascending_at, bytes_at, number_at, counted_at, next_of, number_within, values_at}
 use Rattle.sporc_base.specs.FirstFault.{unless, first_of}
-use Rattle.sporc_member.specs.declared.limits.TheConstants.{MAX_MEMBERS}
-use Rattle.sporc_member.specs.declared.change.Change.TheVariants.{Add, Remove, SetRole, AddDevice, DropDevice, Upgrade}
 use Rattle.sporc_member.specs.declared.founder.Founder.{Founder}
-use Rattle.sporc_member.specs.Role.{role_with_code}
-use Rattle.sporc_entry.specs.declared.limits.TheConstants.{HIGHEST_MEMBER, MAX_SIGNATURE}
 use Rattle.sporc_entry.specs.declared.fault.GenesisFault.TheVariants.{Malformed, NoAdmin, BadKey}
 use Rattle.sporc_entry.specs.declared.genesis.Genesis.{Genesis}
 use Rattle.sporc_entry.specs.Fields.{role_at}
-use Rattle.sporc_entry.specs.declared.header.Header.{Header}
-use Rattle.sporc_entry.specs.declared.version.TheConstants.{FIRST_VERSION, DEVICES_VERSION, ADD, REMOVE, SET_ROLE, ADD_DEVICE, UPGRADE}
 use Rattle.sporc_entry.specs.ChangeBody.{kind_at, change_of_device, change_of_member, change_of_kind, change_at, wrap_at, change_body_at, change_body_from}
-use Rattle.sporc_entry.specs.Entry.{device_at, header_at, body_limit, body_read, entry_of}
-use Rattle.sporc_entry.specs.Genesis.{founder_at, next_founder, founders_at, genesis_at, genesis_in, has_admin_founder, bad_key, accepted, tested, genesis_of}
-use Rattle.sporc_entry.specs.Version.{names_device, has_kind, header_len, body_place}
+use Rattle.sporc_entry.specs.Entry.{header_at, entry_of}
+use Rattle.sporc_entry.specs.Genesis.{founder_at, founders_at, genesis_at, genesis_in, has_admin_founder, bad_key, genesis_of}
 
 -- ---- steps
 
@@ -243,10 +235,12 @@ founder_ends end least r e =
     (λ role k. then end _ _ (bytes_at 56 role.1) _ (bytes_begin 56 end _ role.1 k) (λ key l. l.1.ends)))
 
 founders_end : (end n : ℕ) (r : Reading) → r.at + length r.rest ≡ end → Bounded end (Ends end) (founders_at n r)
-unfolding founders_at next_founder
-founders_end end n r e = then end _ _ (values_at next_founder n (1, r)) _ (values_end end (λ s. s.1.at + length s.1.rest ≡ end) next_founder each n (1, r) e) (λ founders h. h)
+unfolding founders_at ascending_at next_of
+founders_end end n r e =
+    then end _ _ (values_at (next_of founder_at (λ m. m.member)) n (1, r)) _
+    (values_end end (λ s. s.1.at + length s.1.rest ≡ end) (next_of founder_at (λ m. m.member)) each n (1, r) e) (λ founders h. h)
   where
-    each : (s : ℕ × Reading) → s.1.at + length s.1.rest ≡ end → Bounded end (λ x. x.1.1.at + length x.1.1.rest ≡ end) (next_founder s)
+    each : (s : ℕ × Reading) → s.1.at + length s.1.rest ≡ end → Bounded end (λ x. x.1.1.at + length x.1.1.rest ≡ end) (next_of founder_at (λ m. m.member) s)
     each s h = then end _ _ (founder_at s.0 s.1) _ (founder_ends end s.0 s.1 h) (λ m k. k)
 
 genesis_in_bounded : (bytes : List ℕ) → Bounded (length bytes) (λ _. Unit {0}) (genesis_in bytes)

@@ -1,14 +1,8 @@
 -- Reading of which only the place behind it is kept.
 use Rattle.std.proofs.Common.{◌≡◌, ◌≢◌, ℕ, suc, ◌-◌, ◌+◌, ◌≤◌, ◌<◌, List, ◌∷◌, Result, Ok, Err, refl, sym, ap, ◌∙◌, arith}
-use Rattle.std.proofs.lemmas.Bool.{ne_eqb}
-use Rattle.sporc_bytes.specs.Fields.{Reading, ◌>>=◌, values_at, end_at}
-use Rattle.sporc_bytes.proofs.Fields.{ok_is}
-use Rattle.sporc_entry.specs.declared.change.ChangeBody.{ChangeBody}
-use Rattle.sporc_entry.specs.declared.header.Header.{Header}
-use Rattle.sporc_entry.specs.ChangeBody.{change_body_at, change_body_from}
-use Rattle.sporc_entry.specs.Entry.{body_read}
-use Rattle.sporc_entry.specs.Version.{body_place}
-use Rattle.sporc_entry.specs.Skimming.{left_by}
+use Rattle.sporc_entry.proofs.Common.{ne_eqb, Reading, ◌>>=◌, end_at, ok_is, ChangeBody, Header, change_body_at, body_read, body_place, left_by}
+use Rattle.sporc_bytes.specs.Fields.{values_at}
+use Rattle.sporc_entry.specs.ChangeBody.{change_body_from}
 
 -- what is left behind one value and others is what is left behind the others
 pub left_then : {A B : Type 0} (f : A → B) (read : Result (A × Reading) ℕ) → left_by (read >>= λ x. Ok (f x.0, x.1)) ≡ left_by read

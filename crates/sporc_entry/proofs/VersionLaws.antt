@@ -1,14 +1,8 @@
 -- What holds of versions: which there are, where a device is named, and which kinds of change they have.
 use Rattle.std.proofs.Common.{◌≡◌, ℕ, ◌+◌, ◌^◌, ◌<◌, ◌≤◌, Bool, true, false, cond, eqb, leb, List, [], ◌∷◌, ◌++◌, length, Result, Ok, refl, sym, ap, subst, ◌∙◌, arith}
-use Rattle.std.specs.Prelude.{◌&&◌, ◌||◌}
-use Rattle.std.specs.Int.{w8}
-use Rattle.std.proofs.lemmas.Bool.{eqb-true, eqb-false, leb-true, and_parts}
-use Rattle.sporc_base.specs.Bytes.{IsBytes}
-use Rattle.sporc_bytes.specs.Fields.{Reading, ◌>>=◌, number_at, only_if}
-use Rattle.sporc_bytes.proofs.Fields.{bind_ok, ok_is, only_if_ok, Takes, Takes-nothing, wide8, number_takes, u8_again}
+use Rattle.sporc_entry.proofs.Common.{◌&&◌, ◌||◌, w8, eqb-true, eqb-false, leb-true, and_parts, IsBytes, Reading, ◌>>=◌, number_at, only_if, bind_ok, ok_is, only_if_ok, Takes, Takes-nothing, wide8}
+use Rattle.sporc_entry.proofs.Common.{number_takes, u8_again, device_at, device_bytes, names_device, fits_version, has_kind, header_len}
 use Rattle.sporc_entry.specs.ChangeBody.{kind_at}
-use Rattle.sporc_entry.specs.Entry.{device_at, device_bytes}
-use Rattle.sporc_entry.specs.Version.{names_device, fits_version, has_kind, header_len}
 use Rattle.sporc_entry.proofs.FieldLaws.{byte_is}
 
 -- ---- versions

@@ -1,15 +1,8 @@
 -- An entry read where its bytes stand: what its author signs is a part of the bytes, and its parts stand at their places.
 use Rattle.std.proofs.Common.{◌≡◌, ℕ, ◌+◌, ◌≤◌, Bool, true, false, cond, eqb, List, [], ◌∷◌, ◌++◌, length, take, drop, Option, None, Ok, refl, sym, ap, ◌∙◌, append_assoc, arith, length-append}
-use Rattle.std.specs.Int.{w32, to_be_bytes}
+use Rattle.sporc_entry.proofs.Common.{w32, to_be_bytes, eqb-true, eqb-false, append-nil, take_at, drop_at, IsBytes, ChangeBody, Entry, change_body_from, entry_of, counted_bytes, IsEntry, body_place}
 use Rattle.std.specs.Result.{result_ok}
-use Rattle.std.proofs.lemmas.Bool.{eqb-true, eqb-false}
-use Rattle.std.proofs.lemmas.List.{append-nil, take_at, drop_at}
-use Rattle.sporc_base.specs.Bytes.{IsBytes}
-use Rattle.sporc_entry.specs.declared.change.ChangeBody.{ChangeBody}
-use Rattle.sporc_entry.specs.declared.entry.Entry.{Entry}
-use Rattle.sporc_entry.specs.ChangeBody.{change_body_from}
-use Rattle.sporc_entry.specs.Entry.{entry_of, change_of, header_bytes, counted_bytes, entry_bytes, signed_string, IsEntry}
-use Rattle.sporc_entry.specs.Version.{body_place}
+use Rattle.sporc_entry.specs.Entry.{change_of, header_bytes, entry_bytes, signed_string}
 use Rattle.sporc_entry.specs.EntryView.{parts_entry, entry_within, EntryViewInvariant}
 use Rattle.sporc_entry.proofs.ChangeLaws.{change_body_takes, change_body_again}
 use Rattle.sporc_entry.proofs.EntryLaws.{entry_takes, length-header_bytes, length-counted_bytes}

@@ -1,11 +1,7 @@
 -- Bytes written one after another are the bytes of the whole.
 use Rattle.std.proofs.Common.{◌≡◌, ℕ, List, [], ◌∷◌, ◌++◌, length, sym, ap, ◌∙◌, append_assoc}
-use Rattle.std.specs.Int.{w32, to_be_bytes}
-use Rattle.std.proofs.lemmas.List.{append-nil}
-use Rattle.sporc_bytes.specs.Fields.{counted}
-use Rattle.sporc_entry.specs.declared.entry.Entry.{Entry}
-use Rattle.sporc_entry.specs.declared.header.Header.{Header}
-use Rattle.sporc_entry.specs.Entry.{header_bytes, counted_bytes, entry_bytes, signed_string}
+use Rattle.sporc_entry.proofs.Common.{w32, to_be_bytes, append-nil, counted, Entry, Header, counted_bytes}
+use Rattle.sporc_entry.specs.Entry.{header_bytes, entry_bytes, signed_string}
 
 pub header_bytes-append : (h : Header) (rest : List ℕ) → header_bytes h [] ++ rest ≡ header_bytes h rest
 unfolding header_bytes

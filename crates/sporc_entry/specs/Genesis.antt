@@ -14,7 +14,7 @@ use Rattle.std.specs.List.Sorted.{IsStrictlyIncreasing}
 use Rattle.std.specs.Int.{w8, w16, to_be_bytes}
 use Rattle.lms_tree.specs.LmsPublic.{public_key_in}
 use Rattle.sporc_bytes.specs.Fields.{Reading, ◌>>=◌, fault_as, bytes_at, end_at, number_within}
-use Rattle.sporc_bytes.specs.Fields.{values_at}
+use Rattle.sporc_bytes.specs.Fields.{ascending_at}
 use Rattle.sporc_member.specs.declared.limits.TheConstants.{MAX_MEMBERS}
 use Rattle.sporc_entry.specs.declared.limits.TheConstants.{HIGHEST_MEMBER}
 use Rattle.sporc_member.specs.declared.founder.Founder.{Founder}
@@ -37,17 +37,9 @@ founder_at least r = do
   key ← bytes_at 56 role.1
   Ok (record { member = member.0; role = role.0; key = key.0 }, key.1)
 
--- a founder whose number is at least this, and the least number of the one after it
-unfoldable pub next_founder : ℕ × Reading → Result (Founder × (ℕ × Reading)) ℕ
-next_founder (least, r) = do
-  m ← founder_at least r
-  Ok (m.0, (m.0.member + 1, m.1))
-
 -- so many founders in ascending order of their numbers
 unfoldable pub founders_at : ℕ → Reading → Result (List Founder × Reading) ℕ
-founders_at n r = do
-  founders ← values_at next_founder n (1, r)
-  Ok (founders.0, founders.1.1)
+founders_at n r = ascending_at founder_at (λ m. m.member) 1 n r
 
 -- the fields of a genesis
 unfoldable pub genesis_at : Reading → Result (Genesis × Reading) ℕ

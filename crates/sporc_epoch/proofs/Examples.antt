@@ -1,19 +1,12 @@
 -- Worked examples of the definitions.
 use Rattle.std.proofs.Common.{◌≡◌, ℕ, true, false, List, [], ◌∷◌, Some, None, refl}
-use Rattle.std.specs.Prelude.{Ok, Err}
-use Rattle.std.specs.FinMap.{insert, empty, gets}
-use Rattle.sporc_cipher.specs.Mask.{mask_of}
+use Rattle.sporc_epoch.proofs.Common.{Ok, Err, insert, empty, gets, mask_of, Wrap, EpochStart, Keys, entry_stream, previous_stream, least_unpaired, wraps_sealed, is_committed}
 use Rattle.sporc_member.specs.declared.role.Role.TheVariants.{Editor}
 use Rattle.sporc_member.specs.declared.change.Change.TheVariants.{Add, Remove, AddDevice}
 use Rattle.sporc_member.specs.Device.{first_device}
-use Rattle.sporc_entry.specs.declared.wrap.Wrap.{Wrap}
 use Rattle.sporc_epoch.specs.declared.fault.HintFault.TheVariants.{WrongKey}
-use Rattle.sporc_epoch.specs.declared.start.EpochStart.{EpochStart}
-use Rattle.sporc_epoch.specs.Keys.{Keys}
-use Rattle.sporc_epoch.specs.Streams.{entry_stream, previous_stream}
 use Rattle.sporc_epoch.specs.Wraps.{wrap_for}
-use Rattle.sporc_epoch.specs.Sealing.{least_unpaired, wraps_sealed}
-use Rattle.sporc_epoch.specs.Hints.{adds, is_committed, keys_back}
+use Rattle.sporc_epoch.specs.Hints.{adds, keys_back}
 
 -- leaf 5 of member 3, by its first device and by device 7
 stream_of_an_entry : entry_stream (first_device 3) 5 ≡ 0x030000000005

@@ -5,3 +5,4 @@ pub mod PairMaps
 pub mod SealedKeys
 pub mod WalkBack
 pub mod SpelledBodies
+pub mod Common

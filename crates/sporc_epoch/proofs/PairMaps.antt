@@ -1,11 +1,8 @@
 -- Keys that members share, as the maps of the code hold them.
 use Rattle.std.proofs.Common.{◌≡◌, ℕ, List, Some, cond, ap, sym, ◌∙◌}
-use Rattle.std.specs.Ordering.{nat_cmp, eq_by_cmp}
-use Rattle.std.specs.Cmp.{nat_cmp_total, nat_eq_equiv, unsigned_tied, unsigned_ties}
+use Rattle.sporc_epoch.proofs.Common.{nat_cmp, eq_by_cmp, nat_cmp_total, nat_eq_equiv, unsigned_tied, unsigned_ties, insert, get-insert, same_map, nat_cmp-IsAntisymmetric, pairs_in}
 use Rattle.std.specs.BTreeMap.{BTreeMap}
 use Rattle.std.specs.BTreeMap as tree
-use Rattle.std.specs.FinMap.{insert, get-insert, same_map, nat_cmp-IsAntisymmetric}
-use Rattle.sporc_epoch.specs.Keys.{pairs_in}
 use Rattle.sporc_epoch.proofs.Lookups.{get_pairs}
 
 is_it : (k q : ℕ) → tree.is_at (nat_cmp k) q ≡ eq_by_cmp nat_cmp q k

@@ -1,19 +1,12 @@
 -- The body of a sealed change has a spelling.
 use Rattle.std.proofs.Common.{◌≡◌, true, ℕ, zero, suc, ◌+◌, ◌<◌, ◌≤◌, ◌^◌, List, [], ◌∷◌, length, get_or, None, Some, refl, ap, subst, sym, ◌∙◌, arith}
-use Rattle.std.specs.Prelude.{Option, Ok, option_map}
-use Rattle.std.specs.List.{All, AllByRecursion, cons_option}
-use Rattle.std.specs.FinMap.{get}
+use Rattle.sporc_epoch.proofs.Common.{Option, Ok, option_map, All, AllByRecursion, cons_option, get, mask_of, length-mask_from, Wrap, Keys, previous_stream, Sealing, wraps_sealed}
 use Rattle.sha2.proofs.Facts256.{length-sha256}
-use Rattle.sporc_cipher.specs.Mask.{mask_of}
-use Rattle.sporc_cipher.proofs.Stream.{length-mask_from}
 use Rattle.sporc_member.specs.declared.limits.TheConstants.{MAX_MEMBERS}
 use Rattle.sporc_entry.specs.declared.change.ChangeBody.{ChangeBody}
-use Rattle.sporc_entry.specs.declared.wrap.Wrap.{Wrap}
 use Rattle.sporc_entry.specs.ChangeBody.{kind_of, IsChange, IsWrap, IsChangeBody}
 use Rattle.sporc_entry.specs.Version.{has_kind}
-use Rattle.sporc_epoch.specs.Keys.{Keys}
-use Rattle.sporc_epoch.specs.Streams.{previous_stream}
-use Rattle.sporc_epoch.specs.Sealing.{Sealing, wraps_sealed, body_sealed, change_sealed}
+use Rattle.sporc_epoch.specs.Sealing.{body_sealed, change_sealed}
 use Rattle.sporc_epoch.proofs.SealedKeys.{sealed}
 
 -- a wrap, where there is a pairwise key, and those of the others

@@ -1,15 +1,10 @@
 -- One step of the walk back through the epochs.
 use Rattle.std.proofs.Common.{◌≡◌, ℕ, true, false, cond, List, [], ◌∷◌, ◌++◌, reverse, refl, ap, ◌∙◌}
-use Rattle.std.specs.Prelude.{Result, Ok, Err}
+use Rattle.sporc_epoch.proofs.Common.{Result, Ok, Err, insert, mask_of, EpochStart, Keys, previous_stream, is_of, is_committed, ring_of}
 use Rattle.std.proofs.lemmas.List.{reverse-append}
-use Rattle.std.specs.FinMap.{insert}
-use Rattle.sporc_cipher.specs.Mask.{mask_of}
 use Rattle.sporc_epoch.specs.declared.fault.HintFault.{HintFault}
 use Rattle.sporc_epoch.specs.declared.fault.HintFault.TheVariants.{WrongKey}
-use Rattle.sporc_epoch.specs.declared.start.EpochStart.{EpochStart}
-use Rattle.sporc_epoch.specs.Keys.{Keys}
-use Rattle.sporc_epoch.specs.Streams.{previous_stream}
-use Rattle.sporc_epoch.specs.Hints.{is_of, is_committed, with_key, keys_back, ring_of}
+use Rattle.sporc_epoch.specs.Hints.{with_key, keys_back}
 
 -- the last of some starts is the first from the end
 popped : (starts before : List EpochStart) (start : EpochStart) → starts ≡ before ++ start ∷ [] → reverse starts ≡ start ∷ reverse before

@@ -1,13 +1,17 @@
 -- What a change seals: the key of the epoch that it ends and, for each member after it, the key of
 -- the one that it starts.
-use Rattle.std.specs.Prelude.{ℕ, ◌+◌, min, List, Option, None, Some, Result, Ok, Err, is_none}
-use Rattle.std.specs.Prelude.{option_map, filter, filter_map, fold}
+use Rattle.std.specs.Prelude.{◌≡◌, ℕ, ◌+◌, ◌<◌, ◌≤◌, ◌^◌, min, true, List, length, Option, None}
+use Rattle.std.specs.Prelude.{Some, Result, Ok, Err, is_none, option_map, filter, filter_map, fold}
+use Rattle.std.specs.List.{All}
 use Rattle.std.specs.FinMap.{get}
 use Rattle.sporc_hash.specs.Chain.{commitment_of}
 use Rattle.sporc_cipher.specs.Mask.{mask_of}
 use Rattle.sporc_member.specs.declared.change.Change.{Change}
+use Rattle.sporc_member.specs.declared.limits.TheConstants.{MAX_MEMBERS}
 use Rattle.sporc_entry.specs.declared.change.ChangeBody.{ChangeBody}
 use Rattle.sporc_entry.specs.declared.wrap.Wrap.{Wrap}
+use Rattle.sporc_entry.specs.ChangeBody.{kind_of, IsChange}
+use Rattle.sporc_entry.specs.Version.{has_kind}
 use Rattle.sporc_epoch.specs.declared.fault.SealFault.{SealFault}
 use Rattle.sporc_epoch.specs.declared.fault.SealFault.TheVariants.{NoPairKey}
 use Rattle.sporc_epoch.specs.Keys.{Keys}
@@ -24,6 +28,29 @@ pub record Sealing : Type 0 where
   pub epoch : ℕ
   pub old : List ℕ
   pub new : List ℕ
+
+-- that of these values
+abbrev pub sealing_of : Change → List ℕ → List ℕ → ℕ → ℕ → ℕ → List ℕ → List ℕ → Sealing
+sealing_of change members document author stream epoch old new = record {
+  change = change;
+  members = members;
+  document = document;
+  author = author;
+  stream = stream;
+  epoch = epoch;
+  old = old;
+  new = new;
+}
+
+-- its change has a spelling in a version, its keys have 32 bytes, and it is for at most as many
+-- members as a document can have
+pub record IsSealing (version : ℕ) (s : Sealing) : Type 0 where
+  pub kind : has_kind version (kind_of s.change) ≡ true
+  pub change : IsChange s.change
+  pub old : length s.old ≡ 32
+  pub new : length s.new ≡ 32
+  pub members : All (λ m. m < 2 ^ 16) s.members
+  pub count : length s.members ≤ MAX_MEMBERS
 
 -- a key, sealed for a member under the pairwise key with it, where there is one
 abbrev pub wrap_sealed : ℕ → List ℕ → Keys → ℕ → Option Wrap

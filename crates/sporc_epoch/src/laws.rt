@@ -1,19 +1,15 @@
 //! Laws of sealed keys.
 
-ghost use Rattle.std.specs.Prelude.{◌≡◌, ◌≢◌, ℕ, ◌+◌, ◌-◌, ◌<◌, ◌≤◌, ◌^◌, true, length, map, Ok};
-ghost use Rattle.std.specs.Prelude.{Some, Contains};
-ghost use Rattle.std.specs.List.{All};
+ghost use Rattle.std.specs.Prelude.{◌≡◌, ◌≢◌, ℕ, ◌+◌, ◌-◌, ◌<◌, ◌≤◌, ◌^◌, map, Ok, Some, Contains};
 ghost use Rattle.std.specs.FinMap.{get};
-ghost use Rattle.sporc_member.specs.declared.limits.TheConstants.{MAX_MEMBERS};
 ghost use Rattle.sporc_member.specs.declared.device.Device.{Device};
 ghost use Rattle.sporc_entry.specs.declared.change.ChangeBody.{ChangeBody};
-ghost use Rattle.sporc_entry.specs.ChangeBody.{kind_of, IsChange, IsChangeBody};
-ghost use Rattle.sporc_entry.specs.Version.{has_kind};
+ghost use Rattle.sporc_entry.specs.ChangeBody.{IsChangeBody};
 ghost use Rattle.sporc_epoch.specs.declared.streams.TheConstants.{MAX_EPOCH};
 ghost use Rattle.sporc_epoch.specs.Keys.{Keys};
-ghost use Rattle.sporc_epoch.specs.Sealing.{Sealing, change_sealed};
+ghost use Rattle.sporc_epoch.specs.Sealing.{IsSealing, Sealing, change_sealed};
 ghost use Rattle.sporc_epoch.specs.Streams.{entry_stream, previous_stream};
-ghost use Rattle.sporc_epoch.specs.Wraps.{wrap_opened, previous_opened};
+ghost use Rattle.sporc_epoch.specs.Wraps.{new_opened, previous_opened};
 
 /// The limit in numbers.
 pub fn limits()
@@ -38,8 +34,7 @@ pub fn streams_do_not_meet()
 pub fn sealed_keys_open()
     ensures new { (s : Sealing) (pairs mine : Keys) (body : ChangeBody) (member : ℕ)
         → change_sealed s pairs ≡ Ok body → Contains s.members member
-        → get mine s.author ≡ get pairs member
-        → wrap_opened body s.author s.stream member mine ≡ Some s.new }
+        → get mine s.author ≡ get pairs member → new_opened s body member mine ≡ Some s.new }
     ensures previous { (s : Sealing) (pairs : Keys) (body : ChangeBody)
         → change_sealed s pairs ≡ Ok body → previous_opened body (s.epoch + 1) s.new ≡ s.old }
 {}
@@ -55,8 +50,5 @@ pub fn wraps_name_the_members()
 /// members as a document can have.
 pub fn sealed_changes_are_spelled()
     ensures spelled { (version : ℕ) (s : Sealing) (pairs : Keys) (body : ChangeBody)
-        → change_sealed s pairs ≡ Ok body → has_kind version (kind_of s.change) ≡ true
-        → IsChange s.change → length s.old ≡ 32 → length s.new ≡ 32
-        → All (λ m. m < 2 ^ 16) s.members → length s.members ≤ MAX_MEMBERS
-        → IsChangeBody version body }
+        → change_sealed s pairs ≡ Ok body → IsSealing version s → IsChangeBody version body }
 {}

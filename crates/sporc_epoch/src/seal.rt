@@ -9,7 +9,7 @@ ghost use Rattle.sporc_entry.specs.ChangeBody.{kind_of, IsChange, IsChangeBody};
 ghost use Rattle.sporc_entry.specs.Version.{has_kind};
 ghost use Rattle.sporc_epoch.specs.Keys.{pairs_in};
 ghost use Rattle.sporc_epoch.specs.Sealing.{wrap_sealed, wraps_sealed, lesser, least_unpaired};
-ghost use Rattle.sporc_epoch.specs.Sealing.{change_sealed};
+ghost use Rattle.sporc_epoch.specs.Sealing.{change_sealed, sealing_of};
 ghost use Rattle.sporc_epoch.specs.Streams.{entry_stream};
 
 use crate::fault::SealFault;
@@ -38,16 +38,9 @@ pub fn seal_change(
     pairs: &Pairs,
 ) -> Result<ChangeBody, SealFault>
     requires limit { epoch < MAX_EPOCH }
-    ensures value { GivesUnless SealFault.Memory (λ body. body) result (change_sealed (record {
-      change = change.now;
-      members = members.now;
-      document = document.now;
-      author = author;
-      stream = entry_stream (first_device author) leaf;
-      epoch = epoch;
-      old = old.now;
-      new = new.now;
-    }) (pairs_in pairs.now)) }
+    ensures value { GivesUnless SealFault.Memory (λ body. body) result (change_sealed
+        (sealing_of change.now members.now document.now author
+        (entry_stream (first_device author) leaf) epoch old.now new.now) (pairs_in pairs.now)) }
     // The body has a spelling.
     ensures spelled { (version : ℕ) → has_kind version (kind_of change.now) ≡ true
         → IsChange change.now
@@ -74,16 +67,9 @@ pub fn seal_change_at(
     pairs: &Pairs,
 ) -> Result<ChangeBody, SealFault>
     requires limit { epoch < MAX_EPOCH }
-    ensures value { GivesUnless SealFault.Memory (λ body. body) result (change_sealed (record {
-      change = change.now;
-      members = members.now;
-      document = document.now;
-      author = author;
-      stream = stream;
-      epoch = epoch;
-      old = old.now;
-      new = new.now;
-    }) (pairs_in pairs.now)) }
+    ensures value { GivesUnless SealFault.Memory (λ body. body) result (change_sealed
+        (sealing_of change.now members.now document.now author stream epoch old.now new.now)
+        (pairs_in pairs.now)) }
     // The body has a spelling.
     ensures spelled { (version : ℕ) → has_kind version (kind_of change.now) ≡ true
         → IsChange change.now

@@ -1,10 +1,8 @@
 -- Answers of one step behind another.
 use Rattle.std.proofs.Common.{◌≡◌, ℕ, ◌≤◌, Result, Ok, Err, ap, arith}
+use Rattle.sporc_files.proofs.Common.{Rose, Fault, AnswersUnlessOutside}
 use Rattle.sporc_bytes.specs.Fields.{◌>>=◌}
-use Rattle.sporc_outside.specs.Counts.{Rose}
-use Rattle.sporc_files.specs.declared.fault.Fault.{Fault}
 use Rattle.sporc_files.specs.declared.fault.Fault.TheVariants as faults
-use Rattle.sporc_files.specs.Faults.{AnswersUnlessOutside}
 
 -- a fault of what comes first is one of what comes behind it
 pub fails_first : {X Y A B : Type 0} (one : X → A) (other : Y → B) (Failed : Type 0) (fault : Fault) (r : Result A Fault) (k : A → Result B Fault) → AnswersUnlessOutside one Failed (Err fault) r

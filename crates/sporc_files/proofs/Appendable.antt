@@ -1,14 +1,8 @@
 -- Why a file is not handed out to be appended to, as a fault of the program.
 use Rattle.std.proofs.Common.{◌≡◌, ℕ, List, Option, Some, None, refl}
-use Rattle.sporc_outside.specs.Files.{ChangesFile, IsAppendFault}
+use Rattle.sporc_files.proofs.Common.{ChangesFile, IsAppendFault, NamedFile, Fault, File, fault_of_file, FileNames, file_name, IsAppendingFault}
 use Rattle.sporc_outside.specs.declared.file_fault.FileFault.{FileFault}
 use Rattle.sporc_outside.specs.declared.file_fault.FileFault.TheVariants.{Missing, Failed, TooLong, Exists, Memory}
-use Rattle.sporc_outside.specs.declared.named_file.NamedFile.{NamedFile}
-use Rattle.sporc_files.specs.declared.fault.Fault.{Fault}
-use Rattle.sporc_files.specs.declared.file.File.{File}
-use Rattle.sporc_files.specs.Faults.{fault_of_file}
-use Rattle.sporc_files.specs.Names.{FileNames, file_name}
-use Rattle.sporc_files.specs.Reading.{IsAppendingFault}
 
 of_append : (files : Option (List NamedFile)) (before after : ℕ) (names : FileNames) (file : File) (cause : FileFault) → IsAppendFault files (file_name names file) before after cause
     → IsAppendingFault files before after names file (fault_of_file file cause)

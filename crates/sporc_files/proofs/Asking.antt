@@ -1,6 +1,6 @@
 -- Names asked for, one call after another.
 use Rattle.std.proofs.Common.{ℕ, List, [], ◌++◌, Option, Some, None, sym, ap, ◌∙◌, append-nil, append_assoc}
-use Rattle.std.specs.List.{Contains}
+use Rattle.sporc_files.proofs.Common.{Contains}
 use Rattle.std.proofs.lemmas.List.Elements.{All-append, All-nil, All-weaker, Contains-append_left, Contains-append_right}
 use Rattle.sporc_files.specs.Uses.{AsksOnly}
 

@@ -1,16 +1,9 @@
 -- Why a file is not read or written, case by case.
 use Rattle.std.proofs.Common.{◌≡◌, ◌≤◌, ℕ, List, Option, Result, Err, length, refl, sym, subst, arith}
+use Rattle.sporc_files.proofs.Common.{Rose, HasFile, HasNoFile, IsTooLong, NamedFile, Fault, File, FileNames, file_name, IsFileFault, IsOutsideFault}
 use Rattle.std.specs.Result.{IfErr}
-use Rattle.sporc_outside.specs.Counts.{Rose}
-use Rattle.sporc_outside.specs.Files.{HasFile, HasNoFile, IsTooLong}
 use Rattle.sporc_outside.specs.declared.file_fault.TheConstants.{MAX_FILE}
-use Rattle.sporc_outside.specs.declared.named_file.NamedFile.{NamedFile}
-use Rattle.sporc_files.specs.declared.fault.Fault.{Fault}
 use Rattle.sporc_files.specs.declared.fault.Fault.TheVariants as faults
-use Rattle.sporc_files.specs.declared.file.File.{File}
-use Rattle.sporc_files.specs.Names.{FileNames, file_name}
-use Rattle.sporc_files.specs.Reading.{IsFileFault}
-use Rattle.sporc_files.specs.Faults.{IsOutsideFault}
 
 -- ---- a file that is read
 

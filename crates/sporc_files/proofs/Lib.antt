@@ -6,3 +6,4 @@ pub mod Answering
 pub mod Appendable
 pub mod NamesApart
 mod Examples
+pub mod Common

@@ -1,16 +1,14 @@
 -- The name of a document's file tells which one it is.
 use Rattle.std.proofs.Common.{◌≡◌, ℕ, List, [], ◌∷◌, ◌++◌, length, drop, Option, Some, option_map, codes, refl, sym, ap, ◌∙◌, arith}
+use Rattle.sporc_files.proofs.Common.{DeviceInRange, device_text, File, FileNames, IsOfDocument, file_name, stem_of, suffix_of}
 use Rattle.std.specs.Prelude.{bytes_eq, reverse, if◌then◌else◌}
 use Rattle.std.proofs.lemmas.List.{append_cancel_left, drop_at, length-reverse, reverse-append, reverse-reverse}
 use Rattle.std.proofs.lemmas.Option.{same_Some}
 use Rattle.sporc_member.specs.declared.device.Device.{Device}
 use Rattle.sporc_member.specs.Device.{first_device}
 use Rattle.sporc_script.specs.Readers.{device_of}
-use Rattle.sporc_script.specs.Spelling.{DeviceInRange, device_text}
 use Rattle.sporc_script.proofs.DeviceWords.{device_exact}
-use Rattle.sporc_files.specs.declared.file.File.{File}
 use Rattle.sporc_files.specs.declared.file.File.TheVariants as files
-use Rattle.sporc_files.specs.Names.{FileNames, IsOfDocument, file_name, stem_of, suffix_of}
 
 -- ---- the parts of what stands behind the stem
 

@@ -1,24 +1,18 @@
 -- Lines that are written in parts.
 use Rattle.std.proofs.Common.{◌≡◌, ◌≢◌, ℕ, suc, ◌<◌, List, ◌∷◌, ◌++◌, codes, length, get_or, take, drop, Option, Result, Ok, Err, refl, ap, sym, ◌∙◌, subst}
+use Rattle.sporc_files.proofs.Common.{device_text, flat_map, CountsFaults, AppendsPrefix-all, AppendsPrefix-first, AppendsPrefix-then, Fault, FileNames, WritesFaultLine, fault_line}
 use Rattle.std.specs.Fmt.{decimal}
 use Rattle.std.proofs.lemmas.Bool.{ne_eqb}
 use Rattle.sporc_member.specs.declared.device.Device.{Device}
 use Rattle.sporc_member.specs.declared.device.TheConstants.{FIRST_DEVICE}
-use Rattle.sporc_script.specs.Spelling.{device_text}
 use Rattle.std.specs.Result.{OnOk, OnErr}
-use Rattle.std.specs.List.{flat_map}
 use Rattle.std.specs.Io.KnownBytes.{Appends}
 use Rattle.std.proofs.Math.Seq.{drop-cons}
 use Rattle.std.proofs.lemmas.Grind.{flat_map-append}
 use Rattle.std.proofs.lemmas.List.{take-append-drop}
-use Rattle.sporc_outside.specs.Counts.{CountsFaults}
 use Rattle.sporc_outside.specs.Writing.{AppendsPrefix}
-use Rattle.sporc_outside.proofs.Prefixes.{AppendsPrefix-all, AppendsPrefix-first, AppendsPrefix-then}
 use Rattle.sporc_outside.specs.Uses.{Use}
 use Rattle.sporc_outside.specs.Streams.{StreamTold}
-use Rattle.sporc_files.specs.declared.fault.Fault.{Fault}
-use Rattle.sporc_files.specs.Names.{FileNames}
-use Rattle.sporc_files.specs.Faults.{WritesFaultLine, fault_line}
 
 -- what a line that was written as far as the sink took it tells
 pub tells : {T E : Type 0} → (r : Result T E) (out : Use StreamTold) (names : FileNames) (fault : Fault) → OnOk r (Appends out.before.written out.after.written (fault_line names fault))

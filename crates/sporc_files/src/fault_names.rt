@@ -5,26 +5,18 @@ ghost use Rattle.sporc_head.specs.Refusal.{refusal_name};
 ghost use Rattle.sporc_report.specs.Names.{edit_fault_name, hint_fault_name, open_fault_name};
 ghost use Rattle.sporc_files.specs.Arguments.{text_bytes};
 
-use crate::text::{Middle, Text};
+use crate::text::Text;
 use sporc_client::EditFault;
 use sporc_epoch::HintFault;
 use sporc_head::Refusal;
 use sporc_line::LineOpenFault;
-use sporc_report::{edit_fault_name, open_fault_name};
+use sporc_report::{edit_fault_name, hint_fault_parts, open_fault_name};
 
 // The name of a refusal.
 pub(crate) fn refusal_text(refusal: Refusal) -> Text
     ensures { text_bytes result ≡ refusal_name refusal }
 {
-    match refusal {
-        Refusal::Malformed(at) => Text::with_number("malformed ", at as u64, ""),
-        Refusal::BadChange(fault) => Text {
-            before: "bad-change ",
-            middle: Middle::Nothing,
-            behind: fault.name(),
-        },
-        _ => Text::of(refusal.word()),
-    }
+    Text::of_parts(refusal.parts())
 }
 
 // The name of why an edit is refused.
@@ -38,12 +30,7 @@ pub(crate) fn edit_fault_text(fault: EditFault) -> Text
 pub(crate) fn hint_fault_text(fault: HintFault) -> Text
     ensures { text_bytes result ≡ hint_fault_name fault }
 {
-    match fault {
-        HintFault::NotAdded => Text::of("not-added"),
-        HintFault::NoPairKey(member) => Text::with_number("no-pair-key ", u64::from(member), ""),
-        HintFault::WrongKey(_) => Text::of("wrong-key"),
-        HintFault::Memory => Text::of(""),
-    }
+    Text::of_parts(hint_fault_parts(fault))
 }
 
 // The name of why a member's key of epoch 0 does not open a history.

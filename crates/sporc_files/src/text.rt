@@ -3,6 +3,7 @@
 ghost use Rattle.std.specs.Prelude.{◌≡◌, ◌++◌, OnOk, OnErr, string_bytes};
 ghost use Rattle.std.specs.Fmt.{decimal};
 ghost use Rattle.std.specs.Io.KnownBytes.{Appends};
+ghost use Rattle.sporc_head.specs.Refusal.{name_of};
 ghost use Rattle.sporc_outside.specs.Counts.{CountsFaults};
 ghost use Rattle.sporc_outside.specs.Writing.{AppendsPrefix};
 ghost use Rattle.sporc_script.specs.Spelling.{device_text};
@@ -10,6 +11,7 @@ ghost use Rattle.sporc_files.specs.Arguments.{middle_bytes, text_bytes};
 
 use itoa::Buffer;
 use sporc_base::Memory;
+use sporc_head::NameParts;
 use sporc_member::{Device, FIRST_DEVICE};
 use sporc_outside::{Failed, Sink, write_all};
 use sporc_report::push_device;
@@ -40,6 +42,20 @@ impl Text {
             before,
             middle: Middle::Nothing,
             behind: "",
+        }
+    }
+
+    // The parts of a name.
+    pub(crate) fn of_parts(parts: NameParts) -> Text
+        ensures { text_bytes result ≡ name_of parts }
+    {
+        match parts.number {
+            Some(number) => Text::with_number(parts.before, number, parts.behind),
+            None => Text {
+                before: parts.before,
+                middle: Middle::Nothing,
+                behind: parts.behind,
+            },
         }
     }
 

@@ -1,5 +1,7 @@
 -- How one history stands to another.
-use Rattle.std.specs.Prelude.{◌≡◌, ◌≢◌, ℕ, ◌+◌, ◌-◌, ◌<◌, List, length, take, slice_get, ⊤}
+use Rattle.std.specs.Prelude.{◌≡◌, ◌≢◌, ℕ, ◌+◌, ◌-◌, ◌<◌, List, ◌++◌, length, take, slice_get, ⊤}
+use Rattle.sporc_hash.specs.Chain.{chain}
+use Rattle.sporc_hash.specs.Strings.{CollisionFree, chain_strings}
 use Rattle.sporc_hash.specs.declared.verdict.Verdict.{Verdict}
 use Rattle.sporc_hash.specs.declared.verdict.Verdict.TheVariants.{Same, Prefix, Longer, ForkedAfter}
 
@@ -31,3 +33,10 @@ IsVerdictOn x y Prefix = (length x < length y) × (x ≡ take (length x) y)
 IsVerdictOn x y Longer = (length y < length x) × (y ≡ take (length y) x)
 IsVerdictOn x y (ForkedAfter k) =
     (k < length x) × (k < length y) × (take k x ≡ take k y) × (take (k + 1) x ≢ take (k + 1) y)
+
+-- the verdict on any two histories that have these chains, if no two different strings hashed for
+-- them have one digest
+abbrev pub IsVerdictOnChains : List (List ℕ) → List (List ℕ) → Verdict → Type 0
+IsVerdictOnChains a b verdict = (genesis : List ℕ) (x y : List (List ℕ)) → a ≡ chain genesis x
+    → b ≡ chain genesis y → CollisionFree (chain_strings genesis x ++ chain_strings genesis y)
+    → IsVerdictOn x y verdict

@@ -1,9 +1,8 @@
 //! The comparison of two histories by the values of their chains.
 
-ghost use Rattle.std.specs.Prelude.{◌≡◌, ◌≢◌, ◌<◌, ◌↔◌, ◌++◌, ℕ, List, length, IsTrue, slice_get};
-ghost use Rattle.sporc_hash.specs.Chain.{chain};
-ghost use Rattle.sporc_hash.specs.Strings.{CollisionFree, chain_strings};
-ghost use Rattle.sporc_hash.specs.Verdict.{SameTip, TipIsIn, DivergesAfter, IfForked, IsVerdictOn};
+ghost use Rattle.std.specs.Prelude.{◌≡◌, ◌≢◌, ◌<◌, ◌↔◌, length, IsTrue, slice_get};
+ghost use Rattle.sporc_hash.specs.Verdict.{SameTip, TipIsIn, DivergesAfter, IfForked};
+ghost use Rattle.sporc_hash.specs.Verdict.{IsVerdictOnChains};
 
 use crate::chain::Digest32;
 
@@ -37,10 +36,7 @@ pub fn compare(a: &[Digest32], b: &[Digest32]) -> Verdict
     ensures forked { IfForked result (DivergesAfter a.now b.now) }
 
     // For the chains of two histories, if no two different strings hashed for them have one digest.
-    ensures histories { (genesis : List ℕ) (x y : List (List ℕ)) → a.now ≡ chain genesis x
-        → b.now ≡ chain genesis y
-        → CollisionFree (chain_strings genesis x ++ chain_strings genesis y)
-        → IsVerdictOn x y result }
+    ensures histories { IsVerdictOnChains a.now b.now result }
 {
     let last = a.len().min(b.len()) - 1;
     if !agree_at(a, b, last) {

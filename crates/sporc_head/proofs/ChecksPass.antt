@@ -1,17 +1,10 @@
 -- Lists of checks one after the other, and the checks of an entry whoever asks.
 use Rattle.std.proofs.Common.{◌≡◌, ℕ, ◌+◌, Bool, true, false, eqb, List, [], ◌∷◌, ◌++◌, length, refl, Option, None, Some, Result, Ok, Err}
-use Rattle.std.proofs.lemmas.Bool.{eq-eqb}
-use Rattle.sporc_base.specs.FirstFault.{unless, first_of}
+use Rattle.sporc_head.proofs.Common.{eq-eqb, unless, first_of, Device, member_at, key_of, Entry, Genesis, author_device, entry_of, change_of, WrongDocument, WrongPosition, Removed, roster_of}
+use Rattle.sporc_head.proofs.Common.{history_checks, author_checks, roster_checks, fault_read}
 use Rattle.std.specs.Str.{bytes_eq}
-use Rattle.sporc_member.specs.declared.device.Device.{Device}
-use Rattle.sporc_member.specs.Roster.{member_at, key_of}
-use Rattle.sporc_entry.specs.declared.entry.Entry.{Entry}
-use Rattle.sporc_entry.specs.declared.genesis.Genesis.{Genesis}
-use Rattle.sporc_entry.specs.Entry.{author_device, entry_of, change_of}
 use Rattle.sporc_head.specs.declared.refusal.Refusal.{Refusal}
-use Rattle.sporc_head.specs.declared.refusal.Refusal.TheVariants.{WrongDocument, WrongPosition, Removed}
-use Rattle.sporc_head.specs.History.{roster_of}
-use Rattle.sporc_head.specs.HeadChecks.{head_checks, history_checks, author_checks, roster_checks, is_not_removed, fault_read, head_fault}
+use Rattle.sporc_head.specs.HeadChecks.{head_checks, is_not_removed, head_fault}
 
 -- where no check of the first list fails, the others decide
 pub first_of-none : {F : Type 0} (xs ys : List (Option F)) → first_of xs ≡ None → first_of (xs ++ ys) ≡ first_of ys

@@ -1,9 +1,7 @@
 -- An entry that was read, within a copy of its bytes.
 use Rattle.std.proofs.Common.{◌≡◌, ℕ, List, length, sym, ap, ◌∙◌, subst, Option}
-use Rattle.sporc_entry.specs.declared.change.ChangeBody.{ChangeBody}
-use Rattle.sporc_entry.specs.declared.entry.Entry.{Entry}
+use Rattle.sporc_head.proofs.Common.{ChangeBody, Entry, entry_bytes, change_of, IsEntry}
 use Rattle.sporc_entry.specs.declared.header.Header.{Header}
-use Rattle.sporc_entry.specs.Entry.{entry_bytes, change_of, IsEntry}
 use Rattle.sporc_entry.specs.EntryView.{entry_within, EntryViewInvariant}
 use Rattle.sporc_entry.proofs.ViewLaws.{entry_in_place}
 

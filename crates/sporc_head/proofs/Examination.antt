@@ -1,8 +1,6 @@
 -- What a verdict on bytes tells of the entry that they spell.
 use Rattle.std.proofs.Common.{◌≡◌, ℕ, List, Option, None, Some, Ok, ap, ◌∙◌}
-use Rattle.std.specs.Prelude.{IfSome}
-use Rattle.sporc_entry.specs.declared.entry.Entry.{Entry}
-use Rattle.sporc_entry.specs.Entry.{entry_of}
+use Rattle.sporc_head.proofs.Common.{IfSome, Entry, entry_of}
 use Rattle.sporc_head.specs.declared.examined.Verdict.{Verdict}
 use Rattle.sporc_head.specs.Examined.{IsExact, IsExactOf, is_signed_read, is_verified}
 

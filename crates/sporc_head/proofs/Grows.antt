@@ -1,23 +1,15 @@
 -- What a history says of itself, with one entry more.
 use Rattle.std.proofs.Common.{◌≡◌, ℕ, suc, zero, ◌+◌, ◌≤◌, Bool, true, false, List, [], ◌∷◌, ◌++◌, length, get_or, take, refl, ap, sym, ◌∙◌, arith, Option, None, Some, Ok, map, length-append, add-zero}
-use Rattle.std.specs.Prelude.{cond, is_some, ◌||◌, count_by, fold}
+use Rattle.sporc_head.proofs.Common.{cond, is_some, ◌||◌, count_by, fold, map-append, next_value, genesis_value, Change, Device, same_device, Roster, roster_after, after_change, founded, removes}
+use Rattle.sporc_head.proofs.Common.{Entry, ChangeBody, Genesis, author_device, entry_of, change_of, genesis_bytes, CommittedChange, changes, change_read, committed_by, is_read_by, epoch_of, roster_of}
+use Rattle.sporc_head.proofs.Common.{last_from, count_of, hash_of, is_removed}
 use Rattle.std.specs.List.{cons_option, list_any}
 use Rattle.std.proofs.lemmas.List.Elements.{filter_map-append}
 use Rattle.std.proofs.lemmas.List.Folds.{list_any-append}
-use Rattle.std.proofs.lemmas.List.{map-append}
 use Rattle.std.proofs.lemmas.List.Sums.{count_by-le-length}
-use Rattle.sporc_hash.specs.Chain.{chain_after, value_after, next_value, chain, genesis_value}
+use Rattle.sporc_hash.specs.Chain.{chain_after, value_after, chain}
 use Rattle.sporc_hash.proofs.ChainLemmas.{chain_push, length-chain_after}
-use Rattle.sporc_member.specs.declared.change.Change.{Change}
-use Rattle.sporc_member.specs.declared.device.Device.{Device}
-use Rattle.sporc_member.specs.Device.{same_device}
-use Rattle.sporc_member.specs.Roster.{Roster, roster_after, after_change, founded, removes}
-use Rattle.sporc_entry.specs.declared.entry.Entry.{Entry}
-use Rattle.sporc_entry.specs.declared.change.ChangeBody.{ChangeBody}
-use Rattle.sporc_entry.specs.declared.genesis.Genesis.{Genesis}
-use Rattle.sporc_entry.specs.Entry.{author_device, entry_of, change_of}
-use Rattle.sporc_entry.specs.Genesis.{genesis_bytes}
-use Rattle.sporc_head.specs.History.{CommittedChange, change_in, changes, change_read, committed_by, is_by, is_read_by, epoch_of, roster_of, last_from, count_of, hash_of, is_removed}
+use Rattle.sporc_head.specs.History.{change_in, is_by}
 
 -- ---- the chain
 

@@ -1,25 +1,15 @@
 -- What the fields of a history keep, as it begins and with one entry more.
 use Rattle.std.proofs.Common.{◌≡◌, ℕ, ◌+◌, ◌<◌, ◌≤◌, Bool, true, false, cond, eqb, List, [], ◌∷◌, ◌++◌, length, refl, ap, sym, ◌∙◌, subst, arith, Option, None, Some, length-append}
-use Rattle.std.specs.Prelude.{is_some, ◌||◌, ◌&&◌}
+use Rattle.sporc_head.proofs.Common.{is_some, ◌||◌, ◌&&◌, eqb-true, eqb-false, and_parts, genesis_value, next_value, Change, Device, same_device, Roster, after_change, founded, removes, Genesis}
+use Rattle.sporc_head.proofs.Common.{genesis_bytes, IsGenesis, MAX_ENTRIES, DEVICE_NUMBERS, Tally, CommittedChange, change_in, is_by, hash_of, count_of, last_of, rank_of, tally_or_none, tally_in}
+use Rattle.sporc_head.proofs.Common.{covers, is_gone, with_removal, TablesMatch, HeadsInvariant}
 use Rattle.std.specs.List.{All}
-use Rattle.std.proofs.lemmas.Bool.{eqb-true, eqb-false, and_parts}
 use Rattle.std.proofs.lemmas.List.Elements.{All-nil, All-cons, All-append}
 use Rattle.std.proofs.lemmas.List.Folds.{list_any-append}
-use Rattle.sporc_hash.specs.Chain.{chain_after, genesis_value, next_value}
-use Rattle.sporc_member.specs.declared.change.Change.{Change}
+use Rattle.sporc_hash.specs.Chain.{chain_after}
 use Rattle.sporc_member.specs.declared.change.Change.TheVariants.{Add, Remove, SetRole, AddDevice, DropDevice, Upgrade}
-use Rattle.sporc_member.specs.declared.device.Device.{Device}
-use Rattle.sporc_member.specs.Device.{same_device}
-use Rattle.sporc_member.specs.Roster.{Roster, after_change, founded, removes}
-use Rattle.sporc_entry.specs.declared.genesis.Genesis.{Genesis}
 use Rattle.sporc_entry.specs.declared.limits.TheConstants.{MAX_ENTRY}
-use Rattle.sporc_entry.specs.Genesis.{genesis_bytes, IsGenesis}
-use Rattle.sporc_head.specs.declared.limits.TheConstants.{MAX_ENTRIES, DEVICE_NUMBERS}
 use Rattle.sporc_head.specs.declared.tables.Removal.{Removal}
-use Rattle.sporc_head.specs.declared.tables.Tally.{Tally}
-use Rattle.sporc_head.specs.History.{CommittedChange, change_in, is_by, hash_of, count_of, last_of}
-use Rattle.sporc_head.specs.TablesMatch.{rank_of, tally_or_none, tally_in, covers, is_gone, with_removal, TablesMatch}
-use Rattle.sporc_head.specs.HeadsModel.{HeadsInvariant}
 use Rattle.sporc_head.proofs.Grows.{chain_more, last_push, count_push, epoch_push, roster_edit, roster_change, removes_in, removed_push}
 
 -- ---- ranks
@@ -112,15 +102,6 @@ tables_push tallies tallies' removals removals' entries b a o t lt by is put gon
     lasted : (d : Device) → d.number < DEVICE_NUMBERS → (q : Bool) → (tally_or_none (cond q (Some (tally_more tallies a (length entries + 1))) (tallies (rank_of d)))).last ≡ cond q (length entries + 1) (last_of d entries)
     lasted d l true = refl
     lasted d l false = t.last d l
-
--- tables that say the same
-pub tables_same : (tallies tallies' : ℕ → Option Tally) (removals removals' : List Removal) (entries : List (List ℕ)) → TablesMatch tallies removals entries
-    → ((q : ℕ) → tallies' q ≡ tallies q) → removals' ≡ removals → TablesMatch tallies' removals' entries
-tables_same tallies tallies' removals removals' entries t same kept = record {
-  count = λ d l. ap (λ (o : Option Tally). (tally_or_none o).count) (same (rank_of d)) ∙ t.count d l;
-  last = λ d l. ap (λ (o : Option Tally). (tally_or_none o).last) (same (rank_of d)) ∙ t.last d l;
-  gone = λ d. ap (is_gone d) kept ∙ t.gone d;
-}
 
 pub tables_empty : (tallies : ℕ → Option Tally) (removals : List Removal) → ((q : ℕ) → tallies q ≡ None) → removals ≡ [] → TablesMatch tallies removals []
 tables_empty tallies removals none empty = record {

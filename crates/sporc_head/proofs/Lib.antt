@@ -4,3 +4,4 @@ mod Keeping
 pub mod OnceChecked
 mod Copied
 mod Examination
+pub mod Common

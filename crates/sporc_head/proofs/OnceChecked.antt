@@ -1,25 +1,14 @@
 -- What is known of an entry that was checked.
 use Rattle.std.proofs.Common.{◌≡◌, ◌≢◌, ℕ, ◌+◌, ◌<◌, ltb, List, [], ◌∷◌, ◌++◌, length, refl, ap, sym, ◌∙◌, subst, Option, None, Some, Result, Ok, Err}
-use Rattle.std.specs.Prelude.{option_map, OnOk, IsOk}
-use Rattle.std.proofs.lemmas.Bool.{ltb-true}
-use Rattle.sporc_base.specs.FirstFault.{first_of, AnswersUnless}
-use Rattle.sporc_member.specs.declared.change.Change.{Change}
+use Rattle.sporc_head.proofs.Common.{option_map, OnOk, IsOk, ltb-true, first_of, AnswersUnless, Change, Device, same_device, member_at, key_of, change_fault_of, Entry, ChangeBody, Genesis}
+use Rattle.sporc_head.proofs.Common.{author_device, entry_of, change_of, HistoryFull, MAX_ENTRIES, CommittedChange, member_change_of, change_in, committed_by, is_by, roster_of, place_checks}
+use Rattle.sporc_head.proofs.Common.{history_checks, author_checks, roster_checks, fault_read}
 use Rattle.sporc_member.specs.declared.change.ChangeFault.{ChangeFault}
-use Rattle.sporc_member.specs.declared.device.Device.{Device}
 use Rattle.sporc_member.specs.declared.member.Member.{Member}
-use Rattle.sporc_member.specs.Device.{same_device}
-use Rattle.sporc_member.specs.Roster.{member_at, key_of, change_fault_of}
 use Rattle.sporc_member.proofs.Checks.{passes}
-use Rattle.sporc_entry.specs.declared.entry.Entry.{Entry}
-use Rattle.sporc_entry.specs.declared.change.ChangeBody.{ChangeBody}
-use Rattle.sporc_entry.specs.declared.genesis.Genesis.{Genesis}
-use Rattle.sporc_entry.specs.Entry.{author_device, entry_of, change_of}
 use Rattle.sporc_head.specs.declared.refusal.Refusal.{Refusal}
-use Rattle.sporc_head.specs.declared.refusal.Refusal.TheVariants.{HistoryFull}
-use Rattle.sporc_head.specs.declared.limits.TheConstants.{MAX_ENTRIES}
 use Rattle.sporc_head.specs.CheckedModel.{CheckedModel}
-use Rattle.sporc_head.specs.History.{CommittedChange, member_change_of, change_in, committed_by, is_by, roster_of}
-use Rattle.sporc_head.specs.HeadChecks.{place_checks, history_checks, author_checks, roster_checks, bad_change, head_checks, head_fault, fault_read}
+use Rattle.sporc_head.specs.HeadChecks.{bad_change, head_checks, head_fault}
 use Rattle.sporc_head.specs.IsChecked.{IsChecked}
 use Rattle.sporc_head.proofs.Grows.{is_by_read, change_in_read}
 use Rattle.sporc_head.proofs.ChecksPass.{first_of-none, first_of-some}

@@ -1,7 +1,8 @@
 -- What is printed and sent of a refusal.
-use Rattle.std.specs.Prelude.{ℕ, List, ◌++◌, codes}
+use Rattle.std.specs.Prelude.{ℕ, List, [], ◌++◌, Option, Some, None, codes}
 use Rattle.std.specs.Fmt.{decimal}
 use Rattle.sporc_member.specs.ChangeFault.{change_fault_name}
+use Rattle.sporc_head.specs.declared.refusal.NameParts.{NameParts}
 use Rattle.sporc_head.specs.declared.refusal.Refusal.{Refusal}
 use Rattle.sporc_head.specs.declared.refusal.Refusal.TheVariants.{Malformed, WrongDocument}
 use Rattle.sporc_head.specs.declared.refusal.Refusal.TheVariants.{WrongPosition, Removed}
@@ -14,6 +15,15 @@ use Rattle.sporc_head.specs.declared.refusal.Refusal.TheVariants.{LeafMismatch, 
 use Rattle.sporc_head.specs.declared.refusal.Refusal.TheVariants.{BadPayload, WrongLength}
 use Rattle.sporc_head.specs.declared.refusal.Refusal.TheVariants.{BadChange, WrongWraps, NoKey}
 use Rattle.sporc_head.specs.declared.refusal.Refusal.TheVariants.{WrongKey, Memory}
+
+-- a number, if there is one
+abbrev pub number_text : Option ℕ → List ℕ
+number_text None = []
+number_text (Some number) = decimal number
+
+-- the name of which these are the parts
+abbrev pub name_of : NameParts → List ℕ
+name_of parts = parts.before.now ++ (number_text parts.number ++ parts.behind.now)
 
 -- the first word of its name
 abbrev pub refusal_word : Refusal → List ℕ

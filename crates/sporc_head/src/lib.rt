@@ -44,5 +44,5 @@ pub use checked::Checked;
 pub use examined::{Examined, Verdict};
 pub use heads::Heads;
 pub use limits::MAX_ENTRIES;
-pub use refusal::Refusal;
+pub use refusal::{NameParts, Refusal};
 pub use sporc_base::Memory;

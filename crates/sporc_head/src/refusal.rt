@@ -1,6 +1,7 @@
 //! Why an entry is refused.
 
-ghost use Rattle.std.specs.Prelude.{◌≡◌, IfOk, string_bytes};
+ghost use Rattle.std.specs.Prelude.{◌≡◌, ◌++◌, IfOk, OnOk, string_bytes};
+ghost use Rattle.sporc_head.specs.Refusal.{number_text};
 
 use sporc_base::Memory;
 use sporc_entry::EntryFault;
@@ -65,12 +66,47 @@ pub enum Refusal {
     Memory,
 }
 
-impl Refusal {
-    ghost use Rattle.sporc_head.specs.Refusal.{refusal_name, refusal_code_of, refusal_word};
+/// The parts of a name: words, a number behind them, and a word behind that, where it has these.
+#[derive(Clone, Copy)]
+pub struct NameParts {
+    pub before: &'static str,
+    pub number: Option<u64>,
+    pub behind: &'static str,
+}
 
-    /// The first word of its name. Behind it stands nothing, a place, or the name of a change's
-    /// fault.
-    pub fn word(self) -> &'static str
+impl NameParts {
+    ghost use Rattle.std.specs.Fmt.{decimal};
+    ghost use Rattle.sporc_head.specs.Refusal.{name_of};
+
+    /// Words alone.
+    pub fn of(before: &'static str) -> NameParts
+        ensures value { name_of result ≡ before.now }
+    {
+        NameParts {
+            before,
+            number: None,
+            behind: "",
+        }
+    }
+
+    /// Words and a number.
+    pub fn with_number(before: &'static str, number: u64) -> NameParts
+        ensures value { name_of result ≡ before.now ++ decimal number }
+    {
+        NameParts {
+            before,
+            number: Some(number),
+            behind: "",
+        }
+    }
+}
+
+impl Refusal {
+    ghost use Rattle.sporc_head.specs.Refusal.{name_of, refusal_name, refusal_code_of};
+    ghost use Rattle.sporc_head.specs.Refusal.{refusal_word};
+
+    // The first word of its name.
+    fn word(self) -> &'static str
         ensures value { result.now ≡ refusal_word self }
     {
         match self {
@@ -101,20 +137,30 @@ impl Refusal {
         }
     }
 
-    /// The name that is printed, with its place or the name of its change's fault.
+    /// Its name in parts: behind its word stands nothing, a place, or the name of a change's fault.
+    pub fn parts(self) -> NameParts
+        ensures value { name_of result ≡ refusal_name self }
+    {
+        match self {
+            Refusal::Malformed(at) => NameParts::with_number("malformed ", at as u64),
+            Refusal::BadChange(fault) => NameParts {
+                before: "bad-change ",
+                number: None,
+                behind: fault.name(),
+            },
+            _ => NameParts::of(self.word()),
+        }
+    }
+
+    /// The name that is printed.
     pub fn name(self, alloc: Global) -> Result<String, Memory>
         ensures ok { IfOk result (λ name. string_bytes name ≡ refusal_name self) }
     {
+        let parts = self.parts();
         let mut name = String::new(alloc);
-        name.push_str(self.word())?;
-        match self {
-            Refusal::Malformed(at) => write!(name, " {at}")?,
-            Refusal::BadChange(fault) => {
-                name.push_str(" ")?;
-                name.push_str(fault.name())?;
-            }
-            _ => {}
-        }
+        name.push_str(parts.before)?;
+        push_number(&mut name, parts.number)?;
+        name.push_str(parts.behind)?;
         Ok(name)
     }
 
@@ -149,6 +195,16 @@ impl Refusal {
             Refusal::WrongKey => 21,
             Refusal::Memory => 0,
         }
+    }
+}
+
+// Appends a number, if there is one.
+fn push_number(name: &mut String, number: Option<u64>) -> Result<(), Memory>
+    ensures { OnOk result (string_bytes name.new ≡ string_bytes name.old ++ number_text number) }
+{
+    match number {
+        Some(number) => write!(name, "{number}"),
+        None => Ok(()),
     }
 }
 

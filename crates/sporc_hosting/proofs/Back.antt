@@ -1,7 +1,6 @@
 -- Tails that are given back, the last one first.
 use Rattle.std.proofs.Common.{◌≡◌, ℕ, suc, List, [], ◌∷◌, ◌++◌, length, take, refl, sym, ap, ◌∙◌, subst, append_assoc, arith}
-use Rattle.std.proofs.lemmas.List.{append_cancel_left, length-append, take_at}
-use Rattle.sporc_order.specs.OrderModel.{OrderModel}
+use Rattle.sporc_hosting.proofs.Common.{append_cancel_left, length-append, take_at, OrderModel}
 use Rattle.sporc_docs.specs.Served.{AreKept}
 
 -- ---- the last item of a list

@@ -1,20 +1,12 @@
 -- Which files changed: the tails of documents.
 use Rattle.std.proofs.Common.{◌≡◌, ℕ, List, [], ◌∷◌, ◌++◌, length, Option, Some, None, Result, Ok, Err, refl, sym, ap, ◌∙◌, subst}
-use Rattle.std.specs.Prelude.{OnErr, OnOk, option_map}
+use Rattle.sporc_hosting.proofs.Common.{OnErr, OnOk, option_map, NamedFile, OrderModel, Both, Fault, FileNames, file_name, names_of_document, KeepsTail, TakesTail, changes_back, made_other, put_other}
+use Rattle.sporc_hosting.proofs.Common.{GivesAllBack, ChangesTails, IsNoTail, OpenLogModel, with_tail_made, with_tails_made}
 use Rattle.sporc_outside.specs.Files.{ChangesFile, TakesFile, made_in}
-use Rattle.sporc_outside.specs.declared.named_file.NamedFile.{NamedFile}
 use Rattle.sporc_outside.specs.Uses.{Use}
 use Rattle.sporc_outside.specs.Folders.{FolderTold}
-use Rattle.sporc_order.specs.OrderModel.{OrderModel}
-use Rattle.sporc_docs.specs.Hands.{Both}
-use Rattle.sporc_files.specs.declared.fault.Fault.{Fault}
 use Rattle.sporc_files.specs.declared.fault.Fault.TheVariants as faults
 use Rattle.sporc_files.specs.declared.file.File.TheVariants as files
-use Rattle.sporc_files.specs.Names.{FileNames, file_name, names_of_document}
-use Rattle.sporc_commands.specs.Tails.{KeepsTail, TakesTail}
-use Rattle.sporc_commands.proofs.Opened.{changes_back, made_other, put_other}
-use Rattle.sporc_hosting.specs.Hosting.{GivesAllBack}
-use Rattle.sporc_hosting.specs.Loading.{ChangesTails, IsNoTail, OpenLogModel, with_tail_made, with_tails_made}
 
 -- ---- several tails
 

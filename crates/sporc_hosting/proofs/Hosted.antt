@@ -1,23 +1,12 @@
 -- What is open as a server of several documents begins, and which files it asked for.
 use Rattle.std.proofs.Common.{◌≡◌, ◌≤◌, inl, inr, ℕ, List, [], ◌∷◌, length, Option, Result, Err, refl, ◌∙◌, subst, arith}
+use Rattle.sporc_hosting.proofs.Common.{Rose, NamedFile, OrderModel, Both, Fault, file_name, names_of_document, AsksOnly, AsksOnly-among, AsksOnly-trans, AnswersUnlessOutside, HasLogged, ServedFiles}
+use Rattle.sporc_hosting.proofs.Common.{LogTailModel, AreOpen, OpenLogModel, OpensMore, files_of_all, files_of_one, logs_of}
 use Rattle.std.specs.List.{Contains}
 use Rattle.std.proofs.lemmas.List.Elements.{Contains-append_cases, Contains-append_left, Contains-append_right}
-use Rattle.sporc_outside.specs.Counts.{Rose}
-use Rattle.sporc_outside.specs.declared.named_file.NamedFile.{NamedFile}
 use Rattle.sporc_outside.specs.AppendFile.{AppendTold}
-use Rattle.sporc_order.specs.OrderModel.{OrderModel}
-use Rattle.sporc_docs.specs.Hands.{Both}
-use Rattle.sporc_files.specs.declared.fault.Fault.{Fault}
 use Rattle.sporc_files.specs.declared.fault.Fault.TheVariants as faults
 use Rattle.sporc_files.specs.declared.file.File.TheVariants as files
-use Rattle.sporc_files.specs.Names.{file_name, names_of_document}
-use Rattle.sporc_files.specs.Uses.{AsksOnly}
-use Rattle.sporc_files.proofs.Asking.{AsksOnly-among, AsksOnly-trans}
-use Rattle.sporc_files.specs.Faults.{AnswersUnlessOutside}
-use Rattle.sporc_commands.specs.Serving.{HasLogged, ServedFiles}
-use Rattle.sporc_commands.specs.Tails.{LogTailModel}
-use Rattle.sporc_hosting.specs.Loading.{AreOpen, OpenLogModel, OpensMore, files_of_all, files_of_one}
-use Rattle.sporc_hosting.specs.Saving.{logs_of}
 use Rattle.sporc_hosting.proofs.Saved.{as_many}
 
 module _ {D : Type 0} (file_told : D → AppendTold) where

@@ -5,3 +5,4 @@ pub mod Loaded
 pub mod Opened
 pub mod Rooms
 pub mod Saved
+pub mod Common

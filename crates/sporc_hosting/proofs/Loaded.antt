@@ -1,26 +1,17 @@
 -- What is found in the files of a document among several.
-use Rattle.std.proofs.Common.{◌≡◌, ◌≢◌, ℕ, ◌≤◌, Bool, true, false, List, [], ◌∷◌, ◌++◌, length, Option, Some, None, Result, Ok, Err, refl, sym, ap, ◌∙◌, subst}
+use Rattle.std.proofs.Common.{◌≡◌, ℕ, ◌≤◌, Bool, true, false, List, [], ◌∷◌, ◌++◌, length, Option, None, Result, Ok, Err, refl, sym, ap, ◌∙◌, subst}
+use Rattle.sporc_hosting.proofs.Common.{Rose, NamedFile, OrderModel, Fault, AnswersUnlessOutside, fault_among, FileNames, file_name, FindsOrderBehind, ServedFiles, log_in, logged, order_behind}
+use Rattle.sporc_hosting.proofs.Common.{has_logged, FindsHeld, FindsUnlessHeld, added, is_held, opened_in, order_unless_held, unless_held}
 use Rattle.std.specs.Str.{bytes_eq}
 use Rattle.sporc_bytes.specs.Fields.{◌>>=◌, fault_as}
-use Rattle.sporc_outside.specs.Counts.{Rose}
-use Rattle.sporc_outside.specs.declared.named_file.NamedFile.{NamedFile}
 use Rattle.sporc_entry.specs.declared.genesis.Genesis.{Genesis}
-use Rattle.sporc_order.specs.OrderModel.{OrderModel}
 use Rattle.sporc_docs.specs.Lists.{place_of}
-use Rattle.sporc_docs.specs.declared.fault.DocsFault.{DocsFault}
-use Rattle.sporc_docs.specs.declared.fault.DocsFault.TheVariants as adding
-use Rattle.sporc_files.specs.declared.fault.Fault.{Fault}
 use Rattle.sporc_files.specs.declared.fault.Fault.TheVariants as faults
 use Rattle.sporc_files.specs.declared.file.File.TheVariants as files
-use Rattle.sporc_files.specs.Faults.{AnswersUnlessOutside, fault_among}
-use Rattle.sporc_files.specs.Names.{FileNames, file_name}
 use Rattle.sporc_files.specs.Reading.{IsFileFault, SaysFile, genesis_file}
 use Rattle.sporc_commands.specs.Contents.{AnswersOfFile, genesis_in}
-use Rattle.sporc_commands.specs.Serving.{FindsOrderBehind, ServedFiles, log_in, logged, order_behind}
 use Rattle.sporc_files.proofs.Answering.{fails_first, tells_behind, tells_later}
 use Rattle.sporc_commands.proofs.ReadFiles.{fails, is_there, says, there}
-use Rattle.sporc_commands.proofs.Opened.{has_logged}
-use Rattle.sporc_hosting.specs.Loading.{FindsHeld, FindsUnlessHeld, added, fault_of_adding, is_held, opened_in, order_unless_held, unless_held}
 
 -- ---- whether a document is held
 
@@ -128,19 +119,3 @@ module _ {X : Type 0} (view : X → OrderModel) (len : X → ℕ) (told : Option
 
 pub adds : (number : ℕ) (held now : List OrderModel) (order : OrderModel) → now ≡ held ++ order ∷ [] → place_of held order.genesis.document ≡ None → added number held order ≡ Ok now
 adds number held now order is none = ap (λ (o : Option ℕ). unless_held number o (held ++ order ∷ [])) none ∙ ap Ok (sym is)
-
-held_there : (number : ℕ) (o : Option ℕ) (orders : List OrderModel) → o ≢ None → unless_held number o orders ≡ Err (faults.Exists (files.Document number))
-held_there number None orders some = absurd (some refl)
-held_there number (Some place) orders some = refl
-
-pub add_fails : (number : ℕ) (held : List OrderModel) (order : OrderModel) (cause : DocsFault) (fault : Fault) → fault ≡ fault_of_adding number cause
-    → (cause ≡ adding.Exists → place_of held order.genesis.document ≢ None) → (cause ≢ adding.Full)
-    → AnswersUnlessOutside (λ (os : List OrderModel). os) ⊥ (Err fault) (added number held order)
-add_fails number held order cause fault is some room =
-    subst (λ (f : Fault). AnswersUnlessOutside (λ (os : List OrderModel). os) ⊥ (Err f) (added number held order)) (sym is) (by cause some room)
-  where
-    by : (cause : DocsFault) → (cause ≡ adding.Exists → place_of held order.genesis.document ≢ None) → (cause ≢ adding.Full)
-        → AnswersUnlessOutside (λ (os : List OrderModel). os) ⊥ (Err (fault_of_adding number cause)) (added number held order)
-    by adding.Exists some room = held_there number (place_of held order.genesis.document) (held ++ order ∷ []) (some refl)
-    by adding.Full some room = absurd (room refl)
-    by adding.Memory some room = tt

@@ -1,23 +1,14 @@
 -- Which documents are open, behind those that were.
 use Rattle.std.proofs.Common.{◌≡◌, ℕ, ◌+◌, ◌≤◌, List, [], ◌∷◌, ◌++◌, length, Option, Result, Ok, Err, refl, sym, ap, ◌∙◌, subst, append-nil, append_assoc}
-use Rattle.std.specs.Prelude.{OnErr, OnOk}
-use Rattle.std.proofs.lemmas.List.{length-append}
+use Rattle.sporc_hosting.proofs.Common.{OnErr, OnOk, length-append, Rose, NamedFile, OrderModel, Both, Fault, AnswersUnlessOutside, fault_among, FileNames, file_name, names_of_document}
+use Rattle.sporc_hosting.proofs.Common.{AreServedFiles, HasLogged, ServedFiles, KeepsBehind, LogTailModel, AreFilesOfAll, AreOpen, AreOpenTo, FindsUnlessHeld, OpenLogModel, OpensMore, OpensOne, added}
+use Rattle.sporc_hosting.proofs.Common.{opened_in, opened_to, orders_in, with_document, with_tail_made}
 use Rattle.sporc_bytes.specs.Fields.{◌>>=◌, fault_as}
-use Rattle.sporc_outside.specs.Counts.{Rose}
-use Rattle.sporc_outside.specs.declared.named_file.NamedFile.{NamedFile}
 use Rattle.sporc_outside.specs.AppendFile.{AppendTold}
-use Rattle.sporc_order.specs.OrderModel.{OrderModel}
-use Rattle.sporc_docs.specs.Hands.{Both}
-use Rattle.sporc_files.specs.declared.fault.Fault.{Fault}
 use Rattle.sporc_files.specs.declared.fault.Fault.TheVariants as faults
 use Rattle.sporc_files.specs.declared.file.File.TheVariants as files
-use Rattle.sporc_files.specs.Faults.{AnswersUnlessOutside, fault_among}
-use Rattle.sporc_files.specs.Names.{FileNames, file_name, names_of_document}
-use Rattle.sporc_commands.specs.Serving.{AreServedFiles, HasLogged, ServedFiles}
-use Rattle.sporc_commands.specs.Tails.{KeepsBehind, LogTailModel}
 use Rattle.sporc_files.proofs.Answering.{fails_first, tells_alone, tells_behind, tells_later}
 use Rattle.sporc_commands.proofs.ReadFiles.{is_there, there}
-use Rattle.sporc_hosting.specs.Loading.{AreFilesOfAll, AreOpen, AreOpenTo, FindsUnlessHeld, OpenLogModel, OpensMore, OpensOne, added, opened_in, opened_to, orders_in, with_document, with_tail_made}
 use Rattle.sporc_hosting.proofs.Loaded.{among_tells}
 
 -- ---- files that were not read

@@ -1,13 +1,7 @@
 -- Documents that are read one after another: how many are held, and which names were asked for.
 use Rattle.std.proofs.Common.{◌≡◌, ℕ, suc, ◌+◌, ◌≤◌, ◌<◌, List, [], ◌∷◌, ◌++◌, length, Option, Result, Ok, Err, sym, ap, subst, ◌∙◌, arith}
-use Rattle.std.specs.Prelude.{OnOk}
-use Rattle.std.proofs.lemmas.List.{length-append}
+use Rattle.sporc_hosting.proofs.Common.{OnOk, length-append, FileNames, file_name, names_of_document, Fault, AsksOnly, AsksOnly-none, asks_first, asks_then, files_of_all, files_of_one}
 use Rattle.sporc_files.specs.declared.file.File.TheVariants as files
-use Rattle.sporc_files.specs.Names.{FileNames, file_name, names_of_document}
-use Rattle.sporc_files.specs.declared.fault.Fault.{Fault}
-use Rattle.sporc_files.specs.Uses.{AsksOnly}
-use Rattle.sporc_files.proofs.Asking.{AsksOnly-none, asks_first, asks_then}
-use Rattle.sporc_hosting.specs.Loading.{files_of_all, files_of_one}
 
 module _ (names : List (List ℕ)) where
   -- the first name
@@ -23,9 +17,6 @@ module _ (names : List (List ℕ)) where
 
     pub numbers_left : (number most : ℕ) → number + length names < most → number + 1 + length others < most
     numbers_left number most low = let size = longer in omega (arith, size, low)
-
-    pub number_left : (number most : ℕ) → number + length names < most → number + 1 < most
-    number_left number most low = let size = longer in omega (arith, size, low)
 
     pub first_asked : (a b : Option (List (List ℕ))) → AsksOnly (files_of_one name) a b → AsksOnly (files_of_all names) a b
     first_asked a b asked =

@@ -1,11 +1,7 @@
 -- Logs that are saved one after another.
 use Rattle.std.proofs.Common.{◌≡◌, ℕ, List, [], ◌∷◌, length, Option, refl, sym, subst, suc, ap, arith}
-use Rattle.sporc_docs.specs.Hands.{Both}
+use Rattle.sporc_hosting.proofs.Common.{Both, file_name, names_of_document, AsksOnly, asks_then, logs_of}
 use Rattle.sporc_files.specs.declared.file.File.TheVariants as files
-use Rattle.sporc_files.specs.Names.{file_name, names_of_document}
-use Rattle.sporc_files.specs.Uses.{AsksOnly}
-use Rattle.sporc_files.proofs.Asking.{asks_then}
-use Rattle.sporc_hosting.specs.Saving.{logs_of}
 
 -- as many of both
 pub as_many : {A B : Type 0} (P : A → B → Type 0) (xs : List A) (ys : List B) → Both P xs ys → length xs ≡ length ys

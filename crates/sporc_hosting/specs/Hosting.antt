@@ -1,23 +1,24 @@
 -- What `serve-all` did with the folder, the sink and the net.
-use Rattle.std.specs.Prelude.{◌≡◌, ◌⊎◌, ◌≤◌, ℕ, List, [], ◌∷◌, Result, Ok, Err}
+use Rattle.std.specs.Prelude.{◌≡◌, ◌⊎◌, ◌≤◌, ℕ, List, [], ◌∷◌, length, Result, Ok, Err}
 use Rattle.sporc_outside.specs.Counts.{Rose}
 use Rattle.sporc_outside.specs.Uses.{Use}
 use Rattle.sporc_outside.specs.Streams.{IsUnwritten, StreamTold}
 use Rattle.sporc_outside.specs.Folders.{FolderTold}
 use Rattle.sporc_outside.specs.Nets.{NetTold}
 use Rattle.sporc_order.specs.OrderModel.{OrderModel}
-use Rattle.sporc_serve.specs.declared.fault.ServeFault.{ServeFault}
+use Rattle.sporc_outside.specs.AppendFile.{AppendTold}
 use Rattle.sporc_docs.specs.Hands.{Both}
-use Rattle.sporc_docs.specs.Served.{AreServed}
+use Rattle.sporc_docs.specs.Served.{AreKept, AreServed}
 use Rattle.sporc_files.specs.declared.fault.Fault.{Fault}
 use Rattle.sporc_files.specs.declared.file.File.TheVariants as files
 use Rattle.sporc_files.specs.Names.{file_name, names_of_document}
 use Rattle.sporc_files.specs.Faults.{AnswersUnlessOutside, first_fault}
-use Rattle.sporc_commands.specs.Moments.{ChangesFolderAlone, IsBehind, Moment, at_end}
-use Rattle.sporc_commands.specs.Rounds.{GoRounds, Round, Standing}
-use Rattle.sporc_commands.specs.Serving.{HasLogged, ServedFiles, ended}
-use Rattle.sporc_commands.specs.Tails.{GivesBack, after_last}
-use Rattle.sporc_hosting.specs.Loading.{AreFilesOfAll, ChangesTails, OpenLogModel, orders_in}
+use Rattle.sporc_commands.specs.Moments.{ChangesFolderAlone, Moment, at_end}
+use Rattle.sporc_commands.specs.Rounds.{GoRounds, IsRoundOf, Round, Standing}
+use Rattle.sporc_commands.specs.Serving.{HasLogged, ServedFiles}
+use Rattle.sporc_commands.specs.Tails.{GivesBack, KeepsBehind, LogTailModel, after_last}
+use Rattle.sporc_hosting.specs.Loading.{AreFilesOfAll, ChangesTails, orders_in}
+use Rattle.sporc_hosting.specs.OpenLogModel.{OpenLogModel}
 use Rattle.sporc_hosting.specs.Loading.{with_tails_made}
 use Rattle.sporc_hosting.specs.Saving.{KeepsLogs}
 
@@ -35,6 +36,12 @@ GivesAllBack (log ∷ logs) (order ∷ orders) saved a b given =
     × (given ≡ first_fault others one)
 GivesAllBack logs orders saved a b given = ⊥
 
+-- the order of each of these names' documents is held, with a tail that keeps its entries
+pub record AreHeld {D : Type 0} (file_told : D → AppendTold) (names : List (List ℕ))
+    (tails : List (LogTailModel D)) (docs : List OrderModel) : Type 0 where
+  pub one_length : length names ≡ length docs
+  pub tails_keep : AreKept (KeepsBehind file_told) tails docs
+
 -- all files were read, of which the tails were made if there were none, and nothing else was done
 pub record AreOpened (names : List (List ℕ)) (folder : Use FolderTold) (out : Use StreamTold)
     (opened : Moment) : Type 0 where
@@ -46,13 +53,8 @@ pub record AreOpened (names : List (List ℕ)) (folder : Use FolderTold) (out : 
 module _ (names : List (List ℕ)) (sessions : ℕ) where
   -- one round: sessions were served from these orders, and each log was saved, whatever came of
   -- that
-  pub record IsRoundOfAll (a : Standing (List OrderModel))
-      (r : Round (List OrderModel)) : Type 0 where
-    pub served : Result (Unit {0}) ServeFault
-    pub serves : AreServed a.held r.after.held a.net r.after.net sessions served
-    pub keeps : KeepsLogs names r.after.held a.moment r.after.moment r.saved
-    pub answer_is : r.answer ≡ ended served r.saved
-    pub behind : IsBehind a.moment r.after.moment
+  abbrev pub IsRoundOfAll : Standing (List OrderModel) → Round (List OrderModel) → Type 0
+  IsRoundOfAll = IsRoundOf AreServed (KeepsLogs names) sessions
 
   module _ (times : ℕ) (folder : Use FolderTold) (out : Use StreamTold) (old new : NetTold) where
     -- nothing was served: the files of a document failed, one was named twice, memory ran out, or

@@ -1,3 +1,4 @@
+pub mod OpenLogModel
 pub mod Loading
 pub mod Saving
 pub mod Hosting

@@ -8,6 +8,8 @@ use Rattle.sporc_outside.specs.Files.{file_in, made_in}
 use Rattle.sporc_outside.specs.Told.{IfBoth}
 use Rattle.sporc_outside.specs.declared.named_file.NamedFile.{NamedFile}
 use Rattle.sporc_outside.specs.AppendFile.{AppendTold}
+use Rattle.sporc_outside.specs.Folders.{FolderTold}
+use Rattle.sporc_outside.specs.Uses.{Use}
 use Rattle.sporc_entry.specs.declared.genesis.Genesis.{Genesis}
 use Rattle.sporc_order.specs.OrderModel.{OrderModel}
 use Rattle.sporc_docs.specs.Hands.{Both}
@@ -24,6 +26,8 @@ use Rattle.sporc_commands.specs.Contents.{AnswersOfFile, genesis_in}
 use Rattle.sporc_commands.specs.Serving.{AreServedFiles, HasLogged, ServedFiles, log_in, logged}
 use Rattle.sporc_commands.specs.Serving.{order_in}
 use Rattle.sporc_commands.specs.Tails.{KeepsBehind, LogTailModel}
+use Rattle.sporc_hosting.specs.OpenLogModel.{OpenLogModel}
+use Rattle.sporc_hosting.specs.declared.loading.OpenDocs.{OpenDocs}
 
 -- ---- names
 
@@ -140,11 +144,6 @@ opened_to (Err fault) orders = Err fault
 
 -- ---- what is open
 
--- the log of a document as it was opened: the name of its tail's file, and how many entries it had
-pub record OpenLogModel : Type 0 where
-  pub name : List ℕ
-  pub logged : ℕ
-
 -- of each document with one of these names and what its files held: its order, the tail that keeps
 -- its entries, and its log as it was opened
 pub record AreOpen {D : Type 0} (file_told : D → AppendTold) (names : List (List ℕ))
@@ -191,3 +190,20 @@ module _ {D : Type 0} (file_told : D → AppendTold) where
     pub names_are : names ≡ opened ++ rest
     pub are_open : AreOpen file_told (first ++ opened) (begun ++ held) new tails logs
     pub all : OnOk result ((opened ≡ names) × (held ≡ contents))
+
+  -- one was, or several, whatever was open as far as it says
+  abbrev pub OpensOneBehind : Use FolderTold → List ℕ → ℕ → Result (Unit {0}) Fault → OpenDocs D
+      → OpenDocs D → Type 0
+  OpensOneBehind folder name number result old new =
+      (first : List (List ℕ)) (begun : List ServedFiles)
+      → AreOpen file_told first begun old.docs old.tails.items old.logs.items
+      → OpensOne folder.before.files name number folder.before.faults folder.after.faults result
+      old.docs new.docs new.tails.items new.logs.items first begun
+
+  abbrev pub OpensMoreBehind : Use FolderTold → List (List ℕ) → ℕ → Result (Unit {0}) Fault
+      → OpenDocs D → OpenDocs D → Type 0
+  OpensMoreBehind folder names number result old new =
+      (first : List (List ℕ)) (begun : List ServedFiles)
+      → AreOpen file_told first begun old.docs old.tails.items old.logs.items
+      → OpensMore folder.before.files names number folder.before.faults folder.after.faults result
+      old.docs new.docs new.tails.items new.logs.items first begun

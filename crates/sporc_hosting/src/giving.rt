@@ -6,7 +6,7 @@ ghost use Rattle.sporc_docs.specs.Served.{AreKept};
 ghost use Rattle.sporc_commands.specs.Tails.{GivesBack, KeepsBehind, LogTailModel};
 ghost use Rattle.sporc_hosting.specs.Hosting.{GivesAllBack};
 
-use crate::loading::OpenLog;
+use crate::open_log::OpenLog;
 use sporc_commands::{LogTail, keep_tail, remove_tail};
 use sporc_files::{Fault, first_fault};
 use sporc_order::Order;

@@ -13,12 +13,13 @@ ghost use Rattle.sporc_hosting.specs.Hosting.{GivesAllBack, ServeAllOutcome};
 
 use crate::giving::give_back_all;
 use crate::loading::{OpenDocs, open_documents};
-use crate::rounds::serve_rounds;
-use sporc_commands::after_last;
-use sporc_docs::Docs;
+use crate::open_log::OpenLog;
+use crate::rounds::{DocumentNames, serve_rounds};
+use sporc_commands::{LogTail, Rounds, after_last};
+use sporc_docs::{Docs, KeptDocs};
 use sporc_files::Fault;
 use sporc_outside::{AppendFile, Folder, Gate, Listen, Sink};
-use sporc_words::Word;
+use sporc_words::ServeAll;
 use std::alloc::Global;
 use std::sync::Wait;
 use std::thread::Threads;
@@ -37,29 +38,25 @@ pub fn serve_all<R: Threads + Wait + Sync, F: Folder, N: Listen + Send, O: Sink,
     files: &mut F,
     net: &mut N,
     out: &mut O,
-    names: &[Word],
-    address: &str,
-    sessions: u32,
-    times: u32,
+    asked: &ServeAll,
     gate: &G,
 ) -> Result<(), Fault>
 where
     F::Appended: Drop + Send,
     N::Link: Send,
-    requires documents_limit { length names.now ≤ MAX_DOCUMENTS }
-    requires positive { 1 ≤ sessions }
-    requires limit { sessions ≤ MAX_SESSIONS }
-    requires times_positive { 1 ≤ times }
-    ensures outcome { ServeAllOutcome names.now sessions times (use_of F.told files.old files.new)
-        (use_of O.told out.old out.new)
-        (N.told net.old) (N.told net.new)
-        result }
+    requires documents_limit { length asked.now.names ≤ MAX_DOCUMENTS }
+    requires positive { 1 ≤ asked.now.sessions }
+    requires limit { asked.now.sessions ≤ MAX_SESSIONS }
+    requires times_positive { 1 ≤ asked.now.times }
+    ensures outcome { ServeAllOutcome asked.now.names asked.now.sessions asked.now.times
+        (use_of F.told files.old files.new) (use_of O.told out.old out.new) (N.told net.old)
+        (N.told net.new) result }
     ensures lent { (F.told files.new).lent ≡ (F.told files.old).lent }
-    ensures files_may_ask { AsksOnly (files_of_all names.now) (F.told files.old).asked
+    ensures files_may_ask { AsksOnly (files_of_all asked.now.names) (F.told files.old).asked
         (F.told files.new).asked }
     ensures files_kept { (F.told files.old).faults ≤ (F.told files.new).faults }
-    ensures net_may_ask { AsksAgain times (N.told net.old).asked
-        (N.told net.new).asked address.now }
+    ensures net_may_ask { AsksAgain asked.now.times (N.told net.old).asked (N.told net.new).asked
+        asked.now.address }
     ensures shut { AreShutBehind (N.told net.old).returned (N.told net.new).returned }
     ensures links_out { (N.told net.new).out ≡ (N.told net.old).out }
     ensures net_kept { (N.told net.old).faults ≤ (N.told net.new).faults }
@@ -70,34 +67,48 @@ where
         tails: Vec::new(alloc),
         logs: Vec::new(alloc),
     };
+    let names = asked.names.as_slice();
     match open_documents(rt, alloc, files, names, 1, &mut held, gate) {
         Ok(()) => {
-            let last = serve_rounds(
-                rt, alloc, files, net, out, names, address, held, sessions, times, gate,
-            );
-            after_last(last.answer, give_back(files, last.held, last.saved))
+            let OpenDocs { docs, tails, logs } = held;
+            let address = asked.address.as_str();
+            let rounds = Rounds {
+                names: &DocumentNames { words: names },
+                address,
+                sessions: asked.sessions,
+                times: asked.times,
+                gate,
+            };
+            let kept = KeptDocs { docs, tails };
+            let last = serve_rounds(rt, alloc, files, net, out, &rounds, kept);
+            after_last(last.answer, give_back(files, logs, last.held, last.saved))
         }
-        Err(fault) => after_last(Err(fault), give_back(files, held, Err(fault))),
+        Err(fault) => {
+            let OpenDocs { docs, tails, logs } = held;
+            let kept = KeptDocs { docs, tails };
+            after_last(Err(fault), give_back(files, logs, kept, Err(fault)))
+        }
     }
 }
 
 // Gives the files of all tails back.
 fn give_back<F: Folder>(
     files: &mut F,
-    held: OpenDocs<F::Appended>,
+    logs: Vec<OpenLog>,
+    kept: KeptDocs<LogTail<F::Appended>>,
     saved: Result<(), Fault>,
 ) -> Result<(), Fault>
 where
     F::Appended: Drop,
-    requires one_length { length held.logs.items ≡ length held.docs }
-    requires tails { AreKept (KeepsBehind F.Appended.told) held.tails.items held.docs }
-    ensures gives { GivesAllBack held.logs.items held.docs saved (F.told files.old)
-        (F.told files.new) result }
+    requires one_length { length logs.items ≡ length kept.docs }
+    requires tails { AreKept (KeepsBehind F.Appended.told) kept.tails.items kept.docs }
+    ensures gives { GivesAllBack logs.items kept.docs saved (F.told files.old) (F.told files.new)
+        result }
     ensures lent { (F.told files.new).lent ≡ (F.told files.old).lent }
     ensures asked { (F.told files.new).asked ≡ (F.told files.old).asked }
     ensures kept { (F.told files.old).faults ≤ (F.told files.new).faults }
 {
-    let OpenDocs { docs, tails, logs } = held;
+    let KeptDocs { docs, tails } = kept;
     let mut tails = tails;
     give_back_all(files, &logs, docs.orders(), &mut tails, saved)
 }

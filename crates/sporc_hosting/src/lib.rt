@@ -5,7 +5,7 @@
 //!
 //! ```text
 //! // `log notes 12` and `log plans 0`, or Fault::Exists
-//! serve_all(rt, alloc, files, net, out, names, "localhost:4000", 8, &OpenGate)
+//! serve_all(rt, alloc, &mut files, &mut net, &mut out, &asked, &OpenGate)?;
 //! ```
 //!
 //! Proved: one relation, in `specs/Hosting.antt`, between its words, the folder, the sink and the
@@ -19,6 +19,7 @@
 mod giving;
 mod hosting;
 mod loading;
+mod open_log;
 mod rounds;
 mod saving;
 

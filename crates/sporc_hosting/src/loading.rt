@@ -1,7 +1,7 @@
 //! The orders in the logs and the tails of several documents.
 
-ghost use Rattle.std.specs.Prelude.{◌≡◌, ◌≢◌, ◌≤◌, ◌<◌, ◌+◌, ◌^◌, ◌∷◌, ◌++◌, [], ℕ, List, length};
-ghost use Rattle.std.specs.Prelude.{IfOk, OnOk, OnErr, option_map, string_bytes};
+ghost use Rattle.std.specs.Prelude.{◌≡◌, ◌≢◌, ◌≤◌, ◌<◌, ◌+◌, ◌^◌, ◌∷◌, ◌++◌, [], length, IfOk};
+ghost use Rattle.std.specs.Prelude.{OnOk, OnErr, option_map, string_bytes};
 ghost use Rattle.std.specs.Vec.{vec_len, vec_capacity};
 ghost use Rattle.sporc_entry.specs.Genesis.{IsGenesis};
 ghost use Rattle.sporc_outside.specs.Files.{ChangesFile, made_in};
@@ -11,57 +11,25 @@ ghost use Rattle.sporc_docs.specs.declared.fault.DocsFault.TheVariants as docs_f
 ghost use Rattle.sporc_files.specs.Names.{file_name};
 ghost use Rattle.sporc_files.specs.Uses.{AsksOnly};
 ghost use Rattle.sporc_files.specs.Faults.{AnswersUnlessOutside};
-ghost use Rattle.sporc_commands.specs.Serving.{ServedFiles};
 ghost use Rattle.sporc_commands.specs.Tails.{KeepsBehind, TakesTail};
-ghost use Rattle.sporc_hosting.specs.Loading.{AreOpen, ChangesTails, FindsHeld, FindsUnlessHeld};
-ghost use Rattle.sporc_hosting.specs.Loading.{OpensMore, OpensOne, added, fault_of_adding};
-ghost use Rattle.sporc_hosting.specs.Loading.{files_of_all, files_of_one, is_held, opened_to};
+ghost use Rattle.sporc_hosting.specs.Loading.{ChangesTails, FindsHeld, FindsUnlessHeld};
+ghost use Rattle.sporc_hosting.specs.Loading.{OpensMoreBehind, OpensOneBehind, added, files_of_all};
+ghost use Rattle.sporc_hosting.specs.Loading.{fault_of_adding, files_of_one, is_held, opened_to};
 ghost use Rattle.sporc_hosting.specs.Loading.{with_tail_made, with_tails_made};
 
+use crate::open_log::OpenLog;
 use sporc_base::{Memory, is_same};
-use sporc_commands::{KeptOrder, LogTail, OpenedOrder, open_order_behind, read_log};
+use sporc_commands::{LogTail, OpenedOrder, open_order_behind, read_log};
 use sporc_docs::{Docs, DocsFault};
 use sporc_entry::Genesis;
 use sporc_files::{Fault, File, Names, read_genesis_file};
 use sporc_order::Order;
 use sporc_outside::{AppendFile, Counted, Folder, Gate};
+use sporc_serve::KeptOrder;
 use sporc_words::Word;
 use std::alloc::Global;
-use std::marker::Model;
 use std::sync::Wait;
 use std::thread::Threads;
-
-// The log of a document as it was opened: the name of its tail's file, and how many entries it had.
-#[derive(Drop)]
-pub(crate) struct OpenLog {
-    name: String,
-    logged: u32,
-}
-
-impl Model for OpenLog {
-    ghost use Rattle.std.specs.String.{string_bytes};
-    ghost use Rattle.sporc_hosting.specs.Loading.{OpenLogModel};
-
-    ghost Value = { OpenLogModel };
-
-    ghost view = { λ l. record { name = string_bytes l.name; logged = l.logged } };
-}
-
-impl OpenLog {
-    // The name of the tail's file.
-    pub(crate) fn name(&self) -> &str
-        ensures { result.now ≡ self.now.name }
-    {
-        self.name.as_str()
-    }
-
-    // How many entries the log had.
-    pub(crate) fn logged(&self) -> u32
-        ensures { result ≡ self.now.logged }
-    {
-        self.logged
-    }
-}
 
 // The documents that a server has open, with the tail of each, and how each log was opened.
 #[derive(Drop)]
@@ -84,11 +52,8 @@ pub(crate) fn open_documents<R: Threads + Wait + Sync, F: Folder, G: Gate + Sync
 ) -> Result<(), Fault>
     requires limit { length held.old.docs + length names.now ≤ MAX_DOCUMENTS }
     requires numbers_limit { number + length names.now < 2 ^ 32 }
-    ensures opens { (first : List (List ℕ)) (begun : List ServedFiles)
-        → AreOpen F.Appended.told first begun held.old.docs held.old.tails.items held.old.logs.items
-        → OpensMore F.Appended.told (F.told files.old).files names.now number
-        (F.told files.old).faults (F.told files.new).faults result
-        held.old.docs held.new.docs held.new.tails.items held.new.logs.items first begun }
+    ensures opens { OpensMoreBehind F.Appended.told (use_of F.told files.old files.new) names.now
+        number result held.old held.new }
     ensures made { OnOk result
         ((F.told files.new).files ≡ with_tails_made names.now (F.told files.old).files) }
     ensures changes { ChangesTails names.now (F.told files.old).files (F.told files.new).files }
@@ -115,11 +80,8 @@ fn open_document<R: Threads + Wait + Sync, F: Folder, G: Gate + Sync>(
     gate: &G,
 ) -> Result<(), Fault>
     requires limit { length held.old.docs < MAX_DOCUMENTS }
-    ensures opens { (first : List (List ℕ)) (begun : List ServedFiles)
-        → AreOpen F.Appended.told first begun held.old.docs held.old.tails.items held.old.logs.items
-        → OpensOne F.Appended.told (F.told files.old).files name.now number
-        (F.told files.old).faults (F.told files.new).faults result
-        held.old.docs held.new.docs held.new.tails.items held.new.logs.items first begun }
+    ensures opens { OpensOneBehind F.Appended.told (use_of F.told files.old files.new) name.now
+        number result held.old held.new }
     ensures one { OnOk result (length held.new.docs ≡ length held.old.docs + 1) }
     ensures made { OnOk result
         ((F.told files.new).files ≡ with_tail_made name.now (F.told files.old).files) }

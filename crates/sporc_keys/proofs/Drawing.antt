@@ -1,11 +1,10 @@
 -- Keys that are drawn one word after another.
 use Rattle.std.proofs.Common.{◌≡◌, ℕ, suc, ◌+◌, ◌-◌, ◌<◌, ◌≤◌, List, [], ◌∷◌, ◌++◌, length, get_or, take, drop, Option, Some, None, Result, Ok, Err, refl, sym, ap, subst, ◌∙◌, append_assoc, add-one, arith, drop-cons, map}
-use Rattle.std.proofs.lemmas.List.{append-nil, drop_all, length-append, length-drop, length-map, length-take, map-append, map_more, take_all}
+use Rattle.sporc_keys.proofs.Common.{append-nil, drop_all, length-append, length-drop, length-map, length-take, map-append, map_more, take_all, SharedKey, SharesMore, numbers_in, pairs_of}
 use Rattle.sporc_base.proofs.ListLemmas.{all_append}
 use Rattle.sporc_outside.specs.Told.{AppendsItem, AppendsItems}
-use Rattle.sporc_keys.specs.declared.pair.SharedKey.{SharedKey}
 use Rattle.sporc_keys.specs.Drawn.{DrawsWords, DrawsWordsUpTo}
-use Rattle.sporc_keys.specs.Founding.{SharesMore, numbers_in, pairs_of, row}
+use Rattle.sporc_keys.specs.Founding.{row}
 
 grows_then : (a b c : Option (List (List ℕ))) (xs ys : List (List ℕ)) → AppendsItems a b xs → AppendsItems b c ys → AppendsItems a c (xs ++ ys)
 grows_then None b c xs ys p q = tt

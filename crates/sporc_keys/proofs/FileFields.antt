@@ -1,20 +1,14 @@
 -- A field of a file that is read is spelled by the bytes that it took, and a spelled field is read again.
 use Rattle.std.proofs.Common.{◌≡◌, ℕ, ◌+◌, ◌^◌, Bool, true, false, cond, List, [], ◌∷◌, ◌++◌, length, inl, inr, Some, None, Result, Ok, refl, sym, subst, arith}
-use Rattle.std.specs.Prelude.{bytes_eq, find, ◌==◌}
-use Rattle.std.specs.Int.{w32, to_be_bytes}
-use Rattle.std.proofs.lemmas.Bool.{eqb-true}
+use Rattle.sporc_keys.proofs.Common.{bytes_eq, find, ◌==◌, w32, to_be_bytes, eqb-true, ots_code_of, height_of, lms_code_of, IsBytes, Reading, ◌>>=◌, bytes_at, number_at, only_if, present, end_at}
+use Rattle.sporc_keys.proofs.Common.{bind_ok, ok_is, only_if_ok, Takes, wide32, bytes_takes, bytes_again, number_takes, u32_again, end_takes, present_ok, whole}
 use Rattle.std.proofs.lemmas.Slice.Eq.{bytes_eq-Decides}
 use Rattle.lms_ots.specs.declared.ots_type.OtsType.{OtsType}
 use Rattle.lms_ots.specs.declared.ots_type.OtsType.TheVariants.{W1, W2, W4, W8}
-use Rattle.lms_ots.specs.OtsType.{ots_code_of}
 use Rattle.lms_tree.specs.declared.lms_type.LmsType.{LmsType}
 use Rattle.lms_tree.specs.declared.lms_type.LmsType.TheVariants.{H5, H10, H15, H20, H25}
-use Rattle.lms_tree.specs.LmsType.{height_of, lms_code_of}
 use Rattle.lms_leaf.specs.LeafFile.{IsLeafHeight}
-use Rattle.sporc_base.specs.Bytes.{IsBytes}
-use Rattle.sporc_bytes.specs.Fields.{Reading, ◌>>=◌, bytes_at, number_at, only_if, present, end_at}
-use Rattle.sporc_bytes.proofs.Fields.{bind_ok, ok_is, only_if_ok, Takes, wide32, bytes_takes, bytes_again, number_takes, u32_again, end_takes, present_ok}
-use Rattle.sporc_keys.specs.Fields.{format_at, whole}
+use Rattle.sporc_keys.specs.Fields.{format_at}
 use Rattle.sporc_keys.specs.KeyFile.{IsKeyWidth, lms_type_at, ots_type_at}
 
 -- ---- formats

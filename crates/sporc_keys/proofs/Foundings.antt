@@ -1,10 +1,8 @@
 -- What a document begins with has a spelling.
 use Rattle.std.proofs.Common.{◌≡◌, ℕ, ◌+◌, ◌^◌, ◌<◌, ◌≤◌, Bool, true, false, cond, eqb, List, [], ◌∷◌, length, Option, Some, None, refl, sym, ap, ap₂, subst, ◌∙◌, arith, map}
-use Rattle.std.specs.Prelude.{take, IfSome, ◌||◌}
-use Rattle.std.specs.List.{AllByRecursion, cons_option, list_any, zip}
-use Rattle.std.specs.List.Sorted.{IsStrictlyIncreasing}
-use Rattle.std.proofs.lemmas.Bool.Decides.{nat_tests}
-use Rattle.std.proofs.lemmas.List.{length-map, length-take}
+use Rattle.sporc_keys.proofs.Common.{take, IfSome, ◌||◌, AllByRecursion, cons_option, list_any, zip, IsStrictlyIncreasing, nat_tests, length-map, length-take, IsMember, Named, SharedKey, PairKey}
+use Rattle.sporc_keys.proofs.Common.{RingFile, IsKnownKey, SharesMore, numbers_in, epoch_key_of, founders_in, genesis_of, in_order, number_of, numbers_of, pair_keys_of, pairs_of, ring_of, shared_by}
+use Rattle.sporc_keys.proofs.Common.{shared_keys, words_for, IsPairKey, IsRingFile, members_of, Ascends, ascends_below, ascends_increasing}
 use Rattle.sporc_base.proofs.ListLemmas.{all_append}
 use Rattle.sha2.proofs.Facts256.{length-sha256}
 use Rattle.sporc_hash.specs.Chain.{commitment_string}
@@ -12,20 +10,13 @@ use Rattle.sporc_member.specs.declared.founder.Founder.{Founder}
 use Rattle.sporc_member.specs.declared.limits.TheConstants.{MAX_MEMBERS}
 use Rattle.sporc_member.specs.Role.{is_admin}
 use Rattle.sporc_member.specs.Roster.{founder_numbers}
-use Rattle.sporc_member.specs.Device.{IsMember}
 use Rattle.sporc_entry.specs.Genesis.{IsFounder, IsGenesis, bad_key, founders_fault}
 use Rattle.sporc_entry.specs.declared.genesis.Genesis.{Genesis}
 use Rattle.sporc_outside.specs.Told.{AppendsItem}
 use Rattle.sporc_keys.specs.declared.founding.Founding.{Founding}
-use Rattle.sporc_keys.specs.declared.named.Named.{Named}
 use Rattle.sporc_keys.specs.declared.named.Named.TheVariants as named
-use Rattle.sporc_keys.specs.declared.pair.SharedKey.{SharedKey}
-use Rattle.sporc_keys.specs.declared.ring_file.PairKey.{PairKey}
-use Rattle.sporc_keys.specs.declared.ring_file.RingFile.{RingFile}
-use Rattle.sporc_keys.specs.Founding.{CanFound, IsFounding, IsKnownKey, SharesMore, found_of, numbers_in, epoch_key_of, founders_in, genesis_of, in_order, is_first_admin, number_of, numbers_of, pair_keys_of, pairs_of, ring_of, row, shared_by, shared_keys, words_for}
+use Rattle.sporc_keys.specs.Founding.{CanFound, IsFounding, found_of, is_first_admin, row}
 use Rattle.sporc_keys.specs.Drawn.{DrawsWords, DrawsWordsUpTo}
-use Rattle.sporc_keys.specs.RingFile.{IsPairKey, IsRingFile, members_of}
-use Rattle.sporc_keys.proofs.Ascending.{Ascends, ascends_below, ascends_increasing}
 use Rattle.sporc_keys.proofs.Drawing.{draws_then, draws_two}
 use Rattle.sporc_keys.proofs.Naming.{ordered_all, ordered_any, ordered_ascends, ordered_length}
 use Rattle.sporc_keys.proofs.Sharing.{is_among, made_again, named_members}

@@ -1,19 +1,11 @@
 -- A key file that is read is spelled so, and one that is spelled so is read again as that of its device.
 use Rattle.std.proofs.Common.{◌≡◌, ℕ, ◌+◌, ◌^◌, ◌<◌, Bool, true, false, cond, leb, List, [], ◌∷◌, ◌++◌, length, Ok, refl, sym, ap, ap₂, subst, ◌∙◌, arith}
-use Rattle.std.specs.Prelude.{◌==◌, ◌&&◌, codes}
-use Rattle.std.specs.Int.{Width, w8, w16, w32, to_be_bytes}
-use Rattle.std.proofs.lemmas.Bool.{eqb-true}
-use Rattle.std.proofs.lemmas.List.{append-nil}
-use Rattle.lms_ots.specs.OtsType.{ots_code_of}
-use Rattle.lms_tree.specs.LmsType.{lms_code_of}
-use Rattle.sporc_base.specs.Bytes.{IsBytes}
-use Rattle.sporc_bytes.specs.Fields.{Reading, ◌>>=◌, bytes_at, number_at, number_within, only_if}
-use Rattle.sporc_bytes.proofs.Fields.{IsWide, bind_ok, ok_is, only_if_ok, wide8, wide16, bytes_takes, bytes_again, number_takes, within_takes, u16_within_again, byte_takes, byte_again}
-use Rattle.sporc_entry.proofs.FieldLaws.{Leaves}
-use Rattle.sporc_member.specs.declared.device.Device.{Device}
+use Rattle.sporc_keys.proofs.Common.{◌==◌, ◌&&◌, codes, Width, w8, w16, w32, to_be_bytes, eqb-true, append-nil, ots_code_of, lms_code_of, IsBytes, Reading, ◌>>=◌, bytes_at, number_at, only_if, IsWide}
+use Rattle.sporc_keys.proofs.Common.{bind_ok, ok_is, only_if_ok, wide8, wide16, bytes_takes, bytes_again, number_takes, within_takes, u16_within_again, byte_takes, byte_again, Leaves, Device, KeyFile}
+use Rattle.sporc_keys.proofs.Common.{IsKeyFile, device_number_bytes, format_of, key_file_of}
+use Rattle.sporc_bytes.specs.Fields.{number_within}
 use Rattle.sporc_member.specs.declared.device.TheConstants.{FIRST_DEVICE}
-use Rattle.sporc_keys.specs.declared.key_file.KeyFile.{KeyFile}
-use Rattle.sporc_keys.specs.KeyFile.{IsKeyFile, device_number_at, device_number_bytes, format_of, key_file_at, key_file_bytes, key_file_of}
+use Rattle.sporc_keys.specs.KeyFile.{device_number_at, key_file_at, key_file_bytes}
 use Rattle.sporc_keys.proofs.FileFields.{format_takes, format_again, lms_takes, lms_again, ots_takes, ots_again, whole_takes}
 
 -- ---- the device's number

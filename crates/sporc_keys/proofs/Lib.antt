@@ -1,4 +1,3 @@
-pub mod Ascending
 pub mod Drawing
 mod Examples
 pub mod FileFields
@@ -6,6 +5,6 @@ pub mod Foundings
 pub mod KeyFileLaws
 pub mod Naming
 pub mod OtherKeyFiles
-pub mod PairLoop
 pub mod RingFileLaws
 pub mod Sharing
+pub mod Common

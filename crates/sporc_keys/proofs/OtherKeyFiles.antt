@@ -1,20 +1,12 @@
 -- The key file of another device is malformed where it first differs.
 use Rattle.std.proofs.Common.{◌≡◌, ℕ, ◌+◌, ◌^◌, ◌<◌, Bool, true, false, cond, leb, List, ◌∷◌, ◌++◌, length, Ok, Err, refl, sym, ap, subst, ◌∙◌, arith}
-use Rattle.std.specs.Prelude.{◌==◌, ◌&&◌, bytes_eq, codes}
-use Rattle.std.specs.Int.{Width, w8, w16, w32, to_be_bytes}
-use Rattle.std.proofs.lemmas.Bool.{and_parts, eq-eqb, eqb-true, leb-true, true≢false}
+use Rattle.sporc_keys.proofs.Common.{◌==◌, ◌&&◌, bytes_eq, codes, Width, w8, w16, w32, to_be_bytes, and_parts, eq-eqb, eqb-true, leb-true, true≢false, ots_code_of, lms_code_of, IsWide, wide8, wide16}
+use Rattle.sporc_keys.proofs.Common.{bytes_again, number_again, u16_within_again, byte_is, Device, same_device, KeyFile, IsKeyFile, device_number_bytes, format_of, key_file_of, place_of_other}
 use Rattle.std.proofs.lemmas.Slice.Eq.{bytes_eq-Decides}
-use Rattle.lms_ots.specs.OtsType.{ots_code_of}
-use Rattle.lms_tree.specs.LmsType.{lms_code_of}
 use Rattle.sporc_bytes.specs.Fields.{number_within}
-use Rattle.sporc_bytes.proofs.Fields.{IsWide, wide8, wide16, bytes_again, number_again, u16_within_again}
-use Rattle.sporc_entry.proofs.FieldLaws.{byte_is}
-use Rattle.sporc_member.specs.declared.device.Device.{Device}
 use Rattle.sporc_member.specs.declared.device.TheConstants.{FIRST_DEVICE}
-use Rattle.sporc_member.specs.Device.{same_device}
-use Rattle.sporc_keys.specs.declared.key_file.KeyFile.{KeyFile}
 use Rattle.sporc_keys.specs.Fields.{format_at}
-use Rattle.sporc_keys.specs.KeyFile.{IsKeyFile, device_number_at, device_number_bytes, format_of, key_file_at, key_file_bytes, key_file_of, place_of_other}
+use Rattle.sporc_keys.specs.KeyFile.{device_number_at, key_file_at, key_file_bytes}
 use Rattle.sporc_keys.proofs.FileFields.{format_again}
 use Rattle.sporc_keys.proofs.KeyFileLaws.{byte_unless, format_len}
 

@@ -1,109 +1,55 @@
 -- A ring file that is read is spelled so, and one that is spelled so is read again.
 use Rattle.std.proofs.Common.{◌≡◌, ℕ, ◌+◌, ◌^◌, ◌<◌, ◌≤◌, Bool, true, false, cond, eqb, List, [], ◌∷◌, ◌++◌, length, Option, Some, None, Result, Ok, Err, refl, sym, ap, subst, ◌∙◌, append_assoc, arith, lit<}
-use Rattle.std.specs.Prelude.{IfOk, IfSome, codes, ◌==◌}
-use Rattle.std.specs.List.{flat_map, AllByRecursion}
-use Rattle.std.specs.List.Sorted.{IsStrictlyIncreasing}
-use Rattle.std.specs.Int.{w8, w16, to_be_bytes}
-use Rattle.std.proofs.lemmas.Bool.{eqb-true}
-use Rattle.std.proofs.lemmas.Bool.Decides.{nat_tests}
-use Rattle.std.proofs.lemmas.List.{append-nil}
-use Rattle.sporc_base.specs.Bytes.{IsBytes}
+use Rattle.sporc_keys.proofs.Common.{IfOk, IfSome, codes, ◌==◌, flat_map, AllByRecursion, IsStrictlyIncreasing, w8, w16, to_be_bytes, eqb-true, nat_tests, append-nil, IsBytes, Reading, ◌>>=◌, fault_as}
+use Rattle.sporc_keys.proofs.Common.{bytes_at, number_within, bind_ok, fault_as_ok, ok_is, Takes, Takes-then, wide16, bytes_takes, bytes_again, number_takes, u16_again, within_takes, byte_takes}
+use Rattle.sporc_keys.proofs.Common.{u16_within_again, byte_again, increasing_from_zero, Leaves, PairKey, RingFile, whole, IsPairKey, IsRingFile, members_of, pair_bytes}
 use Rattle.sporc_base.specs.Outcome.{GivesUnless}
-use Rattle.sporc_bytes.specs.Fields.{Reading, ◌>>=◌, fault_as, bytes_at, number_within, values_at}
-use Rattle.sporc_bytes.proofs.Fields.{bind_ok, fault_as_ok, ok_is, Takes, Takes-then, wide16, bytes_takes, bytes_again, number_takes, u16_again, within_takes, byte_takes, u16_within_again, byte_again}
-use Rattle.sporc_bytes.proofs.ListLaws as lists
-use Rattle.sporc_bytes.proofs.ListLaws.{IsReadFrom, ascending_again, ascending_take}
+use Rattle.sporc_bytes.proofs.ListLaws.{AreReadFrom, IsReadFrom, ReadsAgain, ascending_again, ascending_take}
 use Rattle.sporc_entry.specs.declared.limits.TheConstants.{HIGHEST_MEMBER}
-use Rattle.sporc_entry.proofs.FieldLaws.{Leaves}
 use Rattle.sporc_keys.specs.declared.fault.RingFileFault.{RingFileFault}
 use Rattle.sporc_keys.specs.declared.fault.RingFileFault.TheVariants.{Malformed, Memory}
-use Rattle.sporc_keys.specs.declared.ring_file.PairKey.{PairKey}
-use Rattle.sporc_keys.specs.declared.ring_file.RingFile.{RingFile}
-use Rattle.sporc_keys.specs.Fields.{whole}
-use Rattle.sporc_keys.specs.RingFile.{IsPairKey, IsRingFile, epoch_key_at, epoch_key_bytes, members_of, next_pair, pair_at, pair_bytes, pairs_at, ring_file_at, ring_file_bytes, ring_file_in, ring_file_of_member}
-use Rattle.sporc_keys.proofs.Ascending.{Ascends, ascends_increasing, increasing_from_zero}
+use Rattle.sporc_keys.specs.RingFile.{epoch_key_at, epoch_key_bytes, pair_at, pairs_at, ring_file_at, ring_file_bytes, ring_file_in, ring_file_of_member}
 use Rattle.sporc_keys.proofs.FileFields.{format_takes, format_again, whole_takes}
 
 -- ---- shared keys
 
--- a shared key that is read, from a least number on
-pub record IsTaken (least : ℕ) (r : Reading) (x : PairKey × Reading) : Type 0 where
-  pub text : Takes r (pair_bytes x.0) x.1
-  pub above : least ≤ x.0.member
-  pub is : IsPairKey x.0
+-- the number that a shared key is with
+abbrev with_of : PairKey → ℕ
+with_of p = p.member
 
-pair_takes : (least : ℕ) (r : Reading) (x : PairKey × Reading) → IsBytes r.rest → pair_at least r ≡ Ok x → IsTaken least r x
+-- a shared key that is read, from a least number on
+pair_takes : (least : ℕ) (r : Reading) (x : PairKey × Reading) → 0 ≤ least → IsBytes r.rest → pair_at least r ≡ Ok x → IsReadFrom with_of pair_bytes IsPairKey least r x
 unfolding pair_at
-pair_takes least r x h e =
+pair_takes least r x low h e =
     let a = bind_ok _ _ x e in
     let b = bind_ok _ _ x a.2 in
     let ta = within_takes least HIGHEST_MEMBER w16 (2 ^ 16) wide16 r a.0 h a.1 in
     let tb = bytes_takes 32 a.0.1 b.0 ta.0.bytes b.1 in
     let made : PairKey × Reading = (record { member = a.0.0; key = b.0.0 }, b.0.1) in
     let whole = Takes-then r (to_be_bytes w16 a.0.0) a.0.1 b.0.0 b.0.1 ta.0 tb.0 in
-    let P : PairKey × Reading → Type 0 = λ y. IsTaken least r y in
+    let P : PairKey × Reading → Type 0 = λ y. IsReadFrom with_of pair_bytes IsPairKey least r y in
     subst P (ok_is made x b.2) (record { text = whole; above = ta.1; is = record { member = omega (arith, ta.2); key = tb.1 } })
 
--- the number that a shared key is with
-abbrev with_of : PairKey → ℕ
-with_of p = p.member
-
-next_takes : (least : ℕ) (r : Reading) (x : PairKey × (ℕ × Reading)) → 0 ≤ least → IsBytes r.rest → next_pair (least, r) ≡ Ok x → IsReadFrom with_of pair_bytes IsPairKey least r x
-unfolding next_pair
-next_takes least r x low h e =
-    let f = bind_ok (pair_at least r) (λ p. Ok (p.0, (p.0.member + 1, p.1))) x e in
-    let t = pair_takes least r f.0 h f.1 in
-    let P : PairKey × (ℕ × Reading) → Type 0 = λ y. IsReadFrom with_of pair_bytes IsPairKey least r y in
-    subst P (ok_is (f.0.0, (f.0.0.member + 1, f.0.1)) x f.2) (record { text = t.text; above = t.above; next = refl; is = t.is })
-
-pair_again : (least : ℕ) (p : PairKey) (at : ℕ) (rest : List ℕ) → IsPairKey p → least ≤ p.member → pair_at least (record { rest = pair_bytes p ++ rest; at = at }) ≡ Ok (p, record { rest = rest; at = at + 2 + 32 })
+pair_again : ReadsAgain pair_at with_of pair_bytes IsPairKey
 unfolding pair_at
 pair_again least p at rest is le =
-    let regrouped : pair_bytes p ++ rest ≡ to_be_bytes w16 p.member ++ (p.key ++ rest) = append_assoc (to_be_bytes w16 p.member) p.key rest in
-    ap (λ (bs : List ℕ). pair_at least (record { rest = bs; at = at })) regrouped ∙ rw (
-      u16_within_again least HIGHEST_MEMBER p.member at (p.key ++ rest) le (omega (arith, is.member)) is.member,
-      bytes_again 32 (at + 2) p.key rest is.key,
-    ) refl
+    let regrouped : pair_bytes p ++ rest ≡ to_be_bytes w16 p.member ++ (p.key ++ rest) = append_assoc (to_be_bytes w16 p.member) p.key rest in (
+      at + 2 + 32,
+      ap (λ (bs : List ℕ). pair_at least (record { rest = bs; at = at })) regrouped ∙ rw (
+        u16_within_again least HIGHEST_MEMBER p.member at (p.key ++ rest) le (omega (arith, is.member)) is.member,
+        bytes_again 32 (at + 2) p.key rest is.key,
+      ) refl,
+    )
 
-next_again : (least : ℕ) (p : PairKey) (at : ℕ) (rest : List ℕ) → IsPairKey p → least ≤ with_of p
-    → (after : ℕ) × (next_pair (least, record { rest = pair_bytes p ++ rest; at = at }) ≡ Ok (p, (with_of p + 1, record { rest = rest; at = after })))
-unfolding next_pair
-next_again least p at rest is le = (at + 2 + 32, rw (pair_again least p at rest is le) refl)
-
--- the numbers of shared keys ascend if the keys do by them
-numbers_ascend : (least : ℕ) (ps : List PairKey) → lists.Ascends with_of least ps → Ascends least (members_of ps)
-numbers_ascend least [] asc = tt
-numbers_ascend least (p ∷ ps) asc = (asc.0, numbers_ascend (p.member + 1) ps asc.1)
-
-pairs_ascend : (least : ℕ) (ps : List PairKey) → Ascends least (members_of ps) → lists.Ascends with_of least ps
-pairs_ascend least [] asc = tt
-pairs_ascend least (p ∷ ps) asc = (asc.0, pairs_ascend (p.member + 1) ps asc.1)
-
--- shared keys that are read from the first on
-pub record ArePairs (n : ℕ) (r : Reading) (x : List PairKey × Reading) : Type 0 where
-  pub text : Takes r (flat_map pair_bytes x.0) x.1
-  pub count : length x.0 ≡ n
-  pub each : AllByRecursion IsPairKey x.0
-  pub ascending : IsStrictlyIncreasing (members_of x.0)
-
-pairs_take : (n : ℕ) (r : Reading) (x : List PairKey × Reading) → IsBytes r.rest → pairs_at n r ≡ Ok x → ArePairs n r x
+pairs_take : (n : ℕ) (r : Reading) (x : List PairKey × Reading) → IsBytes r.rest → pairs_at n r ≡ Ok x → AreReadFrom with_of pair_bytes IsPairKey n r x
 unfolding pairs_at
-pairs_take n r x h e =
-    let l = bind_ok (values_at next_pair n (0, r)) (λ pairs. Ok (pairs.0, pairs.1.1)) x e in
-    let t = ascending_take next_pair with_of pair_bytes IsPairKey 0 next_takes n 0 r l.0 (omega arith) h l.1 in
-    let P : List PairKey × Reading → Type 0 = λ y. ArePairs n r y in
-    subst P (ok_is (l.0.0, l.0.1.1) x l.2) (record { text = t.text; count = t.count; each = t.each; ascending = ascends_increasing 0 (members_of l.0.0) (numbers_ascend 0 l.0.0 t.ascending) })
+pairs_take n r x h e = ascending_take pair_at with_of pair_bytes IsPairKey 0 pair_takes n r x h e
 
 -- the shared keys of all bytes that are left
 pairs_again : (ps : List PairKey) (at : ℕ) → AllByRecursion IsPairKey ps → IsStrictlyIncreasing (members_of ps)
     → (after : ℕ) × (pairs_at (length ps) (record { rest = flat_map pair_bytes ps; at = at }) ≡ Ok (ps, record { rest = []; at = after }))
 unfolding pairs_at
-pairs_again ps at is asc =
-    let t = ascending_again next_pair with_of pair_bytes IsPairKey next_again ps 0 at [] is (pairs_ascend 0 ps (increasing_from_zero (members_of ps) asc)) in
-    let regrouped : flat_map pair_bytes ps ++ [] ≡ flat_map pair_bytes ps = append-nil (flat_map pair_bytes ps) in
-    let read : values_at next_pair (length ps) (0, record { rest = flat_map pair_bytes ps; at = at }) ≡ Ok (ps, (t.0, record { rest = []; at = t.1 })) =
-    ap (λ (bs : List ℕ). values_at next_pair (length ps) (0, record { rest = bs; at = at })) (sym regrouped) ∙ t.2 in
-    (t.1, rw read refl)
+pairs_again ps at is asc = ascending_again pair_at with_of pair_bytes IsPairKey pair_again ps 0 at is (increasing_from_zero (members_of ps) asc)
 
 -- ---- the key of epoch 0
 

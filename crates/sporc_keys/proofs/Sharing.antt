@@ -1,16 +1,9 @@
 -- The keys that two share.
 use Rattle.std.proofs.Common.{◌≡◌, ℕ, zero, suc, ◌+◌, ◌<◌, ◌≤◌, Bool, true, false, cond, eqb, List, [], ◌∷◌, ◌++◌, length, Option, Some, None, refl, sym, ap, ap₂, ◌∙◌, arith, map}
-use Rattle.std.specs.Prelude.{◌||◌, Contains, filter_map, find, option_map}
-use Rattle.std.specs.List.{cons_option, list_any, zip}
-use Rattle.std.specs.List.Sorted.{IsStrictlyIncreasing}
-use Rattle.std.proofs.lemmas.Bool.Decides.{nat_tests}
-use Rattle.std.proofs.lemmas.List.{append-nil}
+use Rattle.sporc_keys.proofs.Common.{◌||◌, Contains, filter_map, find, option_map, cons_option, list_any, zip, IsStrictlyIncreasing, nat_tests, append-nil, SharedKey, PairKey, numbers_in, pair_keys_of}
+use Rattle.sporc_keys.proofs.Common.{pairs_of, shared_by, shared_keys, members_of, Ascends, increasing_from_zero}
 use Rattle.std.proofs.lemmas.List.Elements.{filter_map-append}
-use Rattle.sporc_keys.specs.declared.pair.SharedKey.{SharedKey}
-use Rattle.sporc_keys.specs.declared.ring_file.PairKey.{PairKey}
-use Rattle.sporc_keys.specs.Founding.{key_with, numbers_in, pair_keys_of, pairs_of, row, shared_by, shared_keys}
-use Rattle.sporc_keys.specs.RingFile.{members_of}
-use Rattle.sporc_keys.proofs.Ascending.{Ascends, increasing_from_zero}
+use Rattle.sporc_keys.specs.Founding.{key_with, row}
 
 -- ---- both have it
 

@@ -15,7 +15,8 @@ use Rattle.std.specs.FinMap.{empty, insert}
 use Rattle.std.specs.Int.{w8, w16, to_be_bytes}
 use Rattle.std.specs.List.{AllByRecursion, flat_map}
 use Rattle.std.specs.List.Sorted.{IsStrictlyIncreasing}
-use Rattle.sporc_bytes.specs.Fields.{Reading, ◌>>=◌, number_at, bytes_at, number_within, values_at}
+use Rattle.sporc_bytes.specs.Fields.{Reading, ◌>>=◌, ascending_at, number_at, bytes_at}
+use Rattle.sporc_bytes.specs.Fields.{number_within}
 use Rattle.sporc_entry.specs.declared.limits.TheConstants.{HIGHEST_MEMBER}
 use Rattle.sporc_epoch.specs.Keys.{Keys}
 use Rattle.sporc_keys.specs.declared.ring_file.PairKey.{PairKey}
@@ -37,18 +38,9 @@ pair_at least r = do
   key ← bytes_at 32 member.1
   Ok (record { member = member.0; key = key.0 }, key.1)
 
--- a key shared with a member whose number is at least this, and the least number of the one after
--- it
-unfoldable pub next_pair : ℕ × Reading → Result (PairKey × (ℕ × Reading)) ℕ
-next_pair (least, r) = do
-  p ← pair_at least r
-  Ok (p.0, (p.0.member + 1, p.1))
-
 -- so many shared keys in ascending order of their members
 unfoldable pub pairs_at : ℕ → Reading → Result (List PairKey × Reading) ℕ
-pairs_at n r = do
-  pairs ← values_at next_pair n (0, r)
-  Ok (pairs.0, pairs.1.1)
+pairs_at n r = ascending_at pair_at (λ p. p.member) 0 n r
 
 -- the fields of a ring file whose member is from low to high
 unfoldable pub ring_file_at : ℕ → ℕ → Reading → Result (RingFile × Reading) ℕ

@@ -42,8 +42,7 @@ pub fn two_share_one_key()
 
 /// Who is among ascending numbers has a key with each of them, in their order, and no other.
 pub fn rings_name_all()
-    ensures members { (numbers : List ℕ) (words : List (List ℕ)) (member : ℕ)
-        → IsStrictlyIncreasing numbers → length words ≡ length (pairs_of numbers)
-        → Contains numbers member
-        → members_of (pair_keys_of member (shared_keys numbers words)) ≡ numbers }
+    ensures members { (all : List ℕ) (words : List (List ℕ)) (member : ℕ)
+        → IsStrictlyIncreasing all → length words ≡ length (pairs_of all) → Contains all member
+        → members_of (pair_keys_of member (shared_keys all words)) ≡ all }
 {}

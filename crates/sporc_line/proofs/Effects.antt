@@ -1,40 +1,22 @@
 -- What an entry that passed the head's checks does, and its first fault of the checks that need keys.
 use Rattle.std.proofs.Common.{◌≡◌, ℕ, ◌+◌, ◌≤◌, Bool, true, false, List, [], ◌∷◌, ◌++◌, length, take, drop, refl, ap, sym, ◌∙◌, subst, arith, Option, None, Some}
-use Rattle.std.specs.Prelude.{is_some, nat_lt, nat_le, ◌==◌}
+use Rattle.sporc_line.proofs.Common.{is_some, nat_lt, nat_le, ◌==◌, leb-true, eqb-true, eq-eqb, unless, first_of, Mark, base_len, inserted_len, keep_marks, later_over, Device, member_at, key_of_device}
+use Rattle.sporc_line.proofs.Common.{passes, Entry, ChangeBody, Genesis, MAX_EDIT_BODY, author_device, entry_of, change_of, Refusal, BadPayload, WrongLength, change_in, changes, epoch_of, roster_of}
+use Rattle.sporc_line.proofs.Common.{barrier_of, last_of, count_of, hash_of, place_checks, history_checks, author_checks, roster_checks, fault_read, change_in_read, Kit, key_after, epoch_key}
+use Rattle.sporc_line.proofs.Common.{key_by_wraps, marks_in, edit_marks, forms_of, text_of, is_over, edit_checks, new_key_checks, key_checks_of, first_fault, inserted_len-keep_marks}
 use Rattle.std.specs.Str.{bytes_eq}
-use Rattle.std.proofs.lemmas.Bool.{leb-true, eqb-true, eq-eqb}
-use Rattle.sporc_base.specs.FirstFault.{unless, first_of}
-use Rattle.sporc_delta.specs.Marks.{Mark, base_len, inserted_len, keep_marks}
-use Rattle.sporc_suffix.specs.Forms.{later_over}
-use Rattle.sporc_member.specs.declared.device.Device.{Device}
-use Rattle.sporc_member.specs.Roster.{member_at, key_of as key_of_device}
-use Rattle.sporc_member.proofs.Checks.{passes}
-use Rattle.sporc_entry.specs.declared.entry.Entry.{Entry}
 use Rattle.sporc_entry.specs.declared.header.Header.{Header}
-use Rattle.sporc_entry.specs.declared.change.ChangeBody.{ChangeBody}
-use Rattle.sporc_entry.specs.declared.genesis.Genesis.{Genesis}
-use Rattle.sporc_entry.specs.declared.limits.TheConstants.{MAX_EDIT_BODY}
-use Rattle.sporc_entry.specs.Entry.{author_device, entry_of, change_of}
 use Rattle.sporc_entry.specs.Version.{version_of}
 use Rattle.sporc_epoch.specs.Streams.{stream_of}
-use Rattle.sporc_head.specs.declared.refusal.Refusal.{Refusal}
-use Rattle.sporc_head.specs.declared.refusal.Refusal.TheVariants.{BadPayload, WrongLength}
 use Rattle.sporc_head.specs.CheckedModel.{CheckedModel}
 use Rattle.sporc_head.specs.IsChecked.{IsChecked}
 use Rattle.sporc_head.specs.declared.limits.TheConstants.{MAX_ENTRIES}
-use Rattle.sporc_head.specs.History.{change_in, changes, epoch_of, roster_of, barrier_of, last_of, count_of, hash_of}
-use Rattle.sporc_head.specs.HeadChecks.{place_checks, history_checks, author_checks, roster_checks, head_checks, fault_read, head_fault}
-use Rattle.sporc_head.proofs.Grows.{change_in_read}
+use Rattle.sporc_head.specs.HeadChecks.{head_checks, head_fault}
 use Rattle.sporc_line.specs.declared.effect.Effect.{Effect}
-use Rattle.sporc_line.specs.Kit.{Kit}
-use Rattle.sporc_line.specs.Keys.{key_after, epoch_key, key_by_wraps}
-use Rattle.sporc_line.specs.Operations.{marks_in, edit_marks}
-use Rattle.sporc_line.specs.Document.{forms_of, text_of}
-use Rattle.sporc_line.specs.LineChecks.{is_over, edit_checks, new_key_checks, key_checks_of, key_checks, first_fault}
+use Rattle.sporc_line.specs.LineChecks.{key_checks}
 use Rattle.sporc_line.specs.Prepared.{IsEffect}
 use Rattle.sporc_line.proofs.Passes.{both_pass}
 use Rattle.sporc_line.proofs.SameKeys.{committed}
-use Rattle.sporc_delta.proofs.Lengths.{inserted_len-keep_marks}
 use Rattle.sporc_line.proofs.FormLengths.{change_form, edit_form, inserted_len-over}
 use Rattle.sporc_line.proofs.NextEntry.{started_by_wraps, edit_key, key_after_change, fault_at_keys}
 use Rattle.sporc_line.proofs.ReadLengths.{body_within, marks_within}
@@ -174,6 +156,10 @@ pub record EditSeen (g : Genesis) (kit : Kit) (A : List (List ℕ)) (c : Checked
   pub stream_is : stream ≡ stream_of h
   pub body_is : body ≡ c.entry.body
 
+pub edit_seen : {g : Genesis} {kit : Kit} {A : List (List ℕ)} {c : CheckedModel} {h : Header} {stream : ℕ} {key body : List ℕ} → IsChecked g A c → change_of c.entry ≡ None
+    → Some key ≡ epoch_key g kit A (epoch_of A) → h ≡ c.entry.header → stream ≡ stream_of h → body ≡ c.entry.body → EditSeen g kit A c h stream key body
+edit_seen checked edit key_is header_is stream_is body_is = record { checked = checked; edit = edit; key_is = key_is; header_is = header_is; stream_is = stream_is; body_is = body_is }
+
 module _ {g : Genesis} {kit : Kit} {A : List (List ℕ)} {c : CheckedModel} {h : Header} {stream : ℕ} {key body : List ℕ} (s : EditSeen g kit A c h stream key body) where
   seen_marks : edit_marks (Some key) c.entry ≡ marks_in key stream body
   seen_marks =
@@ -225,6 +211,20 @@ pub record ChangeSeen (g : Genesis) (kit : Kit) (A : List (List ℕ)) (c : Check
   pub document_is : document ≡ g.document
   pub old_is : old ≡ epoch_key g kit A (epoch_of A)
   pub key_is : key ≡ key_by_wraps kit epoch c.entry.header body
+
+-- by the key that the author's header opens
+pub started_seen : {g : Genesis} {kit : Kit} {A : List (List ℕ)} {c : CheckedModel} {body : ChangeBody} {before : ℕ} {me : Device} {document : List ℕ} {old key : Option (List ℕ)} {mine : Kit} {h : Header}
+    → IsChecked g A c → change_of c.entry ≡ Some body → before ≡ epoch_of A → me ≡ kit.me → document ≡ g.document → old ≡ epoch_key g kit A (epoch_of A) → mine ≡ kit → h ≡ c.entry.header
+    → key ≡ key_by_wraps mine (before + 1) h body → ChangeSeen g kit A c body (before + 1) me document old key
+started_seen {g} {kit} {A} {c} {body} {before} {me} {document} {old} {key} {mine} {h} checked change before_is me_is document_is old_is mine_is header_is key_is = record {
+  checked = checked;
+  change = change;
+  epoch_is = ap (λ (n : ℕ). n + 1) before_is;
+  me_is = me_is;
+  document_is = document_is;
+  old_is = old_is;
+  key_is = key_is ∙ ap (λ (k : Kit). key_by_wraps k (before + 1) h body) mine_is ∙ ap (λ (x : Header). key_by_wraps kit (before + 1) x body) header_is;
+}
 
 pub change_seen : {g : Genesis} {kit : Kit} {A : List (List ℕ)} {c : CheckedModel} {body : ChangeBody} {epoch : ℕ} {me : Device} {document : List ℕ} {old key : Option (List ℕ)} → ChangeSeen g kit A c body epoch me document old key
     → first_of (key_checks g kit A c.entry) ≡ first_of (new_key_checks document me epoch body old key)

@@ -1,17 +1,11 @@
 -- Worked examples of the definitions.
 use Rattle.std.proofs.Common.{◌≡◌, List, [], ◌∷◌, refl, None, Some}
-use Rattle.sporc_delta.specs.Marks.{Mark, Keep, Remove, Insert}
+use Rattle.sporc_line.proofs.Common.{Mark, Keep, Remove, Insert, Genesis, Kit, Operation, Edited, Changed, text_after, edit_checks, first_of, BadPayload, WrongLength}
 use Rattle.sporc_member.specs.declared.role.Role.TheVariants.{Reader}
 use Rattle.sporc_member.specs.declared.change.Change.TheVariants.{SetRole}
 use Rattle.sporc_member.specs.Device.{first_device}
-use Rattle.sporc_entry.specs.declared.genesis.Genesis.{Genesis}
-use Rattle.sporc_line.specs.Kit.{Kit}
 use Rattle.sporc_line.specs.Keys.{key_after, key_started}
-use Rattle.sporc_line.specs.Operations.{Operation, Edited, Changed}
-use Rattle.sporc_line.specs.Document.{text_after, forms_from}
-use Rattle.sporc_line.specs.LineChecks.{edit_checks}
-use Rattle.sporc_base.specs.FirstFault.{first_of}
-use Rattle.sporc_head.specs.declared.refusal.Refusal.TheVariants.{BadPayload, WrongLength}
+use Rattle.sporc_line.specs.Document.{forms_from}
 
 -- "abc", by member 1
 abbrev abc : Operation

@@ -1,28 +1,16 @@
 -- The lengths of forms: each form of a good history is stated on the text before it.
 use Rattle.std.proofs.Common.{◌≡◌, ℕ, suc, zero, ◌+◌, ◌<◌, ◌≤◌, List, [], ◌∷◌, ◌++◌, length, take, drop, fold, refl, ap, sym, ◌∙◌, subst, arith, Option, None, Some, Ok, ◌⊎◌, inl, inr, length-append}
-use Rattle.std.proofs.lemmas.List.{take-append-le, take-append-drop, take_all, length-map}
-use Rattle.std.proofs.lemmas.Bool.{eqb-true, cases_lt}
-use Rattle.sporc_base.specs.FirstFault.{first_of}
+use Rattle.sporc_line.proofs.Common.{take-append-le, take-append-drop, take_all, length-map, eqb-true, cases_lt, first_of, Mark, Keep, Remove, Insert, base_len, out_len, inserted_len, apply}
+use Rattle.sporc_line.proofs.Common.{keep_marks, base_len-keep_marks, later_over, reached, Follow, all_inserted, passes, Entry, ChangeBody, Genesis, author_device, entry_of, change_of, WrongLength}
+use Rattle.sporc_line.proofs.Common.{Kit, epoch_key, Operation, edit_marks, operation_read, operations, form_of, forms_of, next_form, text_after, text_of, is_over, edit_checks, key_checks_of, Good}
 use Rattle.sporc_hash.proofs.Lists.{from_end}
-use Rattle.sporc_delta.specs.Marks.{Mark, Keep, Remove, Insert, base_len, out_len, inserted_len, apply, keep_marks}
 use Rattle.sporc_delta.specs.Transforms.{later}
-use Rattle.sporc_delta.proofs.Lengths.{base_len-keep_marks}
 use Rattle.sporc_xform.proofs.LengthLemmas.{base_len-later, inserted_len-later, out_len-le}
-use Rattle.sporc_suffix.specs.Forms.{later_over, reached, Follow, all_inserted}
 use Rattle.sporc_suffix.proofs.Passing.{Follow-append, Follow-drop}
 use Rattle.sporc_suffix.proofs.Following.{Follow-take, reached-append}
-use Rattle.sporc_member.proofs.Checks.{passes}
-use Rattle.sporc_entry.specs.declared.entry.Entry.{Entry}
-use Rattle.sporc_entry.specs.declared.change.ChangeBody.{ChangeBody}
-use Rattle.sporc_entry.specs.declared.genesis.Genesis.{Genesis}
-use Rattle.sporc_entry.specs.Entry.{author_device, entry_of, change_of}
-use Rattle.sporc_head.specs.declared.refusal.Refusal.TheVariants.{WrongLength}
-use Rattle.sporc_line.specs.Kit.{Kit}
-use Rattle.sporc_line.specs.Keys.{epoch_key}
-use Rattle.sporc_line.specs.Operations.{Operation, edit_marks, edited, what_of, operation_in, operation_read, operations}
-use Rattle.sporc_line.specs.Document.{form_of, form_of_what, forms_from, forms_of, next_form, text_after, text_of}
-use Rattle.sporc_line.specs.LineChecks.{is_over, edit_checks, key_checks_of, key_checks}
-use Rattle.sporc_line.specs.Good.{Good}
+use Rattle.sporc_line.specs.Operations.{edited, what_of, operation_in}
+use Rattle.sporc_line.specs.Document.{form_of_what, forms_from}
+use Rattle.sporc_line.specs.LineChecks.{key_checks}
 use Rattle.sporc_line.proofs.Passes.{Passes}
 use Rattle.sporc_line.proofs.Goods.{good_front, last_passes}
 use Rattle.sporc_line.proofs.MoreForms.{forms_push}

@@ -1,14 +1,7 @@
 -- Good histories, their beginnings, and one entry more.
 use Rattle.std.proofs.Common.{◌≡◌, ℕ, ◌+◌, ◌<◌, ◌≤◌, List, [], ◌∷◌, ◌++◌, length, take, refl, sym, subst, arith, None, Some, Ok, ◌⊎◌, inl, inr}
-use Rattle.std.specs.List.{slice_get}
-use Rattle.std.proofs.lemmas.List.{take-take, take-append-le}
-use Rattle.sporc_entry.specs.declared.entry.Entry.{Entry}
-use Rattle.sporc_entry.specs.declared.genesis.Genesis.{Genesis}
-use Rattle.sporc_entry.specs.Entry.{entry_of}
-use Rattle.sporc_line.specs.Kit.{Kit}
-use Rattle.sporc_line.specs.Keys.{key_after, epoch_key}
-use Rattle.sporc_line.specs.LineChecks.{first_fault}
-use Rattle.sporc_line.specs.Good.{Good, Meets}
+use Rattle.sporc_line.proofs.Common.{slice_get, take-take, take-append-le, Entry, Genesis, entry_of, Kit, epoch_key, first_fault, Good, Meets}
+use Rattle.sporc_line.specs.Keys.{key_after}
 use Rattle.sporc_line.proofs.Lists.{slice_get_push, slice_get_last, slice_get-take, take_front}
 use Rattle.sporc_line.proofs.Passes.{Passes, passed}
 

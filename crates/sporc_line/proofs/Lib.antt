@@ -10,3 +10,4 @@ pub mod LineKeeps
 pub mod Payloads
 pub mod ReadLengths
 pub mod Effects
+pub mod Common

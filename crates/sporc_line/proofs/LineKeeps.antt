@@ -1,31 +1,22 @@
 -- What holds of a line's fields.
 use Rattle.std.proofs.Common.{◌≡◌, ℕ, suc, zero, ◌+◌, ◌^◌, ◌<◌, ◌≤◌, List, [], ◌∷◌, ◌++◌, length, take, drop, ◌-◌, refl, ap, sym, ◌∙◌, subst, arith, Option, None, Some, length-append}
-use Rattle.std.specs.Prelude.{is_some}
-use Rattle.std.specs.List.{slice_get}
-use Rattle.std.specs.FinMap.{get}
+use Rattle.sporc_line.proofs.Common.{is_some, slice_get, get, Mark, base_len, inserted_len, apply, reached, Follow, all_inserted, Genesis, MAX_EDIT_BODY, Kit, epoch_key, forms_of, next_form, text_of}
+use Rattle.sporc_line.proofs.Common.{LineModel, LineInvariant, first_fault, Good, Meets}
 use Rattle.sporc_hash.specs.Chain.{commitment_of}
 use Rattle.sporc_delta.specs.declared.limits.TheConstants.{MAX_TEXT_LEN}
-use Rattle.sporc_delta.specs.Marks.{Mark, base_len, inserted_len, apply}
-use Rattle.sporc_suffix.specs.Forms.{reached, Follow, all_inserted}
 use Rattle.sporc_suffix.specs.Runs.{IsReadyAt, ReadyModel}
 use Rattle.sporc_suffix.proofs.Following.{Follow-at, all_inserted-append, all_inserted-drop}
-use Rattle.sporc_entry.specs.declared.genesis.Genesis.{Genesis}
-use Rattle.sporc_entry.specs.declared.limits.TheConstants.{MAX_EDIT_BODY}
 use Rattle.sporc_head.specs.CheckedModel.{CheckedModel}
 use Rattle.sporc_text.specs.ReadyTextModel.{rewritten}
 use Rattle.sporc_line.specs.declared.limits.TheConstants.{MAX_COMMITTED_LEN}
-use Rattle.sporc_line.specs.Kit.{Kit}
-use Rattle.sporc_line.specs.Keys.{key_after, epoch_key}
-use Rattle.sporc_line.specs.Document.{forms_from, forms_of, next_form, text_of}
+use Rattle.sporc_line.specs.Keys.{key_after}
+use Rattle.sporc_line.specs.Document.{forms_from}
 use Rattle.sporc_line.specs.declared.line.Line.TheInside as line
 use Rattle.sporc_line.specs.declared.prepared.Prepared.TheInside as prepared
-use Rattle.sporc_line.specs.LineModel.{LineModel, LineInvariant}
 use Rattle.sporc_line.specs.LineFields.{model_of, invariant_of}
 use Rattle.sporc_line.specs.PreparedFields.{prepared_of}
 use Rattle.sporc_line.specs.declared.effect.Effect.{Effect}
-use Rattle.sporc_line.specs.LineChecks.{first_fault}
 use Rattle.sporc_line.specs.Prepared.{PreparedModel, IsEffect, IsPrepared}
-use Rattle.sporc_line.specs.Good.{Good, Meets}
 use Rattle.sporc_line.proofs.Goods.{good_none, good_take, good_push}
 use Rattle.sporc_line.proofs.MoreForms.{forms_push, text_push}
 use Rattle.sporc_line.proofs.FormLengths.{length-text, reached-le, length-forms, forms_take, text_at, forms_follow, edit_follows, next_form_base}

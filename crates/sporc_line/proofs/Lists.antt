@@ -1,7 +1,6 @@
 -- Lists that grow at their end.
 use Rattle.std.proofs.Common.{◌≡◌, ℕ, suc, zero, ◌<◌, List, [], ◌∷◌, ◌++◌, length, take, map, refl, ap, arith, ◌⊎◌, inl, inr, Some}
-use Rattle.std.specs.List.{slice_get}
-use Rattle.std.proofs.lemmas.List.{take_at}
+use Rattle.sporc_line.proofs.Common.{slice_get, take_at}
 
 -- the element at a place, before the end and at it
 pub slice_get_push : {X : Type 0} (xs : List X) (y z : X) (i : ℕ) → slice_get (xs ++ y ∷ []) i ≡ Some z

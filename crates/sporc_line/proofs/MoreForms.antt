@@ -1,19 +1,12 @@
 -- The keys, operations, forms and text of one entry more.
 use Rattle.std.proofs.Common.{◌≡◌, ℕ, suc, zero, ◌+◌, ◌≤◌, List, [], ◌∷◌, ◌++◌, length, take, drop, map, refl, ap, sym, ◌∙◌, arith, Option, Ok, length-append}
-use Rattle.std.specs.List.{slice_get}
-use Rattle.std.proofs.lemmas.List.{map-append, take-append-le, take-append-drop}
+use Rattle.sporc_line.proofs.Common.{slice_get, map-append, take-append-le, take-append-drop, Mark, apply, Entry, Genesis, entry_of, CommittedChange, change_in, changes, epoch_of, Kit, key_started}
+use Rattle.sporc_line.proofs.Common.{epoch_key, Operation, operation_read, operations, form_of, forms_of, next_form, text_after, text_of, Good}
 use Rattle.std.proofs.lemmas.List.Sums.{fold-append}
 use Rattle.std.proofs.lemmas.List.Elements.{filter_map-append}
-use Rattle.sporc_delta.specs.Marks.{Mark, apply}
-use Rattle.sporc_entry.specs.declared.entry.Entry.{Entry}
-use Rattle.sporc_entry.specs.declared.genesis.Genesis.{Genesis}
-use Rattle.sporc_entry.specs.Entry.{entry_of}
-use Rattle.sporc_head.specs.History.{CommittedChange, change_in, changes, epoch_of}
-use Rattle.sporc_line.specs.Kit.{Kit}
-use Rattle.sporc_line.specs.Keys.{key_started, key_after, epoch_key}
-use Rattle.sporc_line.specs.Operations.{Operation, operation_in, operation_read, operation_of, operations}
-use Rattle.sporc_line.specs.Document.{form_of, forms_from, forms_of, next_form, text_after, text_of}
-use Rattle.sporc_line.specs.Good.{Good}
+use Rattle.sporc_line.specs.Keys.{key_after}
+use Rattle.sporc_line.specs.Operations.{operation_in, operation_of}
+use Rattle.sporc_line.specs.Document.{forms_from}
 use Rattle.sporc_line.proofs.Lists.{slice_get_before, map_same}
 use Rattle.sporc_line.proofs.Passes.{Passes}
 use Rattle.sporc_line.proofs.Goods.{good_entry, good_front, last_passes}

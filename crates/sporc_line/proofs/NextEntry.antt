@@ -1,31 +1,16 @@
 -- One entry more: its first fault by its parts, the key after it, and what holds of the line with it.
 use Rattle.std.proofs.Common.{◌≡◌, ℕ, suc, ◌+◌, ◌≤◌, Bool, true, false, cond, List, [], ◌∷◌, ◌++◌, length, map, refl, ap, sym, ◌∙◌, subst, arith, Option, None, Some, Result, Ok, Err, length-append}
-use Rattle.std.specs.Prelude.{is_some, not, ◌||◌, find, ◌==◌}
-use Rattle.std.specs.List.{list_any, slice_get}
-use Rattle.std.specs.FinMap.{get}
-use Rattle.std.proofs.lemmas.List.{append-nil, take_all}
-use Rattle.std.proofs.lemmas.Slice.Eq.{bytes_eq-Decides}
-use Rattle.sporc_base.specs.FirstFault.{unless, first_of}
-use Rattle.sporc_member.specs.declared.device.Device.{Device}
+use Rattle.sporc_line.proofs.Common.{is_some, not, ◌||◌, find, ◌==◌, list_any, slice_get, get, append-nil, take_all, bytes_eq-Decides, unless, first_of, Device, Roster, removes, member_at, numbers_of}
+use Rattle.sporc_line.proofs.Common.{after_change, roster_after, passes, Entry, ChangeBody, Genesis, entry_of, change_of, Refusal, WrongWraps, CommittedChange, change_in, changes, epoch_of, roster_of}
+use Rattle.sporc_line.proofs.Common.{is_removed, roster_checks, fault_read, changes_push, removed_push, removes_in, change_in_read, roster_change, Kit, epoch_key, key_by_wraps, key_checks, line_checks}
 use Rattle.sporc_member.specs.declared.member.Member.{Member}
-use Rattle.sporc_member.specs.Roster.{Roster, removes, member_at, numbers_of, after_change, roster_after}
-use Rattle.sporc_member.proofs.Checks.{passes}
-use Rattle.sporc_entry.specs.declared.entry.Entry.{Entry}
 use Rattle.sporc_entry.specs.declared.wrap.Wrap.{Wrap}
-use Rattle.sporc_entry.specs.declared.change.ChangeBody.{ChangeBody}
-use Rattle.sporc_entry.specs.declared.genesis.Genesis.{Genesis}
-use Rattle.sporc_entry.specs.Entry.{entry_of, change_of}
 use Rattle.sporc_epoch.specs.Streams.{stream_of}
 use Rattle.sporc_epoch.specs.Wraps.{wrap_opened}
-use Rattle.sporc_head.specs.declared.refusal.Refusal.{Refusal}
-use Rattle.sporc_head.specs.declared.refusal.Refusal.TheVariants.{WrongWraps}
-use Rattle.sporc_head.specs.History.{CommittedChange, change_in, changes, epoch_of, roster_of, is_removed}
-use Rattle.sporc_head.specs.HeadChecks.{names, roster_checks, head_checks, fault_read, head_fault}
+use Rattle.sporc_head.specs.HeadChecks.{names, head_checks, head_fault}
 use Rattle.sporc_head.proofs.ChecksPass.{first_of-none, first_of-some}
-use Rattle.sporc_head.proofs.Grows.{changes_push, removed_push, removes_in, change_in_read, roster_change}
-use Rattle.sporc_line.specs.Kit.{Kit}
-use Rattle.sporc_line.specs.Keys.{key_started, key_after, epoch_key, key_by_wraps}
-use Rattle.sporc_line.specs.LineChecks.{key_checks, line_checks, first_fault}
+use Rattle.sporc_line.specs.Keys.{key_started, key_after}
+use Rattle.sporc_line.specs.LineChecks.{first_fault}
 use Rattle.sporc_line.proofs.Lists.{slice_get_last}
 use Rattle.sporc_line.proofs.Passes.{Passes, passed}
 use Rattle.sporc_line.proofs.SameKeys.{committed, change_key}

@@ -1,22 +1,14 @@
 -- What holds of an entry that fails no check.
 use Rattle.std.proofs.Common.{◌≡◌, ℕ, ◌+◌, ◌<◌, ◌≤◌, true, false, List, [], ◌∷◌, ◌++◌, length, take, refl, ap, ◌∙◌, Option, None, Some, Result, Ok, Err}
-use Rattle.std.specs.Prelude.{is_some}
-use Rattle.std.proofs.lemmas.Bool.{ltb-true, leb-true, eqb-true, not-true, lt-ltb, le-leb, eq-eqb, not_from_false}
-use Rattle.std.proofs.lemmas.Slice.Eq.{bytes_eq-Decides}
-use Rattle.sporc_base.specs.FirstFault.{first_of}
-use Rattle.sporc_member.specs.Roster.{member_at, key_of}
-use Rattle.sporc_member.proofs.Checks.{passes, holds}
-use Rattle.sporc_entry.specs.declared.entry.Entry.{Entry}
-use Rattle.sporc_entry.specs.declared.genesis.Genesis.{Genesis}
-use Rattle.sporc_entry.specs.Entry.{author_device, entry_of, change_of, signed_string}
+use Rattle.sporc_line.proofs.Common.{is_some, ltb-true, leb-true, eqb-true, not-true, lt-ltb, le-leb, eq-eqb, not_from_false, bytes_eq-Decides, first_of, member_at, key_of, passes, holds, Entry}
+use Rattle.sporc_line.proofs.Common.{Genesis, author_device, entry_of, change_of, signed_string, WrongDocument, WrongPosition, Removed, HistoryFull, WrongVersion, UnknownAuthor, UnknownDevice}
+use Rattle.sporc_line.proofs.Common.{BaseAhead, BeforeBarrier, WrongHistory, WrongNumber, BehindOwn, WrongEpoch, NoRight, LeafMismatch, BadSignature, epoch_of, roster_of, is_removed, barrier_of}
+use Rattle.sporc_line.proofs.Common.{last_of, count_of, hash_of, place_checks, history_checks, author_checks, roster_checks, fault_read, Kit, key_checks, line_checks}
 use Rattle.sporc_entry.specs.Version.{version_of}
-use Rattle.sporc_head.specs.declared.refusal.Refusal.TheVariants.{WrongDocument, WrongPosition, Removed, HistoryFull, WrongVersion, UnknownAuthor, UnknownDevice, BaseAhead, BeforeBarrier, WrongHistory, WrongNumber, BehindOwn, WrongEpoch, NoRight, LeafMismatch, BadSignature}
 use Rattle.sporc_head.specs.declared.limits.TheConstants.{MAX_ENTRIES}
-use Rattle.sporc_head.specs.History.{epoch_of, roster_of, is_removed, barrier_of, last_of, count_of, hash_of}
-use Rattle.sporc_head.specs.HeadChecks.{place_checks, history_checks, author_checks, roster_checks, head_checks, allows_member, names_leaf, verifies_device, fault_read}
+use Rattle.sporc_head.specs.HeadChecks.{head_checks, allows_member, names_leaf, verifies_device}
 use Rattle.sporc_head.proofs.ChecksPass.{first_of-none}
-use Rattle.sporc_line.specs.Kit.{Kit}
-use Rattle.sporc_line.specs.LineChecks.{key_checks, line_checks, first_fault}
+use Rattle.sporc_line.specs.LineChecks.{first_fault}
 
 -- no check of both lists fails
 pub both_pass : {F : Type 0} (xs ys : List (Option F)) → first_of (xs ++ ys) ≡ None → (first_of xs ≡ None) × (first_of ys ≡ None)

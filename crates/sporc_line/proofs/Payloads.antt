@@ -1,12 +1,9 @@
 -- What a body that was read says.
 use Rattle.std.proofs.Common.{◌≡◌, ◌≢◌, List, Some, Result, Err, refl, ap}
-use Rattle.std.specs.Prelude.{is_some}
+use Rattle.sporc_line.proofs.Common.{is_some, unless, Mark, BadPayload, Memory}
 use Rattle.std.specs.Result.{result_ok}
-use Rattle.sporc_base.specs.FirstFault.{unless}
-use Rattle.sporc_delta.specs.Marks.{Mark}
 use Rattle.sporc_delta.specs.declared.fault.DeltaFault.{DeltaFault}
 use Rattle.sporc_delta.specs.declared.fault.DeltaFault.TheVariants as faults
-use Rattle.sporc_head.specs.declared.refusal.Refusal.TheVariants.{BadPayload, Memory}
 use Rattle.sporc_line.specs.Payload.{payload_refusal}
 
 failed : (read : Result (List Mark) DeltaFault) (fault : DeltaFault) → read ≡ Err fault → unless (is_some (result_ok read)) BadPayload ≡ Some BadPayload

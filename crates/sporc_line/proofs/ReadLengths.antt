@@ -1,10 +1,9 @@
 -- The sizes of what is read: a body is within its limit, and a delta inserts no more characters than its bytes are many.
 use Rattle.std.proofs.Common.{◌≡◌, ℕ, zero, suc, ◌+◌, ◌≤◌, Bool, true, false, cond, List, [], ◌∷◌, length, take, Option, Some, None, Result, Ok, Err, refl, ap, sym, ◌∙◌, subst, arith}
-use Rattle.std.specs.Prelude.{nat_lt, nat_le, ◌==◌}
+use Rattle.sporc_line.proofs.Common.{nat_lt, nat_le, ◌==◌, ltb-false, leb-true, length-take-le, Mark, inserted_len, inserted_len-append, inserted_len-remove_marks, inserted_len-insert_marks}
+use Rattle.sporc_line.proofs.Common.{inserted_len-keep_marks, Entry, MAX_CHANGE_BODY, MAX_EDIT_BODY, MAX_SIGNATURE, header_at, body_limit, body_read, marks_in}
 use Rattle.std.specs.Int.{w32}
 use Rattle.std.specs.Result.{result_ok}
-use Rattle.std.proofs.lemmas.Bool.{ltb-false, leb-true}
-use Rattle.std.proofs.lemmas.List.{length-take-le}
 use Rattle.std.proofs.lemmas.Str.{IsUtf8-from_is_utf8}
 use Rattle.sporc_bytes.specs.Fields.{Reading, ◌>>=◌, bytes_at, number_at, only_if, counted_at, end_at, past}
 use Rattle.sporc_bytes.proofs.Fields.{bind_ok, bytes_len, only_if_ok}
@@ -16,16 +15,11 @@ use Rattle.sporc_delta.specs.declared.part.Kind.{Kind}
 use Rattle.sporc_delta.specs.declared.part.Kind.TheVariants as kinds
 use Rattle.sporc_delta.specs.declared.part.Part.{Part}
 use Rattle.sporc_delta.specs.declared.part.Part.TheVariants.{Keep, Insert as InsertText, Remove}
-use Rattle.sporc_delta.specs.Marks.{Mark, inserted_len}
 use Rattle.sporc_delta.specs.Parts.{part_marks, marks_of, kind_of}
 use Rattle.sporc_delta.specs.Reading.{head_at, text_at, body_at, part_at, parts_at, read_delta}
 use Rattle.sporc_delta.proofs.Counted.{length-chars}
 use Rattle.sporc_delta.proofs.Decoding.{head_ok, text_ok}
-use Rattle.sporc_delta.proofs.Lengths.{inserted_len-append, inserted_len-remove_marks, inserted_len-insert_marks, inserted_len-keep_marks}
-use Rattle.sporc_entry.specs.declared.entry.Entry.{Entry}
-use Rattle.sporc_entry.specs.declared.limits.TheConstants.{MAX_CHANGE_BODY, MAX_EDIT_BODY, MAX_SIGNATURE}
-use Rattle.sporc_entry.specs.Entry.{header_at, body_limit, body_read, entry_of}
-use Rattle.sporc_line.specs.Operations.{marks_in}
+use Rattle.sporc_entry.specs.Entry.{entry_of}
 
 -- ---- fields
 

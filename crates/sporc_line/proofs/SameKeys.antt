@@ -1,35 +1,18 @@
 -- The keys of a good history meet their commitments, so that members with one good history read it alike.
 use Rattle.std.proofs.Common.{◌≡◌, ℕ, suc, zero, ◌+◌, ◌<◌, ◌≤◌, Bool, true, false, List, [], ◌∷◌, ◌++◌, length, take, refl, ap, sym, ◌∙◌, subst, arith, Option, None, Some, Ok, inl, inr, length-append}
-use Rattle.std.specs.Prelude.{is_some, ◌||◌}
-use Rattle.std.specs.List.{Contains, slice_get}
+use Rattle.sporc_line.proofs.Common.{is_some, ◌||◌, Contains, slice_get, append_cancel_left, append-nil, and_parts, or_parts, cases_lt, bytes_eq-Decides, first_of, Device, removes, passes, Entry}
+use Rattle.sporc_line.proofs.Common.{ChangeBody, Genesis, entry_of, change_of, NoKey, WrongKey, CommittedChange, change_in, changes, epoch_of, is_removed, changes_push, removed_push, removes_in}
+use Rattle.sporc_line.proofs.Common.{change_in_read, Kit, key_after, epoch_key, Operation, operation_in, operations, forms_from, text_after, text_of, is_new_key, new_key_checks, key_checks_of, Good}
+use Rattle.sporc_line.proofs.Common.{Meets}
 use Rattle.std.specs.Int.{w32, to_be_bytes}
-use Rattle.std.proofs.lemmas.List.{append_cancel_left, append-nil}
 use Rattle.std.proofs.lemmas.List.Elements.{Contains-append_left, Contains-append_right}
-use Rattle.std.proofs.lemmas.Bool.{and_parts, or_parts, cases_lt}
-use Rattle.std.proofs.lemmas.Slice.Eq.{bytes_eq-Decides}
-use Rattle.sporc_base.specs.FirstFault.{first_of}
 use Rattle.sporc_hash.specs.Chain.{commitment_of, commitment_string}
 use Rattle.sporc_hash.specs.Strings.{chain_strings, key_string, key_strings, CollisionFree}
 use Rattle.sporc_hash.proofs.Lists.{from_end, Contains-first}
-use Rattle.sporc_member.specs.declared.device.Device.{Device}
-use Rattle.sporc_member.specs.Roster.{removes}
-use Rattle.sporc_member.proofs.Checks.{passes}
-use Rattle.sporc_entry.specs.declared.entry.Entry.{Entry}
-use Rattle.sporc_entry.specs.declared.change.ChangeBody.{ChangeBody}
-use Rattle.sporc_entry.specs.declared.genesis.Genesis.{Genesis}
-use Rattle.sporc_entry.specs.Entry.{entry_of, change_of}
 use Rattle.sporc_entry.specs.Genesis.{genesis_bytes}
-use Rattle.sporc_head.specs.declared.refusal.Refusal.TheVariants.{NoKey, WrongKey}
-use Rattle.sporc_head.specs.History.{CommittedChange, change_in, changes, epoch_of, is_removed}
-use Rattle.sporc_head.proofs.Grows.{changes_push, removed_push, removes_in, change_in_read}
-use Rattle.sporc_line.specs.Kit.{Kit}
-use Rattle.sporc_line.specs.Keys.{key_after, epoch_key}
-use Rattle.sporc_line.specs.Operations.{Operation, operation_in, operations}
-use Rattle.sporc_line.specs.Document.{forms_from, text_after, text_of}
-use Rattle.sporc_line.specs.LineChecks.{is_new_key, new_key_checks, key_checks_of, key_checks}
+use Rattle.sporc_line.specs.LineChecks.{key_checks}
 use Rattle.sporc_line.specs.LineStrings.{line_strings}
 use Rattle.sporc_line.specs.Commitments.{commitment_after, commitment_started}
-use Rattle.sporc_line.specs.Good.{Good, Meets}
 use Rattle.sporc_line.proofs.Lists.{slice_get_before, slice_get_last, map_same}
 use Rattle.sporc_line.proofs.Passes.{Passes}
 use Rattle.sporc_line.proofs.Goods.{good_entry, good_take, good_front, last_passes}

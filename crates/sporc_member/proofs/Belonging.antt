@@ -1,19 +1,8 @@
 -- Live devices are of members and, up to the Upgrade, their first ones, through each change.
-use Rattle.std.proofs.Common.{◌≡◌, ℕ, Bool, true, false, cond, eqb, not, List, [], ◌∷◌, Option, Some, None, is_some, refl, ap, sym, ◌∙◌, map, filter}
-use Rattle.std.specs.Prelude.{◌||◌, ◌&&◌, find, option_map}
-use Rattle.std.specs.List.{insert, list_any}
-use Rattle.std.proofs.lemmas.Bool.{eqb-true, or_parts, and_parts}
+use Rattle.std.proofs.Common.{◌≡◌, ℕ, Bool, true, false, cond, eqb, not, List, [], ◌∷◌, Some, None, is_some, refl, ap, sym, ◌∙◌, map, filter}
+use Rattle.sporc_member.proofs.Common.{◌||◌, ◌&&◌, find, option_map, insert, list_any, eqb-true, or_parts, and_parts, AddDevice, NotUpgraded, NotMember, Device, LiveDevice, Founder, Member}
+use Rattle.sporc_member.proofs.Common.{first_device, same_device, device_place, insert_device, place_among, Roster, device_by, founder_numbers, numbers_of, member_at, change_fault_of, LiveInvariant}
 use Rattle.std.proofs.lemmas.Map.Views.{any-filter_same}
-use Rattle.sporc_member.specs.declared.change.Change.TheVariants.{AddDevice}
-use Rattle.sporc_member.specs.declared.change.ChangeFault.TheVariants.{NotUpgraded, NotMember}
-use Rattle.sporc_member.specs.declared.device.Device.{Device}
-use Rattle.sporc_member.specs.declared.device.LiveDevice.{LiveDevice}
-use Rattle.sporc_member.specs.declared.founder.Founder.{Founder}
-use Rattle.sporc_member.specs.declared.member.Member.{Member}
-use Rattle.sporc_member.specs.Device.{first_device, same_device, device_place, insert_device}
-use Rattle.sporc_member.specs.Lists.{place_among}
-use Rattle.sporc_member.specs.Roster.{Roster, device_by, founder_numbers, numbers_of, member_at, change_fault_of}
-use Rattle.sporc_member.specs.RosterModel.{LiveInvariant}
 use Rattle.sporc_member.proofs.Checks.{passes}
 use Rattle.sporc_member.proofs.Keeping.{any_inserted, any_filtered}
 
@@ -145,9 +134,6 @@ live_member ms ns ds upgraded d k same h =
 pub live_first : (ns : List ℕ) (ds : List LiveDevice) (upgraded : Bool) (d : Device) → LiveInvariant ns ds upgraded → is_some (option_map (λ l. l.key) (find (λ l. same_device l.device d) ds)) ≡ true
     → upgraded ≡ false → d.number ≡ 0
 live_first ns ds upgraded d k h old = k.first old d (sym (has_key (λ l. same_device l.device d) ds) ∙ h)
-
-pub some_copied : {X : Type 0} (o : Option X) (p : Option X) → o ≡ p → is_some o ≡ true → is_some p ≡ true
-some_copied o p e h = ap is_some (sym e) ∙ h
 
 -- one who is no member has no device
 none_of : (n : ℕ) (ds : List LiveDevice) → has_of n ds ≡ false → filter (λ d. eqb d.device.member n) ds ≡ []

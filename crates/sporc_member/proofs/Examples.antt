@@ -1,10 +1,8 @@
 -- Worked examples: changes of a document that one admin founded.
 use Rattle.std.proofs.Common.{◌≡◌, ℕ, [], ◌∷◌, List, refl, Some, None, replicate, true, false}
-use Rattle.std.specs.Prelude.{fold, map}
+use Rattle.sporc_member.proofs.Common.{fold, map, Add, Remove, SetRole, AddDevice, DropDevice, Upgrade, NumberUsed, NotMember, SameRole, LastAdmin, BadKey, DeviceUsed, NoDevice, LastDevice}
+use Rattle.sporc_member.proofs.Common.{DevicesFull, NotUpgraded, AlreadyUpgraded, Roster, founded, after_change, change_fault_of, numbers_of, devices_of, key_of, removes}
 use Rattle.sporc_member.specs.declared.role.Role.TheVariants.{Reader, Editor, Admin}
-use Rattle.sporc_member.specs.declared.change.Change.TheVariants.{Add, Remove, SetRole, AddDevice, DropDevice, Upgrade}
-use Rattle.sporc_member.specs.declared.change.ChangeFault.TheVariants.{NumberUsed, NotMember, SameRole, LastAdmin, BadKey, DeviceUsed, NoDevice, LastDevice, DevicesFull, NotUpgraded, AlreadyUpgraded}
-use Rattle.sporc_member.specs.Roster.{Roster, founded, after_change, change_fault_of, numbers_of, devices_of, key_of, removes}
 
 -- founded by member 1, an admin
 abbrev alone : Roster

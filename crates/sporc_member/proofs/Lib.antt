@@ -5,3 +5,4 @@ mod Grouped
 pub mod Belonging
 pub mod SameDevice
 mod Examples
+pub mod Common

@@ -1,8 +1,6 @@
 -- Two devices with one member and one number are one.
 use Rattle.std.proofs.Common.{◌≡◌, ℕ, true, refl, ap, ◌∙◌}
-use Rattle.std.proofs.lemmas.Bool.{and_from, and_parts, eq-eqb, eqb-true}
-use Rattle.sporc_member.specs.declared.device.Device.{Device}
-use Rattle.sporc_member.specs.Device.{same_device}
+use Rattle.sporc_member.proofs.Common.{and_from, and_parts, eq-eqb, eqb-true, Device, same_device}
 
 abbrev device_of : ℕ → ℕ → Device
 device_of member number = record { member = member; number = number }

@@ -1,11 +1,11 @@
 -- Where the file with a name stands.
-use Rattle.std.proofs.Common.{◌≡◌, ℕ, zero, suc, ◌<◌, Bool, true, false, List, [], ◌∷◌, ◌++◌, length, take, cond, Option, Some, None, IsSome, Result, Ok, Err, OnOk, OnErr, refl, ap, sym, subst, ◌∙◌, arith, get_or, length-append}
+use Rattle.std.proofs.Common.{◌≡◌, ℕ, zero, suc, ◌<◌, Bool, true, false, List, [], ◌∷◌, ◌++◌, length, take, Option, Some, None, IsSome, Result, Ok, Err, OnOk, OnErr, refl, ap, sym, subst, ◌∙◌, arith, get_or, length-append}
 use Rattle.std.proofs.Math.ListN.{get_or-append}
 use Rattle.std.proofs.lemmas.List.Elements.{All-append}
 use Rattle.std.proofs.lemmas.Slice.Eq.{bytes_eq-Decides}
 use Rattle.std.specs.List.{All}
 use Rattle.std.specs.Str.{bytes_eq}
-use Rattle.sporc_outside.proofs.Files.{same_bytes}
+use Rattle.sporc_outside.proofs.Files.{file_in-without, same_bytes}
 use Rattle.sporc_outside.specs.Files.{file_in, made_in, with_bytes, with_file, without_file}
 use Rattle.sporc_outside.specs.declared.named_file.NamedFile.{NamedFile}
 use Rattle.sporc_memory.specs.MemoryFolderModel.{IsPlaceOf, HasEach}
@@ -123,16 +123,6 @@ each_put files more names name bytes is h = by (file_in files name) is
     by (Some old) put = each_written files more names name bytes put h
 
 -- ---- what a removal leaves
-
-pub file_in-without : (files : List NamedFile) (name other : List ℕ) → bytes_eq name other ≡ false → file_in (without_file files name) other ≡ file_in files other
-file_in-without [] name other apart = refl
-file_in-without (g ∷ gs) name other apart = go (bytes_eq g.name name) refl (file_in-without gs name other apart)
-  where
-    go : (b : Bool) → bytes_eq g.name name ≡ b → file_in (without_file gs name) other ≡ file_in gs other → file_in (without_file (g ∷ gs) name) other ≡ file_in (g ∷ gs) other
-    go true e more =
-        let differs : bytes_eq g.name other ≡ false = subst (λ (n : List ℕ). bytes_eq n other ≡ false) (sym (same_bytes g.name name e)) apart in
-        rw (e, differs) refl
-    go false e more = rw e (ap (λ (r : Option (List ℕ)). cond (bytes_eq g.name other) (Some g.bytes) r) more)
 
 -- none is removed
 pub without_none : (files : List NamedFile) (name : List ℕ) → file_in files name ≡ None → files ≡ without_file files name

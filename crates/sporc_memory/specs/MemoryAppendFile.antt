@@ -5,7 +5,7 @@ use Rattle.std.specs.Prelude.{if◌then◌else◌, true, false, Result, Ok, Err,
 use Rattle.std.proofs.Common.{subst, sym, inl}
 use Rattle.std.proofs.Math.Seq.{take-length}
 use Rattle.sporc_outside.specs.AppendFile.{AppendTold}
-use Rattle.sporc_memory.specs.CallsModel.{CallsModel}
+use Rattle.sporc_memory.specs.CallsModel.{CallsModel, calls_failing}
 use Rattle.sporc_memory.specs.declared.append_call.AppendCall.{AppendCall}
 use Rattle.sporc_memory.specs.declared.append_call.AppendRequest.{AppendRequest}
 use Rattle.sporc_memory.specs.declared.append_call.AppendRequest.TheVariants.{Read, Append, Cut}
@@ -17,6 +17,11 @@ pub record MemoryAppendFileModel : Type 0 where
   pub first : List ℕ
   pub log : List AppendCall
   pub calls : CallsModel
+
+-- a file of this name with these bytes, of which these calls are to fail
+abbrev pub file_over : List ℕ → List ℕ → List ℕ → MemoryAppendFileModel
+file_over name bytes failing =
+    record { name = name; first = bytes; log = []; calls = calls_failing failing }
 
 -- bytes, and those of which any prefix may stand behind them
 pub record Loose : Type 0 where

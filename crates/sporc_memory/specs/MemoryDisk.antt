@@ -5,7 +5,7 @@ use Rattle.std.specs.Prelude.{length, take, fold, slice_index, if◌then◌else�
 use Rattle.std.specs.Prelude.{refl}
 use Rattle.std.proofs.Common.{subst, sym, inr}
 use Rattle.std.proofs.Math.Seq.{take-length}
-use Rattle.sporc_memory.specs.CallsModel.{CallsModel}
+use Rattle.sporc_memory.specs.CallsModel.{CallsModel, calls_failing}
 use Rattle.sporc_outside.specs.LeafDisk.{DiskTold, overwrite}
 use Rattle.sporc_memory.specs.declared.disk_call.DiskCall.{DiskCall}
 use Rattle.sporc_memory.specs.declared.disk_call.DiskRequest.{DiskRequest}
@@ -16,6 +16,10 @@ pub record MemoryDiskModel : Type 0 where
   pub first : List ℕ
   pub log : List DiskCall
   pub calls : CallsModel
+
+-- a disk with these bytes, all of them synced, of which these calls are to fail
+abbrev pub disk_over : List ℕ → List ℕ → MemoryDiskModel
+disk_over bytes failing = record { first = bytes; log = []; calls = calls_failing failing }
 
 -- what a read gives, and the ranges (from, length) that were written since the last sync that
 -- succeeded

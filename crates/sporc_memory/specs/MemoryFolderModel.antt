@@ -1,7 +1,7 @@
 -- What contracts see of a folder in memory.
 use Rattle.std.specs.List.{All}
-use Rattle.std.specs.Prelude.{ℕ, List, Some, IsSome, ◌≡◌, ◌<◌, suc, ◌++◌, length, take, drop, None}
-use Rattle.std.specs.Prelude.{slice_set, slice_index_or}
+use Rattle.std.specs.Prelude.{ℕ, List, [], Some, IsSome, ◌≡◌, ◌<◌, suc, ◌++◌, length, take, drop}
+use Rattle.std.specs.Prelude.{None, slice_set, slice_index_or}
 use Rattle.sporc_memory.specs.CallsModel.{CallsModel}
 use Rattle.sporc_outside.specs.Files.{file_in, IsTooLong, with_file, without_file}
 use Rattle.sporc_outside.specs.Folders.{FolderTold}
@@ -20,6 +20,17 @@ pub record MemoryFolderModel : Type 0 where
   pub calls : CallsModel
   pub disk_calls : List ℕ
   pub append_calls : List ℕ
+
+-- a folder with these files, of which nothing was asked yet
+abbrev pub folder_of : List NamedFile → CallsModel → MemoryFolderModel
+folder_of files calls = record {
+  files = files;
+  asked = [];
+  lent = [];
+  calls = calls;
+  disk_calls = [];
+  append_calls = [];
+}
 
 -- there is a file with each of these names
 abbrev pub HasEach : List NamedFile → List (List ℕ) → Type 0

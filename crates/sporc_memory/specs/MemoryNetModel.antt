@@ -1,5 +1,5 @@
 -- What contracts see of a net in memory.
-use Rattle.std.specs.Prelude.{◌≡◌, ℕ, false, List, Some, map}
+use Rattle.std.specs.Prelude.{◌≡◌, ℕ, false, List, [], Some, map, reverse}
 use Rattle.std.specs.List.{All}
 use Rattle.sporc_memory.specs.CallsModel.{CallsModel}
 use Rattle.sporc_memory.specs.MemoryStreams.{link_told}
@@ -15,6 +15,17 @@ pub record MemoryNetModel : Type 0 where
   pub out : ℕ
   pub calls : CallsModel
   pub link_faults : ℕ
+
+-- a net with these links, the last of them first, of which nothing was asked yet
+abbrev pub net_of : List MemoryLink → CallsModel → MemoryNetModel
+net_of links calls = record {
+  asked = [];
+  coming = reverse links;
+  returned = [];
+  out = 0;
+  calls = calls;
+  link_faults = 0;
+}
 
 -- no call of a link failed, and it was not shut
 abbrev pub IsFresh : MemoryLink → Type 0

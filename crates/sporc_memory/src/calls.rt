@@ -1,7 +1,7 @@
 //! The calls of objects in memory.
 
 ghost use Rattle.std.specs.Prelude.{◌≡◌, ◌≤◌, ◌↔◌, IsErr, OnOk, OnErr, Contains};
-ghost use Rattle.sporc_memory.specs.CallsModel.{CountsCall};
+ghost use Rattle.sporc_memory.specs.CallsModel.{CountsCall, calls_failing, one_failed, one_more};
 ghost use Rattle.sporc_outside.specs.Counts.{CountsFaults, Rose, next_count, count_of_both};
 
 use sporc_outside::Failed;
@@ -27,7 +27,7 @@ impl Model for Calls {
 impl Calls {
     /// No calls yet. Those with the listed numbers are to fail.
     pub fn failing(failing: Vec<u64>) -> Calls
-        ensures value { result ≡ record { failing = failing.items; made = 0; faults = 0 } }
+        ensures value { result ≡ calls_failing failing.items }
     {
         Calls {
             failing,
@@ -47,12 +47,9 @@ impl Calls {
     pub fn begin(&mut self) -> Result<(), Failed>
         ensures listed { IsErr result ↔ Contains self.old.failing (next_count self.old.made) }
         ensures call { CountsCall self.old self.new result }
-        ensures ok { OnOk result (self.new ≡ record self.old { made = next_count self.old.made }) }
+        ensures ok { OnOk result (self.new ≡ one_more self.old) }
         ensures count { CountsFaults self.old.faults self.new.faults result }
-        ensures err { OnErr result (self.new ≡ record self.old {
-          made = next_count self.old.made;
-          faults = next_count self.old.faults;
-        }) }
+        ensures err { OnErr result (self.new ≡ one_failed self.old) }
     {
         self.made = self.made.saturating_add(1);
         if self.failing.contains(&self.made) {

@@ -10,9 +10,13 @@ ghost use Rattle.sporc_outside.specs.Files.{file_in, made_in, with_bytes, with_f
 ghost use Rattle.sporc_outside.specs.Files.{ChangesFile, HasNoFile, IsAppendFault, IsAppendedTo};
 ghost use Rattle.sporc_outside.specs.Files.{IsDiskFault, IsDiskOf, IsNewFault, IsReadFault};
 ghost use Rattle.sporc_outside.specs.Files.{RemovesFile, TakesFile};
-ghost use Rattle.sporc_memory.specs.MemoryFolderModel.{IsAbsence, IsPlaceOf};
-ghost use Rattle.sporc_memory.specs.MemoryAppendFile.{bytes_of as bytes_in};
-ghost use Rattle.sporc_outside.specs.Told.{AppendsItem, MayAppend};
+ghost use Rattle.sporc_memory.specs.MemoryFolderModel.{IsAbsence, IsPlaceOf, folder_of};
+ghost use Rattle.sporc_memory.specs.MemoryFolderModel.{folder_told};
+ghost use Rattle.sporc_outside.specs.Folders.{Asks};
+ghost use Rattle.sporc_memory.specs.MemoryAppendFile.{bytes_of as bytes_in, file_over};
+ghost use Rattle.sporc_memory.specs.MemoryDisk.{disk_over};
+ghost use Rattle.sporc_outside.specs.Told.{MayAppend};
+ghost use Rattle.sporc_outside.specs.Uses.{use_of};
 ghost use Rattle.sporc_outside.specs.declared.file_fault.FileFault.TheVariants as faults;
 ghost use Rattle.sporc_outside.specs.declared.file_fault.TheConstants.{MAX_FILE};
 
@@ -58,14 +62,7 @@ impl Model for MemoryFolder {
 impl MemoryFolder {
     /// Holds these files. The listed calls fail.
     pub fn new(alloc: Global, files: Vec<NamedFile>, calls: Calls) -> MemoryFolder
-        ensures value { result ≡ record {
-          files = files.items;
-          asked = [];
-          lent = [];
-          calls = calls;
-          disk_calls = [];
-          append_calls = [];
-        } }
+        ensures value { result ≡ folder_of files.items calls }
     {
         MemoryFolder {
             alloc,
@@ -122,7 +119,6 @@ impl Folder for MemoryFolder {
 
     ghost use Rattle.std.specs.Prelude.{Some, refl};
     ghost use Rattle.sporc_memory.specs.MemoryDisk.{bytes_of};
-    ghost use Rattle.sporc_memory.specs.MemoryFolderModel.{folder_told};
 
     ghost told = { folder_told };
 
@@ -135,11 +131,7 @@ impl Folder for MemoryFolder {
             (Some self.old.files) name.now self.old.calls.faults self.new.calls.faults) }
         ensures files { Some self.new.files ≡ Some self.old.files }
         ensures lent { Some self.new.lent ≡ Some self.old.lent }
-        ensures asked { OnOk result (self.new.asked ≡ self.old.asked ++ name.now ∷ []) }
-        ensures answered { IfErr result (λ fault. fault ≢ faults.Failed
-            → self.new.asked ≡ self.old.asked ++ name.now ∷ []) }
-        ensures may_ask { MayAppend (Some self.old.asked) (Some self.new.asked) name.now }
-        ensures kept { self.old.calls.faults ≤ self.new.calls.faults }
+        ensures asks { Asks (use_of folder_told self.old self.new) name.now result }
         ensures call { CountsCall self.old.calls self.new.calls result }
     {
         let bytes = look_up(
@@ -180,11 +172,7 @@ impl Folder for MemoryFolder {
             (ChangesFile (Some self.old.files) (Some self.new.files) name.now) }
         ensures exists { result ≡ Err faults.Exists → Some self.new.files ≡ Some self.old.files }
         ensures lent { Some self.new.lent ≡ Some self.old.lent }
-        ensures asked { OnOk result (self.new.asked ≡ self.old.asked ++ name.now ∷ []) }
-        ensures answered { IfErr result (λ fault. fault ≢ faults.Failed
-            → self.new.asked ≡ self.old.asked ++ name.now ∷ []) }
-        ensures may_ask { MayAppend (Some self.old.asked) (Some self.new.asked) name.now }
-        ensures kept { self.old.calls.faults ≤ self.new.calls.faults }
+        ensures asks { Asks (use_of folder_told self.old self.new) name.now result }
         ensures call { CountsCall self.old.calls self.new.calls result }
     {
         ask(self.alloc, &mut self.calls, &mut self.asked, name)?;
@@ -206,12 +194,7 @@ impl Folder for MemoryFolder {
         ensures files { Some self.new.files ≡ Some self.old.files }
         ensures lent { OnOk result (Some self.new.lent ≡ Some (name.now ∷ self.old.lent)) }
         ensures lent_unchanged { OnErr result (Some self.new.lent ≡ Some self.old.lent) }
-        ensures asked { OnOk result
-            (AppendsItem (Some self.old.asked) (Some self.new.asked) name.now) }
-        ensures may_ask { MayAppend (Some self.old.asked) (Some self.new.asked) name.now }
-        ensures answered { IfErr result (λ fault. fault ≢ faults.Failed
-            → self.new.asked ≡ self.old.asked ++ name.now ∷ []) }
-        ensures kept { self.old.calls.faults ≤ self.new.calls.faults }
+        ensures asks { Asks (use_of folder_told self.old self.new) name.now result }
         ensures call { CountsCall self.old.calls self.new.calls result }
         ensures failing { IfOk result (λ disk. disk.calls.failing ≡ self.old.disk_calls) }
         ensures taken { OnOk result (self.new.disk_calls ≡ []) }
@@ -252,12 +235,7 @@ impl Folder for MemoryFolder {
         ensures changes { OnErr result
             (ChangesFile (Some self.old.files) (Some self.new.files) name.now) }
         ensures lent { Some self.new.lent ≡ Some self.old.lent }
-        ensures asked { OnOk result
-            (AppendsItem (Some self.old.asked) (Some self.new.asked) name.now) }
-        ensures answered { IfErr result (λ fault. fault ≢ faults.Failed
-            → self.new.asked ≡ self.old.asked ++ name.now ∷ []) }
-        ensures may_ask { MayAppend (Some self.old.asked) (Some self.new.asked) name.now }
-        ensures kept { self.old.calls.faults ≤ self.new.calls.faults }
+        ensures asks { Asks (use_of folder_told self.old self.new) name.now result }
         ensures call { CountsCall self.old.calls self.new.calls result }
         ensures failing { IfOk result (λ file. file.calls.failing ≡ self.old.append_calls) }
         ensures taken { OnOk result (self.new.append_calls ≡ []) }
@@ -418,11 +396,7 @@ fn lend(
     bytes: &[u8],
     failing: Vec<u64>,
 ) -> Result<MemoryDisk, FileFault>
-    ensures ok { IfOk result (λ disk. disk ≡ record {
-      first = bytes.now;
-      log = [];
-      calls = record { failing = failing.items; made = 0; faults = 0 };
-    }) }
+    ensures ok { IfOk result (λ disk. disk ≡ disk_over bytes.now failing.items) }
     ensures lent { OnOk result (lent.new.items ≡ lent.old.items ++ name.now ∷ []) }
     ensures err { OnErr result (lent.new.items ≡ lent.old.items) }
     ensures failed { IfErr result
@@ -443,11 +417,7 @@ fn open(
     bytes: &[u8],
     failing: Vec<u64>,
 ) -> Result<MemoryDisk, AllocError>
-    ensures ok { IfOk result (λ disk. disk ≡ record {
-      first = bytes.now;
-      log = [];
-      calls = record { failing = failing.items; made = 0; faults = 0 };
-    }) }
+    ensures ok { IfOk result (λ disk. disk ≡ disk_over bytes.now failing.items) }
     ensures lent { OnOk result (lent.new.items ≡ lent.old.items ++ name.now ∷ []) }
     ensures err { OnErr result (lent.new.items ≡ lent.old.items) }
 {
@@ -469,12 +439,8 @@ fn appended(
     ensures ok { IfOk result
         (λ file. IsAppendedTo (Some files.old.items) name.now (Some (bytes_in file))) }
     ensures made { OnOk result (files.new.items ≡ made_in files.old.items name.now) }
-    ensures file { IfOk result (λ file. file ≡ record {
-      name = name.now;
-      first = bytes_in file;
-      log = [];
-      calls = record { failing = failing.items; made = 0; faults = 0 };
-    }) }
+    ensures file { IfOk result
+        (λ file. file ≡ file_over name.now (bytes_in file) failing.items) }
     ensures err { IfErr result
         (IsAppendFault (Some files.old.items) name.now calls.old.faults calls.new.faults) }
     ensures unchanged { OnErr result (files.new.items ≡ files.old.items) }
@@ -506,12 +472,7 @@ fn open_appended(
     bytes: &[u8],
     failing: Vec<u64>,
 ) -> Result<MemoryAppendFile, AllocError>
-    ensures { IfOk result (λ file. file ≡ record {
-      name = name.now;
-      first = bytes.now;
-      log = [];
-      calls = record { failing = failing.items; made = 0; faults = 0 };
-    }) }
+    ensures { IfOk result (λ file. file ≡ file_over name.now bytes.now failing.items) }
 {
     let name = FileBytes::new(Vec::from_slice(alloc, name)?);
     let bytes = Vec::from_slice(alloc, bytes)?;

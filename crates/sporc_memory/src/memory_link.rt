@@ -1,9 +1,9 @@
 //! Links over listed bytes.
 
-ghost use Rattle.std.specs.Prelude.{◌≡◌, ◌<◌, ◌≤◌, ◌↔◌, [], length, min, IsErr, IfOk, Contains};
-ghost use Rattle.std.specs.Prelude.{refl, false};
+ghost use Rattle.std.specs.Prelude.{◌≡◌, ◌<◌, ◌≤◌, ◌↔◌, length, min, IsErr, IfOk, Contains, refl};
 ghost use Rattle.sporc_memory.specs.CallsModel.{CountsCall};
 ghost use Rattle.sporc_outside.specs.Counts.{next_count};
+ghost use Rattle.sporc_memory.specs.MemoryLinkModel.{link_of};
 ghost use Rattle.sporc_memory.specs.MemoryStreams.{link_told};
 ghost use Rattle.sporc_outside.specs.Streams.{Reads, Writes};
 ghost use Rattle.sporc_outside.specs.Uses.{use_of};
@@ -46,13 +46,7 @@ impl MemoryLink {
     /// Gives these bytes, and moves at most `piece` bytes a call. The listed calls fail.
     pub fn new(alloc: Global, bytes: Vec<u8>, piece: usize, calls: Calls) -> MemoryLink
         requires { 0 < piece }
-        ensures value { result ≡ record {
-          left = bytes.items;
-          written = [];
-          piece = piece;
-          calls = calls;
-          is_shut = false;
-        } }
+        ensures value { result ≡ link_of bytes.items piece calls }
     {
         MemoryLink {
             bytes,

@@ -1,11 +1,13 @@
 //! Nets over listed links.
 
 ghost use Rattle.std.specs.Prelude.{◌≡◌, ◌≤◌, ◌+◌, ◌∷◌, ◌++◌, [], reverse, IfOk, OnOk, OnErr, Some};
-ghost use Rattle.std.specs.Prelude.{false};
 ghost use Rattle.sporc_memory.specs.CallsModel.{CountsCall};
 ghost use Rattle.sporc_outside.specs.Counts.{CountsFaults};
-ghost use Rattle.sporc_memory.specs.MemoryNetModel.{AreFresh, IsFresh};
+ghost use Rattle.sporc_memory.specs.MemoryNetModel.{AreFresh, IsFresh, net_of, net_told};
+ghost use Rattle.sporc_memory.specs.MemoryStreams.{link_told};
+ghost use Rattle.sporc_outside.specs.Nets.{HandsLink};
 ghost use Rattle.sporc_outside.specs.Told.{MayAppend};
+ghost use Rattle.sporc_outside.specs.Uses.{use_of};
 
 use crate::asked::ask;
 use crate::calls::Calls;
@@ -52,14 +54,7 @@ impl MemoryNet {
     /// Hands out these links, the last one first. The listed calls fail.
     pub fn new(alloc: Global, links: Vec<MemoryLink>, calls: Calls) -> MemoryNet
         requires { AreFresh links.items }
-        ensures value { result ≡ record {
-          asked = [];
-          coming = reverse links.items;
-          returned = [];
-          out = 0;
-          calls = calls;
-          link_faults = 0;
-        } }
+        ensures value { result ≡ net_of links.items calls }
     {
         MemoryNet {
             alloc,
@@ -126,7 +121,6 @@ impl Links for MemoryNet {
     type Link = MemoryLink;
 
     ghost use Rattle.std.specs.Prelude.{refl};
-    ghost use Rattle.sporc_memory.specs.MemoryNetModel.{net_told};
 
     ghost told = { net_told };
 
@@ -145,17 +139,9 @@ impl Links for MemoryNet {
 
 impl Dial for MemoryNet {
     fn connect<R: Wait>(&mut self, _rt: &R, address: &str) -> Result<MemoryLink, Failed>
-        ensures fresh { IfOk result (λ link. link.calls.faults ≡ 0) }
-        ensures open { IfOk result (λ link. link.is_shut ≡ false) }
-        ensures next { IfOk result (λ link. self.old.coming ≡ link ∷ self.new.coming) }
-        ensures coming_unchanged { OnErr result (Some self.new.coming ≡ Some self.old.coming) }
-        ensures out { OnOk result (Some self.new.out ≡ Some (self.old.out + 1)) }
-        ensures out_unchanged { OnErr result (Some self.new.out ≡ Some self.old.out) }
+        ensures did { HandsLink link_told (use_of net_told self.old self.new) result }
         ensures asked { OnOk result (self.new.asked ≡ self.old.asked ++ address.now ∷ []) }
         ensures may_ask { MayAppend (Some self.old.asked) (Some self.new.asked) address.now }
-        ensures returned { Some self.new.returned ≡ Some self.old.returned }
-        ensures links { self.new.link_faults ≡ self.old.link_faults }
-        ensures count { CountsFaults self.old.calls.faults self.new.calls.faults result }
         ensures call { CountsCall self.old.calls self.new.calls result }
     {
         ask(self.alloc, &mut self.calls, &mut self.asked, address)?;
@@ -178,16 +164,8 @@ impl Listen for MemoryNet {
     }
 
     fn accept<R: Wait>(&mut self, _rt: &R) -> Result<MemoryLink, Failed>
-        ensures fresh { IfOk result (λ link. link.calls.faults ≡ 0) }
-        ensures open { IfOk result (λ link. link.is_shut ≡ false) }
-        ensures next { IfOk result (λ link. self.old.coming ≡ link ∷ self.new.coming) }
-        ensures coming_unchanged { OnErr result (Some self.new.coming ≡ Some self.old.coming) }
-        ensures out { OnOk result (Some self.new.out ≡ Some (self.old.out + 1)) }
-        ensures out_unchanged { OnErr result (Some self.new.out ≡ Some self.old.out) }
+        ensures did { HandsLink link_told (use_of net_told self.old self.new) result }
         ensures asked { Some self.new.asked ≡ Some self.old.asked }
-        ensures returned { Some self.new.returned ≡ Some self.old.returned }
-        ensures links { self.new.link_faults ≡ self.old.link_faults }
-        ensures count { CountsFaults self.old.calls.faults self.new.calls.faults result }
         ensures call { CountsCall self.old.calls self.new.calls result }
     {
         self.calls.begin()?;

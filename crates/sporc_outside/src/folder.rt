@@ -1,14 +1,15 @@
 //! Files by name.
 
-ghost use Rattle.std.specs.Prelude.{◌≡◌, ◌≢◌, ◌≤◌, ◌⊎◌, ◌∷◌, length, drop, option_map, IfOk, IfErr};
+ghost use Rattle.std.specs.Prelude.{◌≡◌, ◌≤◌, ◌⊎◌, ◌∷◌, length, drop, option_map, IfOk, IfErr};
 ghost use Rattle.std.specs.Prelude.{IfSome, OnOk, OnErr};
 ghost use Rattle.sporc_outside.specs.Counts.{CountsFaults, count_of_both};
-ghost use Rattle.sporc_outside.specs.Folders.{FolderTold};
+ghost use Rattle.sporc_outside.specs.Folders.{Asks, FolderTold};
 ghost use Rattle.sporc_outside.specs.Files.{HasFile, HasNoFile, made_in, with_file, ChangesFile};
 ghost use Rattle.sporc_outside.specs.Files.{IsReadFault, IsDiskFault, IsNewFault, IsDiskOf, IsLent};
 ghost use Rattle.sporc_outside.specs.Files.{TakesBack, IsAppendFault, IsAppendedTo, RemovesFile};
 ghost use Rattle.sporc_outside.specs.Files.{TakesFile};
 ghost use Rattle.sporc_outside.specs.Told.{AppendsItem, MayAppend};
+ghost use Rattle.sporc_outside.specs.Uses.{use_of};
 ghost use Rattle.sporc_outside.specs.declared.file_fault.TheConstants.{MAX_FILE};
 
 use crate::append_file::AppendFile;
@@ -38,12 +39,7 @@ pub trait Folder: Counted {
             (told self.old).faults (told self.new).faults) }
         ensures files { (told self.new).files ≡ (told self.old).files }
         ensures lent { (told self.new).lent ≡ (told self.old).lent }
-        ensures asked { OnOk result
-            (AppendsItem (told self.old).asked (told self.new).asked name.now) }
-        ensures answered { IfErr result (λ fault. fault ≢ FileFault.Failed
-            → AppendsItem (told self.old).asked (told self.new).asked name.now) }
-        ensures may_ask { MayAppend (told self.old).asked (told self.new).asked name.now }
-        ensures kept { (told self.old).faults ≤ (told self.new).faults };
+        ensures asks { Asks (use_of told self.old self.new) name.now result };
 
     /// Writes a file, in place of the one with this name if there is one. After a call that failed,
     /// that one may have changed.
@@ -71,12 +67,7 @@ pub trait Folder: Counted {
         ensures exists { result ≡ Err FileFault.Exists
             → (told self.new).files ≡ (told self.old).files }
         ensures lent { (told self.new).lent ≡ (told self.old).lent }
-        ensures asked { OnOk result
-            (AppendsItem (told self.old).asked (told self.new).asked name.now) }
-        ensures answered { IfErr result (λ fault. fault ≢ FileFault.Failed
-            → AppendsItem (told self.old).asked (told self.new).asked name.now) }
-        ensures may_ask { MayAppend (told self.old).asked (told self.new).asked name.now }
-        ensures kept { (told self.old).faults ≤ (told self.new).faults };
+        ensures asks { Asks (use_of told self.old self.new) name.now result };
 
     /// A disk over the bytes of a file.
     fn leaf_disk(&mut self, name: &str) -> Result<Self::Disk, FileFault>
@@ -89,12 +80,7 @@ pub trait Folder: Counted {
         ensures lent { OnOk result
             ((told self.new).lent ≡ option_map (λ names. name.now ∷ names) (told self.old).lent) }
         ensures lent_unchanged { OnErr result ((told self.new).lent ≡ (told self.old).lent) }
-        ensures asked { OnOk result
-            (AppendsItem (told self.old).asked (told self.new).asked name.now) }
-        ensures answered { IfErr result (λ fault. fault ≢ FileFault.Failed
-            → AppendsItem (told self.old).asked (told self.new).asked name.now) }
-        ensures may_ask { MayAppend (told self.old).asked (told self.new).asked name.now }
-        ensures kept { (told self.old).faults ≤ (told self.new).faults };
+        ensures asks { Asks (use_of told self.old self.new) name.now result };
 
     /// Takes back the disk that it handed out last of those that are out. Its bytes are the file's.
     fn take_back(&mut self, disk: Self::Disk)
@@ -123,12 +109,7 @@ pub trait Folder: Counted {
         ensures changes { OnErr result
             (ChangesFile (told self.old).files (told self.new).files name.now) }
         ensures lent { (told self.new).lent ≡ (told self.old).lent }
-        ensures asked { OnOk result
-            (AppendsItem (told self.old).asked (told self.new).asked name.now) }
-        ensures answered { IfErr result (λ fault. fault ≢ FileFault.Failed
-            → AppendsItem (told self.old).asked (told self.new).asked name.now) }
-        ensures may_ask { MayAppend (told self.old).asked (told self.new).asked name.now }
-        ensures kept { (told self.old).faults ≤ (told self.new).faults };
+        ensures asks { Asks (use_of told self.old self.new) name.now result };
 
     /// Takes back a file that it handed out by this name. Its bytes are those of the file with the
     /// name.

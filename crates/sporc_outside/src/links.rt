@@ -1,10 +1,10 @@
 //! Nets that make links.
 
-ghost use Rattle.std.specs.Prelude.{◌≡◌, ◌≤◌, ◌+◌, option_map, IfOk, OnOk, OnErr};
+ghost use Rattle.std.specs.Prelude.{◌≡◌, ◌≤◌, ◌+◌, option_map, OnOk};
 ghost use Rattle.sporc_outside.specs.Counts.{CountsFaults, count_of_both};
-ghost use Rattle.sporc_outside.specs.Nets.{NetTold};
-ghost use Rattle.sporc_outside.specs.Told.{AppendsItem, MayAppend, TakesItem, IsPositive};
-ghost use Rattle.sporc_outside.specs.Told.{IsFalseIfTold};
+ghost use Rattle.sporc_outside.specs.Nets.{HandsLink, NetTold};
+ghost use Rattle.sporc_outside.specs.Told.{AppendsItem, MayAppend, IsPositive};
+ghost use Rattle.sporc_outside.specs.Uses.{use_of};
 
 use crate::counted::{Counted, Failed};
 use crate::link::Link;
@@ -42,23 +42,11 @@ pub trait Links: Counted {
 pub trait Dial: Links {
     /// A new link to the address.
     fn connect<R: Wait>(&mut self, rt: &R, address: &str) -> Result<Self::Link, Failed>
-        ensures fresh { IfOk result (λ link. (Self.Link.told link).faults ≡ 0) }
-        ensures open { IfOk result (λ link. IsFalseIfTold (Self.Link.told link).is_shut) }
-        ensures next { IfOk result (λ link. TakesItem (Self.told self.old).coming
-            (Self.told self.new).coming (Self.Link.told link)) }
-        ensures coming_unchanged { OnErr result
-            ((Self.told self.new).coming ≡ (Self.told self.old).coming) }
-        ensures out { OnOk result
-            ((Self.told self.new).out ≡ option_map (λ n. n + 1) (Self.told self.old).out) }
-        ensures out_unchanged { OnErr result ((Self.told self.new).out ≡ (Self.told self.old).out) }
+        ensures did { HandsLink Self.Link.told (use_of Self.told self.old self.new) result }
         ensures asked { OnOk result
             (AppendsItem (Self.told self.old).asked (Self.told self.new).asked address.now) }
         ensures may_ask { MayAppend (Self.told self.old).asked
-            (Self.told self.new).asked address.now }
-        ensures returned { (Self.told self.new).returned ≡ (Self.told self.old).returned }
-        ensures links { (Self.told self.new).link_faults ≡ (Self.told self.old).link_faults }
-        ensures count { CountsFaults (Self.told self.old).faults
-            (Self.told self.new).faults result };
+            (Self.told self.new).asked address.now };
 }
 
 /// Is called by the other end.
@@ -78,18 +66,6 @@ pub trait Listen: Links {
 
     /// Waits for the next link.
     fn accept<R: Wait>(&mut self, rt: &R) -> Result<Self::Link, Failed>
-        ensures fresh { IfOk result (λ link. (Self.Link.told link).faults ≡ 0) }
-        ensures open { IfOk result (λ link. IsFalseIfTold (Self.Link.told link).is_shut) }
-        ensures next { IfOk result (λ link. TakesItem (Self.told self.old).coming
-            (Self.told self.new).coming (Self.Link.told link)) }
-        ensures coming_unchanged { OnErr result
-            ((Self.told self.new).coming ≡ (Self.told self.old).coming) }
-        ensures out { OnOk result
-            ((Self.told self.new).out ≡ option_map (λ n. n + 1) (Self.told self.old).out) }
-        ensures out_unchanged { OnErr result ((Self.told self.new).out ≡ (Self.told self.old).out) }
-        ensures asked { (Self.told self.new).asked ≡ (Self.told self.old).asked }
-        ensures returned { (Self.told self.new).returned ≡ (Self.told self.old).returned }
-        ensures links { (Self.told self.new).link_faults ≡ (Self.told self.old).link_faults }
-        ensures count { CountsFaults (Self.told self.old).faults
-            (Self.told self.new).faults result };
+        ensures did { HandsLink Self.Link.told (use_of Self.told self.old self.new) result }
+        ensures asked { (Self.told self.new).asked ≡ (Self.told self.old).asked };
 }

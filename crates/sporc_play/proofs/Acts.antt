@@ -1,33 +1,16 @@
 -- What single commands do may happen wherever a play has come to.
 use Rattle.std.proofs.Common.{◌≡◌, ℕ, zero, suc, ◌+◌, ◌-◌, ◌<◌, ◌≤◌, Bool, true, false, cond, List, [], ◌∷◌, length, set, refl, sym, ap, ◌∙◌, subst, arith, Option, None, Some}
-use Rattle.std.specs.Prelude.{bit_xor, is_none, nat_le, nat_lt, slice_get, ⊤, IsSomeAnd}
-use Rattle.std.specs.List.{AllByRecursion}
-use Rattle.std.specs.Str.{all_scalars}
-use Rattle.std.proofs.lemmas.Bool.{leb-true}
-use Rattle.std.proofs.lemmas.List.{take_all}
-use Rattle.std.proofs.lemmas.Nat.{xor_of_8}
-use Rattle.sporc_delta.specs.Marks.{Mark, insertion, removal}
+use Rattle.sporc_play.proofs.Common.{bit_xor, is_none, nat_le, nat_lt, slice_get, ⊤, IsSomeAnd, AllByRecursion, all_scalars, leb-true, take_all, xor_of_8, Mark, insertion, removal, inserted}
+use Rattle.sporc_play.proofs.Common.{inserted-insertion, inserted-removal, typed_delta, MAX_COUNT, MAX_EVENTS, change_fault, discard_fault, edit_fault, Logged, Change, Discard, Edit, PlainClient}
+use Rattle.sporc_play.proofs.Common.{shown_after, Setup, Move, World, GoesBack, IsAt, after_all, start, IsTypedChange, IsTypedEvent, reached_at, sound_and_typed_at, MemberChange, Device, first_device}
+use Rattle.sporc_play.proofs.Common.{RosterChangeInRange, TextEditInRange, TextEdit, PlayLine, member_change, tree_of, change_events, discard_events, edit_logged, logged_unless, Effect, Scene, adds}
+use Rattle.sporc_play.proofs.Common.{cuts, delta_by, edit_events, entry_at, flip_byte, flips, if_open, marks_of, nothing, restarts, seen_by}
 use Rattle.sporc_delta.specs.Typed.{IsTypedDelta}
-use Rattle.sporc_delta.proofs.Typing.{inserted, inserted-insertion, inserted-removal, typed_delta}
-use Rattle.sporc_delta.specs.declared.limits.TheConstants.{MAX_COUNT}
-use Rattle.sporc_client.specs.declared.limits.TheConstants.{MAX_EVENTS}
 use Rattle.sporc_client.specs.Allowed.{can_log}
-use Rattle.sporc_client.specs.Answers.{change_fault, discard_fault, edit_fault}
-use Rattle.sporc_client.specs.Log.{Logged, Change, Discard, Edit}
-use Rattle.sporc_client.specs.PlainClient.{PlainClient, shown_after}
 use Rattle.sporc_client.specs.Reached.{IsReached}
-use Rattle.sporc_client.specs.Run.{Setup, Move, World, Restart as GoesBack, IsAt, after_all, start}
-use Rattle.sporc_client.specs.Typed.{IsTypedChange, IsTypedEvent}
 use Rattle.sporc_client.specs.Soundness.{IsSound}
 use Rattle.sporc_client.proofs.Checked.{edit_fault_is, edit_passed}
-use Rattle.sporc_client.proofs.Reached.{reached_at}
-use Rattle.sporc_client.proofs.SoundRuns.{sound_and_typed_at}
-use Rattle.sporc_member.specs.declared.change.Change.{Change as MemberChange}
-use Rattle.sporc_member.specs.declared.device.Device.{Device}
-use Rattle.sporc_member.specs.Device.{first_device}
-use Rattle.sporc_script.specs.Spelling.{RosterChangeInRange, TextEditInRange}
 use Rattle.sporc_script.specs.declared.command.Edit.{Edit as ScriptEdit}
-use Rattle.sporc_script.specs.declared.text_edit.TextEdit.{TextEdit}
 use Rattle.sporc_script.specs.declared.text_edit.TextEdit.TheVariants.{Insert, Remove}
 use Rattle.sporc_script.specs.declared.command.Command.TheVariants as commands
 use Rattle.sporc_script.specs.declared.command.Flip.{Flip}
@@ -36,10 +19,8 @@ use Rattle.sporc_script.specs.declared.command.Restart.{Restart}
 use Rattle.sporc_script.specs.declared.command.RosterEdit.{RosterEdit}
 use Rattle.sporc_script.specs.declared.roster_change.RosterChange.{RosterChange}
 use Rattle.sporc_script.specs.declared.roster_change.RosterChange.TheVariants as changes
-use Rattle.sporc_script.specs.declared.play_line.PlayLine.{PlayLine}
-use Rattle.sporc_play.specs.Cast.{member_change, setup_of, tree_of}
-use Rattle.sporc_play.specs.Logs.{change_events, discard_events, edit_logged, logged_unless}
-use Rattle.sporc_play.specs.Scene.{Effect, Scene, adds, cuts, delta_by, edit_events, entry_at, flip_byte, flips, gives, if_open, marks_of, nothing, restarts, seen_by}
+use Rattle.sporc_play.specs.Cast.{setup_of}
+use Rattle.sporc_play.specs.Scene.{gives}
 use Rattle.sporc_play.proofs.OwnKeys.{own_key_len}
 use Rattle.sporc_play.proofs.ByteFacts.{AreBytes, bytes_take, is_bytes}
 use Rattle.sporc_play.proofs.ByteClients.{IsByteChange, IsByteEvent}
@@ -48,17 +29,14 @@ use Rattle.sporc_play.proofs.Places.{at_place}
 use Rattle.sporc_play.proofs.ShortTexts.{short_texts_of}
 use Rattle.sporc_play.proofs.ShownForms.{shown_count}
 use Rattle.sporc_play.proofs.Runs.{HasCome, MayAct, MayBe}
+use Rattle.std.proofs.lemmas.Option.{cond_some}
+use Rattle.sporc_play.proofs.Moved.{if_open_has}
 
 pub no_act : (s : Setup) (scene : Scene) → MayAct s scene nothing
 no_act s scene = record { run = tt; typed = tt; bytes = tt; entries = tt }
 
--- what a client does, if there is one
 pub open_acts : (s : Setup) (scene : Scene) (who : Device) (act : PlainClient → Effect) → ((c : PlainClient) → scene.world.clients who ≡ Some c → MayAct s scene (act c)) → MayAct s scene (if_open (scene.world.clients who) act)
-open_acts s scene who act each = go (scene.world.clients who) each
-  where
-    go : (o : Option PlainClient) → ((c : PlainClient) → o ≡ Some c → MayAct s scene (act c)) → MayAct s scene (if_open o act)
-    go None each = no_act s scene
-    go (Some c) each = each c refl
+open_acts s scene who act each = if_open_has (MayAct s scene) (scene.world.clients who) act (no_act s scene) each
 
 -- the moment of a play's client
 pub client_at : (s : Setup) (moves : List Move) (scene : Scene) (who : Device) (c : PlainClient) → HasCome s moves scene → scene.world.clients who ≡ Some c → IsAt s moves (length moves) who c
@@ -171,20 +149,10 @@ cut_acts s number moves scene come = go (entry_at scene.made number) refl
 -- ---- edits
 
 scalars_of_marks : (edit : TextEdit) (len : ℕ) (marks : List Mark) → TextEditInRange edit → marks_of edit len ≡ Some marks → all_scalars (inserted marks) ≡ true
-scalars_of_marks (Insert e) len marks fits is = go (nat_le e.at len) is
-  where
-    go : (b : Bool) → cond b (Some (insertion len e.at e.text)) None ≡ Some marks → all_scalars (inserted marks) ≡ true
-    go true is =
-        let same : insertion len e.at e.text ≡ marks = cc in
-        ap (λ (ms : List Mark). all_scalars (inserted ms)) (sym same) ∙ ap all_scalars (inserted-insertion len e.at e.text) ∙ fits.1
-    go false is = absurd cc
-scalars_of_marks (Remove e) len marks fits is = go (nat_le (e.at + e.count) len) is
-  where
-    go : (b : Bool) → cond b (Some (removal len e.at e.count)) None ≡ Some marks → all_scalars (inserted marks) ≡ true
-    go true is =
-        let same : removal len e.at e.count ≡ marks = cc in
-        ap (λ (ms : List Mark). all_scalars (inserted ms)) (sym same) ∙ ap all_scalars (inserted-removal len e.at e.count)
-    go false is = absurd cc
+scalars_of_marks (Insert e) len marks fits is =
+    ap (λ (ms : List Mark). all_scalars (inserted ms)) (sym (cond_some (nat_le e.at len) (insertion len e.at e.text) marks is).1) ∙ ap all_scalars (inserted-insertion len e.at e.text) ∙ fits.1
+scalars_of_marks (Remove e) len marks fits is =
+    ap (λ (ms : List Mark). all_scalars (inserted ms)) (sym (cond_some (nat_le (e.at + e.count) len) (removal len e.at e.count) marks is).1) ∙ ap all_scalars (inserted-removal len e.at e.count)
 
 scalars_of_delta : (c : PlainClient) (seen : ℕ) (edit : TextEdit) (marks : List Mark) → TextEditInRange edit → delta_by c seen edit ≡ Some marks → all_scalars (inserted marks) ≡ true
 scalars_of_delta c seen edit marks fits is = go (nat_lt (length c.shown) seen) is

@@ -1,27 +1,12 @@
 -- Commands of the generated run, performed one after another.
-use Rattle.std.proofs.Common.{◌≡◌, ℕ, zero, suc, ◌+◌, ◌*◌, ◌/◌, ◌%◌, ◌<◌, ◌≤◌, Bool, true, false, cond, eqb, List, [], ◌∷◌, ◌++◌, length, map, flat_map, refl, sym, ap, subst, ◌∙◌, inl, inr, arith, length-append, append-nil}
-use Rattle.std.specs.Prelude.{Contains}
-use Rattle.std.specs.Char.{encode_utf8}
-use Rattle.std.specs.Str.{encode_utf8_all}
-use Rattle.std.proofs.lemmas.Str.{encode_ascii}
+use Rattle.std.proofs.Common.{◌≡◌, ℕ, zero, suc, ◌+◌, ◌*◌, ◌/◌, ◌%◌, ◌<◌, ◌≤◌, Bool, true, false, cond, eqb, List, [], ◌∷◌, ◌++◌, length, map, flat_map, refl, sym, ap, subst, ◌∙◌, arith, length-append, append-nil}
+use Rattle.sporc_play.proofs.Common.{Contains, encode_utf8, encode_utf8_all, encode_ascii, length-map, map-append, fold-append, Device, first_device, Command, MAX_SCRIPT, PlayState, HasRoom}
+use Rattle.sporc_play.proofs.Common.{IsAsked, Performs, up_to, batch, batches, edits, generated_cast, gives, inserts, removes, seen_len, submits, Scene, after, after_each, edit_size, opening}
+use Rattle.sporc_play.proofs.Common.{text_size, seated, IsCast, Becomes, CanPerform, StandsFor}
 use Rattle.std.proofs.lemmas.Grind.{flat_map-append}
-use Rattle.std.proofs.lemmas.List.{length-map, map-append}
-use Rattle.std.proofs.lemmas.List.Sums.{fold-append}
-use Rattle.std.proofs.lemmas.Bool.{cases_lt}
-use Rattle.sporc_member.specs.declared.device.Device.{Device}
-use Rattle.sporc_member.specs.Device.{first_device}
-use Rattle.sporc_script.specs.declared.command.Command.{Command}
 use Rattle.sporc_script.specs.declared.command.Command.TheVariants as commands
 use Rattle.sporc_script.specs.declared.command.Give.{Give}
-use Rattle.sporc_play.specs.declared.playing.TheConstants.{MAX_SCRIPT}
-use Rattle.sporc_play.specs.declared.state.PlayState.{PlayState}
-use Rattle.sporc_play.specs.Batches.{HasRoom, IsAsked, Performs}
 use Rattle.sporc_play.specs.Cast.{setup_of}
-use Rattle.sporc_base.specs.Numbers.{up_to}
-use Rattle.sporc_play.specs.Generated.{batch, batches, edits, generated_cast, gives, inserts, removes, seen_len, submits}
-use Rattle.sporc_play.specs.Scene.{Scene, after, after_each, edit_size, opening, text_size}
-use Rattle.sporc_play.specs.Seats.{seated}
-use Rattle.sporc_play.specs.Stage.{IsCast, Becomes, CanPerform, StandsFor}
 use Rattle.sporc_play.proofs.Ready.{asked_grows, can_perform}
 use Rattle.sporc_play.proofs.Reported.{after_push}
 
@@ -51,21 +36,20 @@ has_room n k old new commands room does few = record {
 
 -- ---- the members
 
-three : (m : ℕ) → IsAsked m → Contains (first_device 1 ∷ first_device 2 ∷ first_device 3 ∷ []) (first_device m)
-three m is = elim (cases_lt m 2) [
-  | inl one ↦ let e : 1 ≡ m = omega (arith, one, is) in (0, omega arith, ap first_device e)
-  | inr more ↦ elim (cases_lt m 3) [
-    | inl two ↦ let e : 2 ≡ m = omega (arith, two, more) in (1, omega arith, ap first_device e)
-    | inr last ↦ let e : 3 ≡ m = omega (arith, last, is) in (2, omega arith, ap first_device e)
-  ]
-]
+pub by_member : (P : ℕ → Type 0) → P 1 → P 2 → P 3 → (m : ℕ) → IsAsked m → P m
+by_member P one two three zero is = absurd (omega (arith, is))
+by_member P one two three (suc zero) is = one
+by_member P one two three (suc (suc zero)) is = two
+by_member P one two three (suc (suc (suc zero))) is = three
+by_member P one two three (suc (suc (suc (suc m)))) is = absurd (omega (arith, is))
 
 all_seated : (setup_of generated_cast).devices ≡ first_device 1 ∷ first_device 2 ∷ first_device 3 ∷ []
 unfolding setup_of
 all_seated = refl
 
 pub seated_by : (scene : Scene) (state : PlayState) (m : ℕ) → StandsFor generated_cast scene state → IsAsked m → Contains (seated state.seats.items) (first_device m)
-seated_by scene state m stands is = subst (λ (ds : List Device). Contains ds (first_device m)) (sym (stands.seated ∙ all_seated)) (three m is)
+seated_by scene state m stands is = subst (λ (ds : List Device). Contains ds (first_device m)) (sym (stands.seated ∙ all_seated))
+    (by_member (λ (n : ℕ). Contains (first_device 1 ∷ first_device 2 ∷ first_device 3 ∷ []) (first_device n)) (0, omega arith, refl) (1, omega arith, refl) (2, omega arith, refl) m is)
 
 pub seated_there : (n : ℕ) (state : PlayState) (m : ℕ) → HasRoom n state → IsAsked m → Contains (seated state.seats.items) (first_device m)
 seated_there n state m room is = seated_by room.scene state m room.stands is
@@ -83,6 +67,9 @@ pub one_more : {X : Type 0} → (f : ℕ → X) (n : ℕ) → map f (up_to (n + 
 one_more {X} f n =
     let e : n + 1 ≡ suc n = omega arith in
     ap (λ (k : ℕ). map f (up_to k)) e ∙ map-append f (up_to n) (suc n ∷ []) ∙ ap (λ (k : ℕ). map f (up_to n) ++ f k ∷ []) (sym e)
+
+pub all_done : (old new : PlayState) (f : ℕ → Scene → Command) (a n : ℕ) → a ≡ n → Performs old (map f (up_to a)) new → Performs old (map f (up_to n)) new
+all_done old new f a n same does = subst (λ (k : ℕ). Performs old (map f (up_to k)) new) same does
 
 -- one more command of a list by numbers
 pub maps_more : (old mid new : PlayState) (f : ℕ → Scene → Command) (n : ℕ) (command : Command) → Performs old (map f (up_to n)) mid

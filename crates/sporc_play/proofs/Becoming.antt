@@ -1,33 +1,14 @@
 -- What a state becomes by a command, and what it tells, from what the calls on its parts did.
-use Rattle.std.proofs.Common.{◌≡◌, ℕ, ◌+◌, ◌<◌, List, ◌++◌, length, map, get_or, refl, sym, ap, ◌∙◌, subst, Option, Some, Result, Ok, Err, Vec, Global}
-use Rattle.std.specs.Prelude.{slice_get}
-use Rattle.std.specs.Option.{option_to_list}
-use Rattle.std.specs.Result.{OnOk}
+use Rattle.std.proofs.Common.{◌≡◌, ℕ, ◌+◌, List, ◌++◌, length, map, get_or, refl, sym, ap, ◌∙◌, subst, Option, Some, Result, Ok, Err, Vec, Global}
+use Rattle.sporc_play.proofs.Common.{slice_get, option_to_list, OnOk, MemberChange, Device, first_device, PlainClient, Setup, Join, Forgery, Rogue, Seat, PlayState, member_change, setup_of}
+use Rattle.sporc_play.proofs.Common.{seat_joined, change_events, given_by, give_line, join_line, line_by}
+use Rattle.sporc_play.proofs.Common.{entries_at, entry_at, HasSubmitted, IsRogueAt, IsSeatAt, plain_in, seat_logged, submission_line, HasSigned, forged_by, signing_line, Becomes}
+use Rattle.sporc_play.proofs.Common.{IsCastOf, AppendsLineOf}
 use Rattle.std.proofs.lemmas.Option.{same_Some, slice_get_within}
-use Rattle.sporc_member.specs.declared.change.Change.{Change as MemberChange}
-use Rattle.sporc_member.specs.declared.device.Device.{Device}
-use Rattle.sporc_member.specs.Device.{first_device}
-use Rattle.sporc_client.specs.PlainClient.{PlainClient}
-use Rattle.sporc_client.specs.Run.{Setup}
 use Rattle.sporc_script.specs.declared.command.Command.TheVariants as commands
-use Rattle.sporc_script.specs.declared.command.Edit.{Edit}
 use Rattle.sporc_script.specs.declared.command.Give.{Give}
-use Rattle.sporc_script.specs.declared.command.Join.{Join}
-use Rattle.sporc_script.specs.declared.command.Restart.{Restart}
 use Rattle.sporc_script.specs.declared.command.RosterEdit.{RosterEdit}
-use Rattle.sporc_script.specs.declared.sign.Forgery.{Forgery}
-use Rattle.sporc_play.specs.declared.seat.Rogue.{Rogue}
-use Rattle.sporc_play.specs.declared.seat.Seat.{Seat}
-use Rattle.sporc_play.specs.declared.state.PlayState.{PlayState}
-use Rattle.sporc_play.specs.Cast.{member_change, setup_of}
-use Rattle.sporc_play.specs.Joined.{seat_joined}
-use Rattle.sporc_play.specs.Logs.{change_events, discard_events, given_by}
-use Rattle.sporc_play.specs.Report.{change_line, discard_line, edited_line, give_line, join_line, line_by, restart_line}
-use Rattle.sporc_play.specs.Scene.{after, edit_events, entries_at, entry_at}
-use Rattle.sporc_play.specs.Seats.{HasSubmitted, IsRogueAt, IsSeatAt, plain_in, seat_logged, seat_restarted, submission_line}
-use Rattle.sporc_play.specs.Signing.{HasSigned, forged_by, signing_line}
-use Rattle.sporc_play.specs.Stage.{Becomes, IsCastOf, AppendsLineOf}
-use Rattle.sporc_play.proofs.Commands.{adds_stand, client_there, give_stands, restart_stands, told}
+use Rattle.sporc_play.proofs.Commands.{adds_stand, client_there, give_stands, told}
 use Rattle.sporc_play.proofs.Joins.{join_stands}
 use Rattle.sporc_play.proofs.MadeEntries.{rogue_there, sign_stands, signing_told}
 use Rattle.sporc_play.proofs.Places.{element}
@@ -67,42 +48,13 @@ rogue_read slice items i who named x same is found read =
     let here : slice_get items i ≡ Some x = element items i x (slice_get_within items i found.0 there) read in
     record { there = here; own = ap (λ (r : Rogue). r.device) (same_Some x found.0 (sym here ∙ there)) ∙ found.1.own ∙ is }
 
-pub seat_within : (slice : List Seat) (len i : ℕ) (who : Device) → length slice ≡ len → (seat : Seat) × IsSeatAt slice i who seat → i < len
-seat_within slice len i who same found = subst (λ (n : ℕ). i < n) same (slice_get_within slice i found.0 found.1.there)
-
-pub rogue_within : (slice : List Rogue) (len i : ℕ) (who : Device) → length slice ≡ len → (rogue : Rogue) × IsRogueAt slice i who rogue → i < len
-rogue_within slice len i who same found = subst (λ (n : ℕ). i < n) same (slice_get_within slice i found.0 found.1.there)
-
 -- ---- edits, changes and discards
-
-pub edit_becomes : (old new : PlayState) (e : Edit) (i : ℕ) (x x' : Seat) → IsSeatAt old.seats.items i e.device x → ChangesSeat i x' old new → entries_of new ≡ entries_of old
-    → x' ≡ seat_logged (edit_events e) x → Becomes old (commands.Edit e) new
-edit_becomes old new e i x x' at changed same is script scene stands =
-    adds_stand script scene (after (setup_of script) scene (commands.Edit e)) old new i e.device x (edit_events e) stands at
-    (record { world = refl; logs = refl; last = refl; asked = refl; leaves = refl }) refl (subst (λ (y : Seat). ChangesSeat i y old new) is changed) same
-
-pub edit_tells : (old : PlayState) (e : Edit) (i : ℕ) (x : Seat) (out out' : List ℕ) → IsSeatAt old.seats.items i e.device x → out' ≡ out ++ line_by e.device (plain_in x) (edited_line e) → AppendsLineOf old (commands.Edit e) out out'
-edit_tells old e i x out out' at is script scene stands = told script scene old i e.device x (edited_line e) out out' stands at is
 
 pub change_becomes : (old new : PlayState) (e : RosterEdit) (i : ℕ) (x x' : Seat) (change : MemberChange) → IsSeatAt old.seats.items i e.device x → ChangesSeat i x' old new → entries_of new ≡ entries_of old
     → ((s : Setup) → IsCastOf s old.cast → change ≡ member_change s e.change) → x' ≡ seat_logged (change_events change) x → Becomes old (commands.Change e) new
 change_becomes old new e i x x' change at changed same asked is script scene stands =
     let s = setup_of script in
-    adds_stand script scene (after s scene (commands.Change e)) old new i e.device x (change_events (member_change s e.change)) stands at
-    (record { world = refl; logs = refl; last = refl; asked = refl; leaves = refl }) refl
-    (subst (λ (y : Seat). ChangesSeat i y old new) (is ∙ ap (λ (c : MemberChange). seat_logged (change_events c) x) (asked s stands.cast)) changed) same
-
-pub change_tells : (old : PlayState) (e : RosterEdit) (i : ℕ) (x : Seat) (out out' : List ℕ) → IsSeatAt old.seats.items i e.device x → out' ≡ out ++ line_by e.device (plain_in x) (change_line e.device) → AppendsLineOf old (commands.Change e) out out'
-change_tells old e i x out out' at is script scene stands = told script scene old i e.device x (change_line e.device) out out' stands at is
-
-pub discard_becomes : (old new : PlayState) (i : ℕ) (who : Device) (x x' : Seat) → IsSeatAt old.seats.items i who x → ChangesSeat i x' old new → entries_of new ≡ entries_of old
-    → x' ≡ seat_logged discard_events x → Becomes old (commands.Discard who) new
-discard_becomes old new i who x x' at changed same is script scene stands =
-    adds_stand script scene (after (setup_of script) scene (commands.Discard who)) old new i who x discard_events stands at
-    (record { world = refl; logs = refl; last = refl; asked = refl; leaves = refl }) refl (subst (λ (y : Seat). ChangesSeat i y old new) is changed) same
-
-pub discard_tells : (old : PlayState) (i : ℕ) (who : Device) (x : Seat) (out out' : List ℕ) → IsSeatAt old.seats.items i who x → out' ≡ out ++ line_by who (plain_in x) (discard_line who) → AppendsLineOf old (commands.Discard who) out out'
-discard_tells old i who x out out' at is script scene stands = told script scene old i who x (discard_line who) out out' stands at is
+    adds_stand script scene old new i e.device x x' (change_events (member_change s e.change)) stands at (is ∙ ap (λ (c : MemberChange). seat_logged (change_events c) x) (asked s stands.cast)) changed same
 
 -- ---- submissions
 
@@ -123,9 +75,7 @@ pub give_becomes : (old new : PlayState) (g : Give) (i : ℕ) (x x' : Seat) (ent
     → entry ≡ entry_at (entries_of old) g.entry → x' ≡ seat_logged (given_by g.position entry) x → Becomes old (commands.Give g) new
 give_becomes old new g i x x' entry at changed same found is script scene stands =
     let entry_is : entry ≡ entry_at scene.made g.entry = found ∙ ap (λ (es : List (List ℕ)). entry_at es g.entry) stands.made in
-    give_stands script scene (after (setup_of script) scene (commands.Give g)) old new i g.device g.position (entry_at scene.made g.entry) x stands at
-    (record { world = refl; logs = refl; last = refl; asked = refl; leaves = refl }) refl
-    (subst (λ (y : Seat). ChangesSeat i y old new) (is ∙ ap (λ (o : Option (List ℕ)). seat_logged (given_by g.position o) x) entry_is) changed) same
+    give_stands script scene old new i g.device g.position (entry_at scene.made g.entry) x x' stands at (is ∙ ap (λ (o : Option (List ℕ)). seat_logged (given_by g.position o) x) entry_is) changed same
 
 pub give_tells : (old : PlayState) (g : Give) (i : ℕ) (x : Seat) (entry : Option (List ℕ)) (out out' : List ℕ) → IsSeatAt old.seats.items i g.device x → entry ≡ entry_at (entries_of old) g.entry
     → out' ≡ out ++ line_by g.device (plain_in x) (λ c. give_line g.device g.position c entry) → AppendsLineOf old (commands.Give g) out out'
@@ -134,24 +84,13 @@ give_tells old g i x entry out out' at found is script scene stands =
     told script scene old i g.device x (λ c. give_line g.device g.position c (entry_at scene.made g.entry)) out out' stands at
     (is ∙ ap (λ (o : Option (List ℕ)). out ++ line_by g.device (plain_in x) (λ c. give_line g.device g.position c o)) entry_is)
 
-pub restart_becomes : (old new : PlayState) (r : Restart) (i : ℕ) (x x' : Seat) → IsSeatAt old.seats.items i r.device x → ChangesSeat i x' old new → entries_of new ≡ entries_of old
-    → x' ≡ seat_restarted r.entries x → Becomes old (commands.Restart r) new
-restart_becomes old new r i x x' at changed same is script scene stands =
-    restart_stands script scene (after (setup_of script) scene (commands.Restart r)) old new i r.device r.entries x stands at
-    (record { world = refl; logs = refl; last = refl; asked = refl; leaves = refl }) refl (subst (λ (y : Seat). ChangesSeat i y old new) is changed) same
-
-pub restart_tells : (old : PlayState) (r : Restart) (i : ℕ) (x : Seat) (out out' : List ℕ) → IsSeatAt old.seats.items i r.device x → out' ≡ out ++ line_by r.device (plain_in x) (restart_line r.device r.entries)
-    → AppendsLineOf old (commands.Restart r) out out'
-restart_tells old r i x out out' at is script scene stands = told script scene old i r.device x (restart_line r.device r.entries) out out' stands at is
-
 -- ---- joiners
 
 pub join_becomes : (old new : PlayState) (j : Join) (i : ℕ) (x x' : Seat) → IsSeatAt old.seats.items i j.device x → ChangesSeat i x' old new → entries_of new ≡ entries_of old
     → ((s : Setup) → IsCastOf s old.cast → old.genesis ≡ s.genesis → x' ≡ seat_joined s x (entries_at (entries_of old) j.entries) x.client) → Becomes old (commands.Join j) new
 join_becomes old new j i x x' at changed same is script scene stands =
     let s = setup_of script in
-    join_stands script scene (after s scene (commands.Join j)) old new i j.device x x' (entries_at scene.made j.entries) stands at
-    (record { world = refl; logs = refl; last = refl; asked = refl; leaves = refl }) refl
+    join_stands script scene old new i j.device x x' (entries_at scene.made j.entries) stands at
     (is s stands.cast stands.genesis ∙ ap (λ (es : List (List ℕ)). seat_joined s x (entries_at es j.entries) x.client) stands.made) changed same
 
 pub join_tells : (old : PlayState) (j : Join) (i : ℕ) (x : Seat) (out out' : List ℕ) → IsSeatAt old.seats.items i j.device x

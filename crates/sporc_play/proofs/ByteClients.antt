@@ -1,26 +1,15 @@
 -- The keys that the clients of a play hold, and those of the members whom they are to add, are strings of bytes.
-use Rattle.std.proofs.Common.{◌≡◌, ℕ, ◌<◌, Bool, true, false, cond, List, [], ◌∷◌, ◌++◌, drop, take, refl, subst, Option, None, Some, IfSome}
-use Rattle.std.specs.Prelude.{is_some}
-use Rattle.std.specs.FinMap.{get}
-use Rattle.std.specs.List.{AllByRecursion}
-use Rattle.sporc_delta.specs.Marks.{Mark}
+use Rattle.std.proofs.Common.{◌≡◌, ℕ, ◌<◌, Bool, true, false, cond, List, [], ◌∷◌, drop, take, refl, subst, Option, None, Some, IfSome}
+use Rattle.sporc_play.proofs.Common.{is_some, get, AllByRecursion, Mark, MemberChange, Add, AddDevice, DropDevice, Device, same_device, Keys, change_in, Refusal, Pending}
+use Rattle.sporc_play.proofs.Common.{journal_has_room, refusal_of, Logged, Edit, Change, Submit, Dropped, Accept, Discard, PlainClient, opened, Setup, World, Move, Open, Happen, Give, Restart}
+use Rattle.sporc_play.proofs.Common.{after_all, given, opening_of, accepted, change_comes, edit_comes, form_coming, is_flight, log_of_entries, own_comes, replay_from, restated, step, gives_to}
+use Rattle.sporc_play.proofs.Common.{happens_to, all_append}
 use Rattle.sporc_delta.specs.Transforms.{earlier}
-use Rattle.sporc_member.specs.declared.change.Change.{Change as MemberChange}
-use Rattle.sporc_member.specs.declared.change.Change.TheVariants.{Add, Remove, SetRole, AddDevice, DropDevice, Upgrade}
-use Rattle.sporc_member.specs.declared.device.Device.{Device}
-use Rattle.sporc_member.specs.Device.{same_device}
-use Rattle.sporc_epoch.specs.Keys.{Keys}
-use Rattle.sporc_head.specs.History.{change_in}
-use Rattle.sporc_head.specs.declared.refusal.Refusal.{Refusal}
-use Rattle.sporc_client.specs.declared.pending.Pending.{Pending}
 use Rattle.sporc_client.specs.declared.pending.Pending.TheVariants as items
-use Rattle.sporc_client.specs.Answers.{journal_has_room, refusal_of}
-use Rattle.sporc_client.specs.Log.{Logged, Edit, Change, Submit, Dropped, Accept, Discard}
-use Rattle.sporc_client.specs.PlainClient.{PlainClient, opened}
 use Rattle.sporc_client.specs.Rebasing.{rebased}
-use Rattle.sporc_client.specs.Run.{Setup, World, Move, Open, Happen, Give, Restart, after, after_all, given, opening_of, put}
-use Rattle.sporc_client.specs.Step.{accepted, change_comes, edit_comes, form_coming, is_flight, log_of_entries, own_comes, replay, replay_from, restated, step}
-use Rattle.sporc_client.proofs.Worlds.{gives_to, happens_to, restarts}
+use Rattle.sporc_client.specs.Run.{after, put}
+use Rattle.sporc_client.specs.Step.{replay}
+use Rattle.sporc_client.proofs.Worlds.{restarts}
 use Rattle.sporc_play.proofs.ByteFacts.{AreBytes}
 
 abbrev pub AreByteKeys : Keys → Type 0
@@ -28,39 +17,28 @@ AreByteKeys ring = (epoch : ℕ) → IfSome (get ring epoch) AreBytes
 
 abbrev pub IsByteChange : MemberChange → Type 0
 IsByteChange (Add member role key) = AreBytes key
-IsByteChange (Remove member) = Unit {0}
-IsByteChange (SetRole member role) = Unit {0}
 IsByteChange (AddDevice member device key) = (device < 256) × AreBytes key
 IsByteChange (DropDevice member device) = device < 256
-IsByteChange Upgrade = Unit {0}
+IsByteChange change = Unit {0}
 
 abbrev pub IsByteItem : Pending → Type 0
-IsByteItem (items.Edit marks) = Unit {0}
 IsByteItem (items.Change change) = IsByteChange change
+IsByteItem item = Unit {0}
 
 pub record IsByteClient (c : PlainClient) : Type 0 where
   pub ring : AreByteKeys c.opening.kit.ring
   pub pending : AllByRecursion IsByteItem c.pending
 
 abbrev pub IsByteEvent : Logged → Type 0
-IsByteEvent (Edit by seen marks) = Unit {0}
 IsByteEvent (Change by change) = IsByteChange change
-IsByteEvent (Submit by bytes) = Unit {0}
-IsByteEvent (Dropped by fault) = Unit {0}
-IsByteEvent (Accept by bytes) = Unit {0}
-IsByteEvent (Discard by) = Unit {0}
+IsByteEvent event = Unit {0}
 
 abbrev pub IsByteMove : Move → Type 0
 IsByteMove (Open who ring) = AreByteKeys ring
 IsByteMove (Happen who event) = IsByteEvent event
-IsByteMove (Give who position bytes) = Unit {0}
-IsByteMove (Restart who k) = Unit {0}
+IsByteMove move = Unit {0}
 
 -- ---- events
-
-pushed : (pending : List Pending) (item : Pending) → AllByRecursion IsByteItem pending → IsByteItem item → AllByRecursion IsByteItem (pending ++ item ∷ [])
-pushed [] item all is = (is, tt)
-pushed (x ∷ xs) item all is = (all.0, pushed xs item all.1 is)
 
 dropped : (pending : List Pending) → AllByRecursion IsByteItem pending → AllByRecursion IsByteItem (drop 1 pending)
 dropped [] all = tt
@@ -80,8 +58,8 @@ accepted_bytes c bytes is = go (is_flight c bytes) (is_some (change_in bytes))
     go false false = record { ring = is.ring; pending = over (form_coming c bytes) c.pending is.pending }
 
 step_bytes : (c : PlainClient) (event : Logged) → IsByteEvent event → IsByteClient c → IsByteClient (step c event)
-step_bytes c (Edit by seen marks) may is = record { ring = is.ring; pending = pushed c.pending (items.Edit (restated c seen marks)) is.pending tt }
-step_bytes c (Change by change) may is = record { ring = is.ring; pending = pushed c.pending (items.Change change) is.pending may }
+step_bytes c (Edit by seen marks) may is = record { ring = is.ring; pending = all_append IsByteItem c.pending (items.Edit (restated c seen marks) ∷ []) is.pending (tt, tt) }
+step_bytes c (Change by change) may is = record { ring = is.ring; pending = all_append IsByteItem c.pending (items.Change change ∷ []) is.pending (may, tt) }
 step_bytes c (Submit by bytes) may is = record { ring = is.ring; pending = is.pending }
 step_bytes c (Dropped by fault) may is = record { ring = is.ring; pending = dropped c.pending is.pending }
 step_bytes c (Accept by bytes) may is = accepted_bytes c bytes is

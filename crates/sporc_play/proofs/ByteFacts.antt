@@ -1,14 +1,11 @@
 -- Strings of bytes: digests, masks, signatures, deltas and the entries that are made of them.
 use Rattle.std.proofs.Common.{ℕ, zero, suc, ◌+◌, ◌%◌, ◌<◌, List, [], ◌∷◌, ◌++◌, drop, take, replicate, arith}
-use Rattle.std.specs.Prelude.{slice_index}
-use Rattle.std.specs.Int.{w16, w32, w64, to_be_bytes, to_le_bytes}
-use Rattle.std.specs.List.{AllByRecursion}
-use Rattle.std.proofs.lemmas.Nat.{xor_of_8}
+use Rattle.sporc_play.proofs.Common.{slice_index, w16, w32, w64, to_be_bytes, to_le_bytes, AllByRecursion, xor_of_8, IsBytes, mask_of, all_append}
 use Rattle.sha2.specs.Sha256.{digest_bytes, sha256}
 use Rattle.lms_ots.specs.Chains.{chain_of, concatenated}
-use Rattle.sporc_base.specs.Bytes.{IsBytes}
 use Rattle.sporc_base.proofs.ByteLemmas.{IsBytes-rest}
-use Rattle.sporc_cipher.specs.Mask.{mask_from, mask_of, stream_byte}
+use Rattle.sporc_cipher.specs.Mask.{mask_from, stream_byte}
+use Rattle.sporc_play.proofs.Places.{all_take}
 
 abbrev pub AreBytes : List ℕ → Type 0
 AreBytes bytes = AllByRecursion (λ b. b < 256) bytes
@@ -25,13 +22,10 @@ are_bytes (x ∷ xs) is = (is 0, are_bytes xs (IsBytes-rest x xs is))
 -- ---- parts
 
 pub bytes_append : (xs ys : List ℕ) → AreBytes xs → AreBytes ys → AreBytes (xs ++ ys)
-bytes_append [] ys x y = y
-bytes_append (b ∷ xs) ys x y = (x.0, bytes_append xs ys x.1 y)
+bytes_append xs ys x y = all_append (λ (b : ℕ). b < 256) xs ys x y
 
 pub bytes_take : (n : ℕ) (xs : List ℕ) → AreBytes xs → AreBytes (take n xs)
-bytes_take zero xs all = tt
-bytes_take (suc n) [] all = tt
-bytes_take (suc n) (x ∷ xs) all = (all.0, bytes_take n xs all.1)
+bytes_take n xs all = all_take (λ (b : ℕ). b < 256) n xs all
 
 pub bytes_drop : (n : ℕ) (xs : List ℕ) → AreBytes xs → AreBytes (drop n xs)
 bytes_drop zero xs all = all

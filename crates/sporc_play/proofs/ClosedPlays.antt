@@ -1,49 +1,27 @@
 -- Plays in which clients make all entries are closed: what is handed out was signed by a client of the play.
 use Rattle.std.proofs.Common.{◌≡◌, ℕ, zero, suc, Bool, true, false, cond, List, [], ◌∷◌, ◌++◌, length, map, refl, sym, subst, arith, Option, None, Some, Result, Ok, Err}
-use Rattle.std.specs.Prelude.{Contains, if◌then◌else◌, nat_le}
-use Rattle.std.specs.List.{AllByRecursion}
-use Rattle.std.proofs.lemmas.List.Elements.{Contains-append_left, Contains-append_right}
-use Rattle.sporc_member.specs.declared.device.Device.{Device}
-use Rattle.sporc_member.specs.declared.founder.Founder.{Founder}
-use Rattle.sporc_member.specs.Device.{first_device}
-use Rattle.sporc_member.specs.Lists.{insert_by}
-use Rattle.sporc_epoch.specs.Keys.{Keys}
-use Rattle.sporc_epoch.specs.Hints.{hints_of}
-use Rattle.sporc_epoch.specs.declared.fault.HintFault.{HintFault}
-use Rattle.sporc_line.specs.Openings.{open_checks}
-use Rattle.sporc_line.specs.declared.fault.LineOpenFault.{LineOpenFault}
-use Rattle.sporc_base.specs.FirstFault.{first_of}
-use Rattle.std.specs.FinMap.{get}
-use Rattle.sporc_client.specs.declared.fault.SubmitFault.{SubmitFault}
-use Rattle.sporc_client.specs.declared.submitted.Submitted.{Submitted}
+use Rattle.sporc_play.proofs.Common.{Contains, if◌then◌else◌, nat_le, AllByRecursion, Contains-append_left, Contains-append_right, Device, Founder, first_device, insert_by, Keys, hints_of, HintFault}
+use Rattle.sporc_play.proofs.Common.{open_checks, LineOpenFault, first_of, get, SubmitFault, Submitted, change_fault, discard_fault, edit_fault, Logged, Change, Discard, Edit, Submit, PlainClient}
+use Rattle.sporc_play.proofs.Common.{IsTypedRun, Setup, World, Move, Give, Happen, Open, Restart, after_all, start, gives_to, happens_to, restarts_in, Mark, IsPlayScript, Command, Tree, MemberRole}
+use Rattle.sporc_play.proofs.Common.{PlayLine, first_ring, founder_of, founders_of, has_admin, member_change, openers_by, public_of, tree_of, change_events, discard_events, edit_logged, logged_unless}
+use Rattle.sporc_play.proofs.Common.{moves_from, moves_of, Effect, Scene, effect_of, adds, commands_of, delta_by, edit_events, entries_at, entry_at, if_open, joins, nothing, opening, opening_moves}
+use Rattle.sporc_play.proofs.Common.{openings, opens_unless, opens_with, restarts, seen_by, submission_in, all_append}
 use Rattle.sporc_client.specs.declared.submitted.Submitted.TheVariants as submitted
-use Rattle.sporc_client.specs.Answers.{change_fault, discard_fault, edit_fault}
 use Rattle.sporc_client.specs.Closed.{AreClosed, HasItsKey, IsClosedMove, IsSigned}
-use Rattle.sporc_client.specs.Log.{Logged, Change, Discard, Edit, Submit}
-use Rattle.sporc_client.specs.PlainClient.{PlainClient}
 use Rattle.sporc_client.specs.Genuine.{Genuine}
-use Rattle.sporc_client.specs.Typed.{IsTypedRun}
-use Rattle.sporc_client.specs.Run.{Setup, Signing, World, Move, Give, Happen, Open, Restart, after, after_all, signings, start}
-use Rattle.sporc_client.proofs.Worlds.{gives_to, happens_to, restarts as restarts_in}
+use Rattle.sporc_client.specs.Run.{Signing, after, signings}
 use Rattle.sporc_client.proofs.ClosedRuns.{closed_runs_are_genuine}
-use Rattle.sporc_delta.specs.Marks.{Mark}
-use Rattle.sporc_script.specs.Grammar.{IsPlayScript}
-use Rattle.sporc_script.specs.declared.command.Command.{Command}
 use Rattle.sporc_script.specs.declared.command.Command.TheVariants as commands
-use Rattle.sporc_script.specs.declared.command.Tree.{Tree}
-use Rattle.sporc_script.specs.declared.member_role.MemberRole.{MemberRole}
-use Rattle.sporc_script.specs.declared.play_line.PlayLine.{PlayLine}
 use Rattle.sporc_script.specs.declared.roster_change.RosterChange.{RosterChange}
 use Rattle.sporc_script.specs.declared.roster_change.RosterChange.TheVariants as changes
-use Rattle.sporc_play.specs.Cast.{first_ring, founder_of, founders_of, has_admin, member_change, openers_by, public_of, setup_of, tree_of}
-use Rattle.sporc_play.specs.Logs.{change_events, discard_events, edit_logged, logged_unless}
-use Rattle.sporc_play.specs.Moves.{moves_from, moves_of}
+use Rattle.sporc_play.specs.Cast.{setup_of}
 use Rattle.sporc_play.specs.OwnPlays.{AreByClients, IsByClients}
-use Rattle.sporc_play.specs.Scene.{Effect, Scene, effect_of, adds, commands_of, delta_by, edit_events, entries_at, entry_at, gives, if_open, joins, nothing, opening, opening_moves, openings, opens_unless, opens_with, restarts, seen_by, submission_in, submits}
+use Rattle.sporc_play.specs.Scene.{gives, submits}
 use Rattle.sporc_play.specs.Scene as scenes
 use Rattle.sporc_play.proofs.Founders.{all_added, founders, inserted}
 use Rattle.sporc_play.proofs.OneRun.{typed_run}
-use Rattle.sporc_play.proofs.Places.{at_place}
+use Rattle.sporc_play.proofs.Places.{at_place, all_each}
+use Rattle.sporc_play.proofs.Moved.{if_open_has}
 
 -- ---- what was signed stays signed
 
@@ -70,11 +48,7 @@ stays_signed s w (Restart who k) bytes is = go (w.clients who)
 
 all_stay : (s : Setup) (w : World) (moves : List Move) (made : List (List ℕ)) → AllByRecursion (IsSigned w) made → AllByRecursion (IsSigned (after_all s w moves)) made
 all_stay s w [] made all = all
-all_stay s w (move ∷ moves) made all = all_stay s (after s w move) moves made (each made all)
-  where
-    each : (made : List (List ℕ)) → AllByRecursion (IsSigned w) made → AllByRecursion (IsSigned (after s w move)) made
-    each [] all = tt
-    each (bytes ∷ rest) all = (stays_signed s w move bytes all.0, each rest all.1)
+all_stay s w (move ∷ moves) made all = all_stay s (after s w move) moves made (all_each (IsSigned w) (IsSigned (after s w move)) made (stays_signed s w move) all)
 
 -- ---- what single commands do
 
@@ -86,11 +60,7 @@ no_own : (s : Setup) (scene : Scene) → IsOwn s scene nothing
 no_own s scene = record { closed = tt; made = tt }
 
 own_if_open : (s : Setup) (scene : Scene) (who : Device) (act : PlainClient → Effect) → ((c : PlainClient) → scene.world.clients who ≡ Some c → IsOwn s scene (act c)) → IsOwn s scene (if_open (scene.world.clients who) act)
-own_if_open s scene who act each = go (scene.world.clients who) each
-  where
-    go : (o : Option PlainClient) → ((c : PlainClient) → o ≡ Some c → IsOwn s scene (act c)) → IsOwn s scene (if_open o act)
-    go None each = no_own s scene
-    go (Some c) each = each c refl
+own_if_open s scene who act each = if_open_has (IsOwn s scene) (scene.world.clients who) act (no_own s scene) each
 
 own_event : {F : Type 0} (s : Setup) (scene : Scene) (who : Device) (fault : Option F) (event : Logged) → IsClosedMove s scene.world (Happen who event) → IsOwn s scene (adds who (logged_unless fault event))
 own_event s scene who None event closed = record { closed = (closed, tt); made = tt }
@@ -170,10 +140,6 @@ closed_append : (s : Setup) (w : World) (xs ys : List Move) → AreClosed s w xs
 closed_append s w [] ys a b = b
 closed_append s w (x ∷ xs) ys a b = (a.0, closed_append s (after s w x) xs ys a.1 b)
 
-signed_append : (w : World) (xs ys : List (List ℕ)) → AllByRecursion (IsSigned w) xs → AllByRecursion (IsSigned w) ys → AllByRecursion (IsSigned w) (xs ++ ys)
-signed_append w [] ys a b = b
-signed_append w (x ∷ xs) ys a b = (a.0, signed_append w xs ys a.1 b)
-
 -- whatever it sees, it makes no entry but by a client's submission
 abbrev pub AlwaysByClients : (Scene → Command) → Type 0
 AlwaysByClients command = (scene : Scene) → IsByClients (command scene)
@@ -189,7 +155,7 @@ closed_from s scene (command ∷ asked) by all =
     let own = own_act s scene (command scene) (by.0 scene) all in
     let world = after_all s scene.world act.moves in
     closed_append s scene.world act.moves (moves_from s (scenes.after s scene (command scene)) asked) own.closed
-    (closed_from s (scenes.after s scene (command scene)) asked by.1 (signed_append world scene.made act.entries (all_stay s scene.world act.moves scene.made all) own.made))
+    (closed_from s (scenes.after s scene (command scene)) asked by.1 (all_append (IsSigned world) scene.made act.entries (all_stay s scene.world act.moves scene.made all) own.made))
 
 openings_closed : (s : Setup) (w : World) (ds : List Device) → AreClosed s w (map (λ (who : Device). Open who first_ring) ds)
 openings_closed s w [] = tt

@@ -1,29 +1,14 @@
 -- Commands that act on one client, on the state and on the scene that it stands for.
-use Rattle.std.proofs.Common.{◌≡◌, ℕ, Bool, true, false, cond, List, [], ◌∷◌, ◌++◌, length, take, map, refl, sym, ap, ◌∙◌, subst, append-nil, Option, None, Some, option_map}
-use Rattle.std.specs.Prelude.{nat_le}
-use Rattle.sporc_memory.specs.MemoryDisk.{MemoryDiskModel}
-use Rattle.sporc_head.specs.declared.refusal.Refusal.{Refusal}
-use Rattle.sporc_client.specs.Answers.{journal_has_room, refusal_of}
-use Rattle.sporc_client.specs.ClientModel.{ClientModel, state_of}
-use Rattle.sporc_client.specs.Log.{Logged}
-use Rattle.sporc_client.specs.PlainClient.{Opening, PlainClient}
-use Rattle.sporc_client.specs.Run.{Setup, Move, Give, Restart, given}
-use Rattle.sporc_client.specs.Step.{accepted, log_of_entries, replay, replay_from}
-use Rattle.sporc_client.proofs.Worlds.{restarted}
-use Rattle.sporc_client.proofs.Calls.{replay_append, replay_opening}
-use Rattle.sporc_member.specs.declared.device.Device.{Device}
-use Rattle.sporc_script.specs.declared.play_line.PlayLine.{PlayLine}
-use Rattle.sporc_play.specs.declared.seat.Seat.{Seat}
-use Rattle.sporc_play.specs.declared.state.PlayState.{PlayState}
-use Rattle.sporc_play.specs.Cast.{setup_of}
-use Rattle.sporc_play.specs.Logs.{accepted_event, events_by, first_accepts, given_by, given_events}
-use Rattle.sporc_play.specs.Report.{line_by}
-use Rattle.sporc_play.specs.Scene.{Scene, adds, gives, if_open, moved, nothing, restarts}
-use Rattle.sporc_play.specs.Seats.{IsSeatAt, client_restarted, plain_in, seat_logged, seat_restarted}
-use Rattle.sporc_play.specs.Stage.{IsSeatOf, StandsFor}
-use Rattle.sporc_play.proofs.Moved.{AreOf, client_given, client_restarted as client_goes_back, happens_of, log_moved}
+use Rattle.std.proofs.Common.{◌≡◌, ℕ, Bool, true, false, cond, List, [], ◌∷◌, ◌++◌, length, take, map, refl, sym, ap, ◌∙◌, subst, append-nil, Option, None, Some, arith}
+use Rattle.sporc_play.proofs.Common.{nat_le, MemoryDiskModel, Refusal, journal_has_room, refusal_of, ClientModel, state_of, Logged, Opening, PlainClient, Setup, Give, Restart, given}
+use Rattle.sporc_play.proofs.Common.{log_of_entries, replay, replay_from, restarted, replay_append, replay_opening, Device, PlayLine, Seat, PlayState, setup_of, accepted_event, events_by}
+use Rattle.sporc_play.proofs.Common.{first_accepts, given_by, given_events, line_by, Scene, adds, if_open, nothing, restarts, IsSeatAt, plain_in, seat_logged, seat_restarted}
+use Rattle.sporc_play.proofs.Common.{IsSeatOf, StandsFor, Effect}
+use Rattle.sporc_play.specs.Scene.{gives, moved}
+use Rattle.sporc_play.proofs.Moved.{client_given, client_restarted as client_goes_back, happens_of, log_moved, client_happens, log_happens, if_open_has}
 use Rattle.sporc_play.proofs.Places.{at_place}
-use Rattle.sporc_play.proofs.Seating.{ChangesSeat, Does, client_moved, same_for_all, same_for_others, seat_adds, seat_kept, stands_seat, with_client}
+use Rattle.sporc_play.proofs.Seating.{ChangesSeat, IsQuiet, Leads, LeadsTo, acted, seat_acted, seat_acts, stands_acted}
+use Rattle.sporc_play.specs.Logs.{restarted_log}
 
 -- ---- the seat that a command names
 
@@ -39,144 +24,85 @@ pub told : (script : List PlayLine) (scene : Scene) (state : PlayState) (i : ℕ
 told script scene state i who seat line old new stands at is =
     (line_by who (plain_in seat) line, ap (λ (o : Option PlainClient). line_by who o line) (sym (client_there script scene state i who seat stands at)), is)
 
+-- ---- what one client does
+
+acted_stands : (script : List PlayLine) (scene : Scene) (state state' : PlayState) (i : ℕ) (who : Device) (seat new : Seat) (act : PlainClient → Effect) (log_of : ClientModel MemoryDiskModel → List Logged) → StandsFor script scene state
+    → IsSeatAt state.seats.items i who seat → ((c : PlainClient) → IsQuiet who (act c)) → LeadsTo (setup_of script) scene act log_of who → new ≡ seat_acted log_of seat → ChangesSeat i new state state'
+    → map (λ bytes. bytes.items) state'.made.items ≡ map (λ bytes. bytes.items) state.made.items → StandsFor script (acted (setup_of script) scene (if_open (scene.world.clients who) act)) state'
+acted_stands script scene state state' i who seat new act log_of stands at quiet leads is changed same =
+    let s = setup_of script in
+    let seats : IsSeatOf s (acted s scene (if_open (scene.world.clients seat.device) act)) new =
+    subst (IsSeatOf s (acted s scene (if_open (scene.world.clients seat.device) act))) (sym is)
+    (seat_acts s scene seat act log_of (seat_there script scene state i who seat stands at) (subst (LeadsTo s scene act log_of) (sym at.own) leads)) in
+    stands_acted script scene state state' i who seat new (if_open (scene.world.clients who) act) stands at
+    (if_open_has (IsQuiet who) (scene.world.clients who) act (record { moves = tt; entries = refl }) (λ c at. quiet c))
+    (subst (λ (d : Device). IsSeatOf s (acted s scene (if_open (scene.world.clients d) act)) new) at.own seats) (ap (λ (x : Seat). x.device) is) changed same
+
 -- ---- what adds events
 
-no_entries : (who : Device) (events : PlainClient → List Logged) (o : Option PlainClient) → (if_open o (λ c. adds who (events c))).entries ≡ []
-no_entries who events None = refl
-no_entries who events (Some c) = refl
-
-of_device : (who : Device) (events : PlainClient → List Logged) (o : Option PlainClient) → AreOf who (if_open o (λ c. adds who (events c))).moves
-of_device who events None = tt
-of_device who events (Some c) = happens_of who (events c)
-
-pub adds_stand : (script : List PlayLine) (scene scene' : Scene) (state state' : PlayState) (i : ℕ) (who : Device) (seat : Seat) (events : PlainClient → List Logged) → StandsFor script scene state → IsSeatAt state.seats.items i who seat
-    → Does (setup_of script) scene (if_open (scene.world.clients who) (λ c. adds who (events c))).moves scene' → scene'.made ≡ scene.made ++ (if_open (scene.world.clients who) (λ c. adds who (events c))).entries
-    → ChangesSeat i (seat_logged events seat) state state' → map (λ bytes. bytes.items) state'.made.items ≡ map (λ bytes. bytes.items) state.made.items → StandsFor script scene' state'
-adds_stand script scene scene' state state' i who seat events stands at does made changed same =
-    let s = setup_of script in
-    let o = scene.world.clients who in
-    stands_seat script scene scene' state state' i who seat (seat_logged events seat) stands at
-    (λ other differs. same_for_others s scene scene' (if_open o (λ c. adds who (events c))).moves who other does (of_device who events o) differs)
-    (seat_adds s scene scene' seat events (seat_there script scene state i who seat stands at) (subst (λ (device : Device). Does s scene (if_open (scene.world.clients device) (λ c. adds device (events c))).moves scene') (sym at.own) does))
-    refl changed
-    (same ∙ stands.made ∙ sym (append-nil scene.made) ∙ ap (λ (es : List (List ℕ)). scene.made ++ es) (sym (no_entries who events o)) ∙ sym made)
+pub adds_stand : (script : List PlayLine) (scene : Scene) (state state' : PlayState) (i : ℕ) (who : Device) (seat new : Seat) (events : PlainClient → List Logged) → StandsFor script scene state → IsSeatAt state.seats.items i who seat
+    → new ≡ seat_logged events seat → ChangesSeat i new state state' → map (λ bytes. bytes.items) state'.made.items ≡ map (λ bytes. bytes.items) state.made.items
+    → StandsFor script (acted (setup_of script) scene (if_open (scene.world.clients who) (λ c. adds who (events c)))) state'
+adds_stand script scene state state' i who seat new events stands at is changed same =
+    acted_stands script scene state state' i who seat new (λ c. adds who (events c)) (λ c. c.log ++ events (state_of c)) stands at
+    (λ c. record { moves = happens_of who (events c); entries = refl })
+    (λ c there log. record {
+      client = client_happens (setup_of script) scene.world who (state_of c) (events (state_of c)) there ∙ ap Some (replay_append c.opening c.log (events (state_of c)));
+      logs = log_happens (setup_of script) scene.world scene.logs who (events (state_of c)) ∙ ap (λ (l : List Logged). l ++ events (state_of c)) log;
+    }) is changed same
 
 -- ---- entries that are handed out
 
-outcome : PlainClient → List ℕ → Bool → Option Refusal → PlainClient
-outcome c bytes room (Some refusal) = c
-outcome c bytes room None = cond room (accepted c bytes) c
+given_is : (c : PlainClient) (bytes : List ℕ) (r : Option Refusal) → given c bytes r ≡ replay_from c (accepted_event bytes (journal_has_room c) r)
+given_is c bytes r = grind arith
 
-given_is : (c : PlainClient) (bytes : List ℕ) (r : Option Refusal) → given c bytes r ≡ outcome c bytes (journal_has_room c) r
-unfolding outcome
-given_is c bytes (Some refusal) = refl
-given_is c bytes None = refl
+give_quiet : (who : Device) (position : ℕ) (entry : Option (List ℕ)) → IsQuiet who (gives who position entry)
+give_quiet who position None = record { moves = tt; entries = refl }
+give_quiet who position (Some bytes) = record { moves = (refl, tt); entries = refl }
 
-outcome_is : (c : PlainClient) (bytes : List ℕ) (room : Bool) (r : Option Refusal) → outcome c bytes room r ≡ replay_from c (accepted_event bytes room r)
-unfolding outcome
-outcome_is c bytes true None = refl
-outcome_is c bytes false None = refl
-outcome_is c bytes true (Some refusal) = refl
-outcome_is c bytes false (Some refusal) = refl
+give_leads : (s : Setup) (scene : Scene) (who : Device) (position : ℕ) (entry : Option (List ℕ)) → LeadsTo s scene (λ c. gives who position entry) (λ c. c.log ++ given_by position entry (state_of c)) who
+give_leads s scene who position None c there log =
+    record { client = there ∙ ap (λ (l : List Logged). Some (replay c.opening l)) (sym (append-nil c.log)); logs = log ∙ sym (append-nil c.log) }
+give_leads s scene who position (Some bytes) c there log =
+    let added = given_events (state_of c) position bytes in
+    record {
+      client = client_given s scene.world who position (state_of c) bytes there
+          ∙ ap Some (given_is (state_of c) bytes (refusal_of (state_of c) position bytes) ∙ replay_append c.opening c.log added);
+      logs = log_moved s scene.world scene.logs (Give who position bytes)
+          ∙ ap (λ (o : Option PlainClient). scene.logs who ++ events_by (λ c. given_events c position bytes) o) there ∙ ap (λ (l : List Logged). l ++ added) log;
+    }
 
--- the moves of an entry that is handed out, or of none
-abbrev give_moves : Device → ℕ → Option (List ℕ) → Option PlainClient → List Move
-give_moves who position entry o = (if_open o (λ c. gives who position entry)).moves
-
-give_none : (who : Device) (position : ℕ) (entry : Option (List ℕ)) (o : Option PlainClient) → (if_open o (λ c. gives who position entry)).entries ≡ []
-give_none who position entry None = refl
-give_none who position None (Some c) = refl
-give_none who position (Some bytes) (Some c) = refl
-
-give_device : (who : Device) (position : ℕ) (entry : Option (List ℕ)) (o : Option PlainClient) → AreOf who (give_moves who position entry o)
-give_device who position entry None = tt
-give_device who position None (Some c) = tt
-give_device who position (Some bytes) (Some c) = (refl, tt)
-
-seat_given : (s : Setup) (scene scene' : Scene) (seat : Seat) (position : ℕ) (entry : Option (List ℕ)) → IsSeatOf s scene seat
-    → Does s scene (give_moves seat.device position entry (scene.world.clients seat.device)) scene' → IsSeatOf s scene' (seat_logged (given_by position entry) seat)
-seat_given s scene scene' seat position entry is does = go seat.client entry is does
-  where
-    go : (o : Option (ClientModel MemoryDiskModel)) (entry : Option (List ℕ)) → IsSeatOf s scene (with_client seat o) → Does s scene (give_moves seat.device position entry (scene.world.clients seat.device)) scene'
-        → IsSeatOf s scene' (seat_logged (given_by position entry) (with_client seat o))
-    go None entry is does = seat_kept s scene scene' (with_client seat None) (same_for_all s scene scene' seat.device (subst (λ (o : Option PlainClient). Does s scene (give_moves seat.device position entry o) scene') is.client does)) is
-    go (Some c) None is does =
-        client_moved s scene scene' [] seat c (c.log ++ []) is (subst (λ (o : Option PlainClient). Does s scene (give_moves seat.device position None o) scene') is.client does)
-        (is.client ∙ ap (λ (l : List Logged). Some (replay c.opening l)) (sym (append-nil c.log)))
-        (is.holds.log ∙ sym (append-nil c.log))
-    go (Some c) (Some bytes) is does =
-        let added = given_events (state_of c) position bytes in
-        let by_client : given (state_of c) bytes (refusal_of (state_of c) position bytes) ≡ replay c.opening (c.log ++ added) =
-        given_is (state_of c) bytes (refusal_of (state_of c) position bytes)
-        ∙ outcome_is (state_of c) bytes (journal_has_room (state_of c)) (refusal_of (state_of c) position bytes)
-        ∙ replay_append c.opening c.log added in
-        client_moved s scene scene' (Give seat.device position bytes ∷ []) seat c (c.log ++ added) is
-        (subst (λ (o : Option PlainClient). Does s scene (give_moves seat.device position (Some bytes) o) scene') is.client does)
-        (client_given s scene.world seat.device position (state_of c) bytes is.client ∙ ap Some by_client)
-        (log_moved s scene.world scene.logs (Give seat.device position bytes)
-        ∙ ap (λ (o : Option PlainClient). scene.logs seat.device ++ events_by (λ c. given_events c position bytes) o) is.client
-        ∙ ap (λ (l : List Logged). l ++ added) is.holds.log)
-
-pub give_stands : (script : List PlayLine) (scene scene' : Scene) (state state' : PlayState) (i : ℕ) (who : Device) (position : ℕ) (entry : Option (List ℕ)) (seat : Seat) → StandsFor script scene state → IsSeatAt state.seats.items i who seat
-    → Does (setup_of script) scene (if_open (scene.world.clients who) (λ c. gives who position entry)).moves scene' → scene'.made ≡ scene.made ++ (if_open (scene.world.clients who) (λ c. gives who position entry)).entries
-    → ChangesSeat i (seat_logged (given_by position entry) seat) state state' → map (λ bytes. bytes.items) state'.made.items ≡ map (λ bytes. bytes.items) state.made.items → StandsFor script scene' state'
-give_stands script scene scene' state state' i who position entry seat stands at does made changed same =
-    let s = setup_of script in
-    let o = scene.world.clients who in
-    stands_seat script scene scene' state state' i who seat (seat_logged (given_by position entry) seat) stands at
-    (λ other differs. same_for_others s scene scene' (give_moves who position entry o) who other does (give_device who position entry o) differs)
-    (seat_given s scene scene' seat position entry (seat_there script scene state i who seat stands at) (subst (λ (device : Device). Does s scene (give_moves device position entry (scene.world.clients device)) scene') (sym at.own) does))
-    refl changed
-    (same ∙ stands.made ∙ sym (append-nil scene.made) ∙ ap (λ (es : List (List ℕ)). scene.made ++ es) (sym (give_none who position entry o)) ∙ sym made)
+pub give_stands : (script : List PlayLine) (scene : Scene) (state state' : PlayState) (i : ℕ) (who : Device) (position : ℕ) (entry : Option (List ℕ)) (seat new : Seat) → StandsFor script scene state → IsSeatAt state.seats.items i who seat
+    → new ≡ seat_logged (given_by position entry) seat → ChangesSeat i new state state' → map (λ bytes. bytes.items) state'.made.items ≡ map (λ bytes. bytes.items) state.made.items
+    → StandsFor script (acted (setup_of script) scene (if_open (scene.world.clients who) (λ c. gives who position entry))) state'
+give_stands script scene state state' i who position entry seat new stands at is changed same =
+    acted_stands script scene state state' i who seat new (λ c. gives who position entry) (λ c. c.log ++ given_by position entry (state_of c)) stands at
+    (λ c. give_quiet who position entry) (give_leads (setup_of script) scene who position entry) is changed same
 
 -- ---- going back
 
-restart_none : (who : Device) (k : ℕ) (o : Option PlainClient) → (if_open o (restarts who k)).entries ≡ []
-restart_none who k None = refl
-restart_none who k (Some c) = go (nat_le k (length c.entries))
+restart_quiet : (who : Device) (k : ℕ) (c : PlainClient) → IsQuiet who (restarts who k c)
+restart_quiet who k c = go (nat_le k (length c.entries))
   where
-    go : (b : Bool) → (cond b (moved (Restart who k ∷ [])) nothing).entries ≡ []
-    go true = refl
-    go false = refl
-
-restart_device : (who : Device) (k : ℕ) (o : Option PlainClient) → AreOf who (if_open o (restarts who k)).moves
-restart_device who k None = tt
-restart_device who k (Some c) = go (nat_le k (length c.entries))
-  where
-    go : (b : Bool) → AreOf who (cond b (moved (Restart who k ∷ [])) nothing).moves
-    go true = (refl, tt)
-    go false = tt
+    go : (b : Bool) → IsQuiet who (cond b (moved (Restart who k ∷ [])) nothing)
+    go true = record { moves = (refl, tt); entries = refl }
+    go false = record { moves = tt; entries = refl }
 
 back_is : (o : Opening) (log : List Logged) (k : ℕ) → restarted (replay o log) k ≡ replay o (log_of_entries (take k (replay o log).entries))
 back_is o log k = ap (λ (p : Opening). replay p (log_of_entries (take k (replay o log).entries))) (replay_opening o log)
 
-seat_goes_back : (s : Setup) (scene scene' : Scene) (seat : Seat) (k : ℕ) → IsSeatOf s scene seat
-    → Does s scene (if_open (scene.world.clients seat.device) (restarts seat.device k)).moves scene' → IsSeatOf s scene' (seat_restarted k seat)
-seat_goes_back s scene scene' seat k is does = go seat.client is
+restart_leads : (s : Setup) (scene : Scene) (who : Device) (k : ℕ) → LeadsTo s scene (restarts who k) (λ c. restarted_log c.log k (state_of c)) who
+restart_leads s scene who k c there log = go (nat_le k (length (state_of c).entries))
   where
-    M : Option PlainClient → List Move
-    M o = (if_open o (restarts seat.device k)).moves
+    go : (b : Bool) → Leads s scene who c (cond b (moved (Restart who k ∷ [])) nothing).moves (cond b (log_of_entries (take k (state_of c).entries)) c.log)
+    go true = record {
+      client = client_goes_back s scene.world who k (state_of c) there ∙ ap Some (back_is c.opening c.log k);
+      logs = log_moved s scene.world scene.logs (Restart who k) ∙ ap (λ (o : Option PlainClient). first_accepts o k) there;
+    }
+    go false = record { client = there; logs = log }
 
-    back : (c : ClientModel MemoryDiskModel) → IsSeatOf s scene (with_client seat (Some c)) → (b : Bool) → Does s scene (cond b (moved (Restart seat.device k ∷ [])) nothing).moves scene'
-        → IsSeatOf s scene' (with_client seat (Some (record c { log = cond b (log_of_entries (take k (state_of c).entries)) c.log })))
-    back c is true did =
-        client_moved s scene scene' (Restart seat.device k ∷ []) seat c (log_of_entries (take k (state_of c).entries)) is did
-        (client_goes_back s scene.world seat.device k (state_of c) is.client ∙ ap Some (back_is c.opening c.log k))
-        (log_moved s scene.world scene.logs (Restart seat.device k) ∙ ap (λ (o : Option PlainClient). first_accepts o k) is.client)
-    back c is false did = client_moved s scene scene' [] seat c c.log is did is.client is.holds.log
-
-    go : (o : Option (ClientModel MemoryDiskModel)) → IsSeatOf s scene (with_client seat o) → IsSeatOf s scene' (with_client seat (option_map (client_restarted k) o))
-    go None is = seat_kept s scene scene' (with_client seat None) (same_for_all s scene scene' seat.device (subst (λ (o : Option PlainClient). Does s scene (M o) scene') is.client does)) is
-    go (Some c) is = back c is (nat_le k (length (state_of c).entries)) (subst (λ (o : Option PlainClient). Does s scene (M o) scene') is.client does)
-
-pub restart_stands : (script : List PlayLine) (scene scene' : Scene) (state state' : PlayState) (i : ℕ) (who : Device) (k : ℕ) (seat : Seat) → StandsFor script scene state → IsSeatAt state.seats.items i who seat
-    → Does (setup_of script) scene (if_open (scene.world.clients who) (restarts who k)).moves scene' → scene'.made ≡ scene.made ++ (if_open (scene.world.clients who) (restarts who k)).entries
-    → ChangesSeat i (seat_restarted k seat) state state' → map (λ bytes. bytes.items) state'.made.items ≡ map (λ bytes. bytes.items) state.made.items → StandsFor script scene' state'
-restart_stands script scene scene' state state' i who k seat stands at does made changed same =
-    let s = setup_of script in
-    let o = scene.world.clients who in
-    stands_seat script scene scene' state state' i who seat (seat_restarted k seat) stands at
-    (λ other differs. same_for_others s scene scene' (if_open o (restarts who k)).moves who other does (restart_device who k o) differs)
-    (seat_goes_back s scene scene' seat k (seat_there script scene state i who seat stands at) (subst (λ (device : Device). Does s scene (if_open (scene.world.clients device) (restarts device k)).moves scene') (sym at.own) does))
-    refl changed
-    (same ∙ stands.made ∙ sym (append-nil scene.made) ∙ ap (λ (es : List (List ℕ)). scene.made ++ es) (sym (restart_none who k o)) ∙ sym made)
+pub restart_stands : (script : List PlayLine) (scene : Scene) (state state' : PlayState) (i : ℕ) (who : Device) (k : ℕ) (seat new : Seat) → StandsFor script scene state → IsSeatAt state.seats.items i who seat
+    → new ≡ seat_restarted k seat → ChangesSeat i new state state' → map (λ bytes. bytes.items) state'.made.items ≡ map (λ bytes. bytes.items) state.made.items
+    → StandsFor script (acted (setup_of script) scene (if_open (scene.world.clients who) (restarts who k))) state'
+restart_stands script scene state state' i who k seat new stands at is changed same =
+    acted_stands script scene state state' i who seat new (restarts who k) (λ c. restarted_log c.log k (state_of c)) stands at (restart_quiet who k) (restart_leads (setup_of script) scene who k) is changed same

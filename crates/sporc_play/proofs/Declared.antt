@@ -1,26 +1,12 @@
 -- What a line declares, and what there is then.
 use Rattle.std.proofs.Common.{◌≡◌, ℕ, List, [], ◌∷◌, ◌++◌, map, fold, refl, sym, ap, ◌∙◌, subst, append-nil, Option, None, Some}
-use Rattle.std.specs.Prelude.{filter_map}
-use Rattle.std.specs.List.{AllByRecursion, cons_option}
-use Rattle.std.proofs.lemmas.List.Elements.{filter_map-append}
-use Rattle.std.proofs.lemmas.List.Sums.{fold-append}
-use Rattle.sporc_member.specs.declared.device.Device.{Device}
-use Rattle.sporc_member.specs.declared.founder.Founder.{Founder}
-use Rattle.sporc_member.specs.Device.{first_device}
-use Rattle.sporc_member.specs.Lists.{insert_by}
-use Rattle.sporc_script.specs.declared.command.Command.{Command}
+use Rattle.sporc_play.proofs.Common.{filter_map, AllByRecursion, cons_option, filter_map-append, fold-append, Device, Founder, first_device, insert_by, Command, Tree, MemberRole, PlayLine, Rogue, Seat}
+use Rattle.sporc_play.proofs.Common.{declared_member, device_by, founder_by, founder_of, public_of, rogue_by, unpaired_by, HasRogue, HasSat, HaveDeclared, IsFresh, IsFreshRogue, IsNamed, founders_by}
+use Rattle.sporc_play.proofs.Common.{rogue_devices, seated}
 use Rattle.sporc_script.specs.declared.command.Command.TheVariants as commands
 use Rattle.sporc_script.specs.declared.command.Pair.{Pair}
-use Rattle.sporc_script.specs.declared.command.Tree.{Tree}
-use Rattle.sporc_script.specs.declared.member_role.MemberRole.{MemberRole}
-use Rattle.sporc_script.specs.declared.play_line.PlayLine.{PlayLine}
 use Rattle.sporc_play.specs.declared.cast.Cast.{Cast}
 use Rattle.sporc_play.specs.declared.cast.Declared.{Declared}
-use Rattle.sporc_play.specs.declared.seat.Rogue.{Rogue}
-use Rattle.sporc_play.specs.declared.seat.Seat.{Seat}
-use Rattle.sporc_play.specs.Cast.{declared_member, device_by, founder_by, founder_of, public_of, rogue_by, unpaired_by}
-use Rattle.sporc_play.specs.Opening.{HasRogue, HasSat, HaveDeclared, IsFresh, IsFreshRogue, IsNamed, founders_by}
-use Rattle.sporc_play.specs.Seats.{rogue_devices, seated}
 
 all_push : {X : Type 0} (P : X → Type 0) (xs : List X) (x : X) → AllByRecursion P xs → P x → AllByRecursion P (xs ++ x ∷ [])
 all_push P [] x all p = (p, tt)

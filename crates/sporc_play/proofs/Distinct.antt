@@ -1,10 +1,7 @@
 -- Items of which no two are one, by what each differs from.
-use Rattle.std.proofs.Common.{◌≡◌, ◌≢◌, Bool, true, false, List, [], ◌∷◌, refl, subst, sym}
-use Rattle.std.specs.Prelude.{⊤}
-use Rattle.std.specs.List.{AllByRecursion, IsDistinct}
-use Rattle.sporc_member.specs.declared.device.Device.{Device}
-use Rattle.sporc_member.specs.Device.{same_device}
-use Rattle.sporc_member.proofs.SameDevice.{one_same, same_one}
+use Rattle.std.proofs.Common.{◌≡◌, ◌≢◌, true, false, List, [], ◌∷◌, subst, sym, arith}
+use Rattle.sporc_play.proofs.Common.{⊤, AllByRecursion, Device, same_device, one_same, same_one}
+use Rattle.std.specs.List.{IsDistinct}
 
 abbrev pub IsNotIn : {A : Type 0} → A → List A → Type 0
 IsNotIn x [] = ⊤
@@ -17,11 +14,7 @@ AreDistinct (x ∷ xs) = IsNotIn x xs × AreDistinct xs
 -- ---- devices
 
 pub same_or_not : (a b : Device) → a ≢ b → same_device a b ≡ false
-same_or_not a b differs = go (same_device a b) refl
-  where
-    go : (same : Bool) → same_device a b ≡ same → same ≡ false
-    go true is = absurd (differs (same_one a b is))
-    go false is = refl
+same_or_not a b differs = grind (arith, same_one a b)
 
 avoided : (d : Device) (ds : List Device) → IsNotIn d ds → AllByRecursion (λ e. same_device d e ≡ false) ds
 avoided d [] h = tt

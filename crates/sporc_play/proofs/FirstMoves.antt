@@ -1,50 +1,28 @@
 -- The moves by which the founders open their clients are a run.
-use Rattle.std.proofs.Common.{◌≡◌, ℕ, suc, ◌^◌, ◌<◌, Bool, true, false, cond, eqb, List, [], ◌∷◌, ◌++◌, length, map, refl, sym, ap, ◌∙◌, subst, arith, Option, Some, IfSome, inl, inr}
-use Rattle.std.specs.Prelude.{Contains, IsSomeAnd, filter_map, if◌then◌else◌}
-use Rattle.std.specs.Cmp.{nat_cmp_total, unsigned_tied}
-use Rattle.std.specs.FinMap.{empty, get, get-empty, get-insert}
-use Rattle.std.specs.List.{AllByRecursion}
-use Rattle.std.specs.Ordering.{nat_cmp, eq_by_cmp}
-use Rattle.sha2.proofs.Facts256.{length-sha256}
-use Rattle.sporc_hash.specs.Chain.{commitment_of}
-use Rattle.sporc_epoch.specs.Keys.{Keys}
-use Rattle.sporc_client.specs.Run.{Setup, Move, World, IsRun, Open, after, start}
-use Rattle.sporc_client.specs.Typed.{AreEpochKeys, IsTypedMove, IsTypedRun}
+use Rattle.std.proofs.Common.{◌≡◌, ℕ, suc, ◌^◌, ◌<◌, Bool, true, cond, eqb, List, [], ◌∷◌, ◌++◌, length, map, refl, sym, ap, ◌∙◌, subst, arith, Option, Some, inl, inr}
+use Rattle.sporc_play.proofs.Common.{Contains, IsSomeAnd, filter_map, if◌then◌else◌, nat_cmp_total, unsigned_tied, empty, get, get-insert, AllByRecursion, nat_cmp, eq_by_cmp, length-sha256}
+use Rattle.sporc_play.proofs.Common.{commitment_of, Keys, Setup, Move, World, IsRun, Open, start, AreEpochKeys, IsTypedMove, IsTypedRun, Device, Founder, first_device, InRange, Command}
+use Rattle.sporc_play.proofs.Common.{PlayLine, device_by, first_ring, founders_of, has_admin, opener_by, openers_by, first_key, opening_moves, openings}
+use Rattle.sporc_client.specs.Run.{after}
 use Rattle.sporc_client.specs.WellFormed.{IsWellFormed}
-use Rattle.sporc_member.specs.declared.device.Device.{Device}
-use Rattle.sporc_member.specs.declared.founder.Founder.{Founder}
-use Rattle.sporc_member.specs.Device.{first_device}
-use Rattle.sporc_script.specs.Commands.{InRange}
-use Rattle.sporc_script.specs.Grammar.{IsPlayScript}
-use Rattle.sporc_script.specs.declared.command.Command.{Command}
 use Rattle.sporc_script.specs.declared.command.Command.TheVariants as commands
-use Rattle.sporc_script.specs.declared.play_line.PlayLine.{PlayLine}
-use Rattle.sporc_play.specs.Cast.{device_by, first_ring, founders_of, has_admin, opener_by, openers_by, setup_of}
-use Rattle.sporc_play.specs.Derived.{first_key}
-use Rattle.sporc_play.specs.Scene.{opening_moves, openings}
-use Rattle.sporc_play.proofs.Founders.{are_declared}
+use Rattle.sporc_play.specs.Cast.{setup_of}
+use Rattle.sporc_play.proofs.Founders.{lines_declared}
 use Rattle.sporc_play.proofs.Openings.{opener_device}
 use Rattle.sporc_play.proofs.OwnKeys.{half_len}
-use Rattle.sporc_play.proofs.Places.{among_cases, among_here, among_more}
-use Rattle.sporc_play.proofs.Scripts.{Follows, script_follows}
+use Rattle.sporc_play.proofs.Places.{among_cases, among_here, among_more, all_mapped}
+use Rattle.sporc_play.proofs.Scripts.{Follows}
+use Rattle.sporc_play.proofs.Runs.{first_ring_has}
 
 -- ---- the first ring
 
-abbrev no_keys : Keys
-no_keys = empty
-
 first_keys : AreEpochKeys first_ring
-first_keys epoch =
-    subst (λ (o : Option (List ℕ)). IfSome o (λ key. length key ≡ 32)) (sym (get-insert nat_cmp_total no_keys 0 first_key epoch)) (go (eq_by_cmp nat_cmp epoch 0))
-  where
-    go : (b : Bool) → IfSome (cond b (Some first_key) (get no_keys epoch)) (λ key. length key ≡ 32)
-    go true = length-sha256 _
-    go false = subst (λ (o : Option (List ℕ)). IfSome o (λ key. length key ≡ 32)) (sym (get-empty nat_cmp epoch)) tt
+first_keys = first_ring_has (λ key. length key ≡ 32) (length-sha256 _)
 
 first_there : get first_ring 0 ≡ Some first_key
 first_there =
     let same : eq_by_cmp nat_cmp 0 0 ≡ true = unsigned_tied 0 0 ∙ zero_is in
-    get-insert nat_cmp_total no_keys 0 first_key 0 ∙ ap (λ (b : Bool). cond b (Some first_key) (get no_keys 0)) same
+    let none : Keys = empty in get-insert nat_cmp_total none 0 first_key 0 ∙ ap (λ (b : Bool). cond b (Some first_key) (get none 0)) same
   where
     zero_is : eqb 0 0 ≡ true
     zero_is = refl
@@ -62,16 +40,15 @@ all_of : {X : Type 0} (P : X → Type 0) (xs : List X) → ((x : X) → Contains
 all_of P [] each = tt
 all_of P (x ∷ xs) each = (each x (0, omega arith, refl), all_of P xs (λ y is. each y (suc is.0, omega (arith, is.1), is.2)))
 
-pub openings_run : (s : Setup) (w : World) (ds : List Device) → AllByRecursion (λ who. Contains s.devices who) ds → commitment_of s.genesis.document 0 first_key ≡ s.genesis.commitment → IsRun s w (map (λ (who : Device). Open who first_ring) ds)
+openings_run : (s : Setup) (w : World) (ds : List Device) → AllByRecursion (λ who. Contains s.devices who) ds → commitment_of s.genesis.document 0 first_key ≡ s.genesis.commitment → IsRun s w (map (λ (who : Device). Open who first_ring) ds)
 openings_run s w [] all meets = tt
 openings_run s w (who ∷ ds) all meets = (
   (all.0, subst (λ (o : Option (List ℕ)). IsSomeAnd o (λ k. commitment_of s.genesis.document 0 k ≡ s.genesis.commitment)) (sym first_there) meets),
   openings_run s (after s w (Open who first_ring)) ds all.1 meets,
 )
 
-pub openings_typed : (ds : List Device) → AllByRecursion IsTypedMove (map (λ (who : Device). Open who first_ring) ds)
-openings_typed [] = tt
-openings_typed (who ∷ ds) = (first_keys, openings_typed ds)
+openings_typed : (ds : List Device) → AllByRecursion IsTypedMove (map (λ (who : Device). Open who first_ring) ds)
+openings_typed ds = all_mapped IsTypedMove (λ (who : Device). Open who first_ring) ds (λ who. first_keys)
 
 -- ---- the setup
 
@@ -91,30 +68,30 @@ device_small before (l ∷ ls) who all is = elim (among_cases who (device_by l.c
     own (commands.Device d) fits is = let same : d ≡ who = cc in subst IsSmall same (fits.0.1, fits.1.1)
     own c fits is = absurd cc
 
-well_formed : (text : List ℕ) (script : List PlayLine) → IsPlayScript text script → has_admin script ≡ true → IsWellFormed (setup_of script)
+well_formed : (script : List PlayLine) → Follows [] script → has_admin script ≡ true → IsWellFormed (setup_of script)
 unfolding setup_of
-well_formed text script is founded = record {
-  genesis = (are_declared text script is).genesis founded;
-  devices = λ who among. device_small [] script who (script_follows text script is) among;
+well_formed script all founded = record {
+  genesis = (lines_declared script all).genesis founded;
+  devices = λ who among. device_small [] script who all among;
   identifiers = λ who among. half_len 2 who.member who.number;
 }
 
-pub commits : (script : List PlayLine) → commitment_of (setup_of script).genesis.document 0 first_key ≡ (setup_of script).genesis.commitment
+commits : (script : List PlayLine) → commitment_of (setup_of script).genesis.document 0 first_key ≡ (setup_of script).genesis.commitment
 unfolding setup_of
 commits script = refl
 
-pub among_devices : (script : List PlayLine) → AllByRecursion (λ who. Contains (setup_of script).devices who) (openers_by (founders_of script) script)
+among_devices : (script : List PlayLine) → AllByRecursion (λ who. Contains (setup_of script).devices who) (openers_by (founders_of script) script)
 unfolding setup_of
 among_devices script =
     let fs = founders_of script in
     all_of (λ (who : Device). Contains (filter_map (λ (l : PlayLine). device_by l.command) script) who) (openers_by fs script) (λ who is. openers_in fs who script is)
 
-pub first_run : (text : List ℕ) (script : List PlayLine) → IsPlayScript text script → has_admin script ≡ true → IsTypedRun (setup_of script) (opening_moves script)
-first_run text script is founded =
+pub first_run : (script : List PlayLine) → Follows [] script → has_admin script ≡ true → IsTypedRun (setup_of script) (opening_moves script)
+first_run script all founded =
     let s = setup_of script in
     let fs = founders_of script in
     let run : IsTypedRun s (openings fs script) = record {
-      setup = well_formed text script is founded;
+      setup = well_formed script all founded;
       typed = openings_typed (openers_by fs script);
       run = openings_run s start (openers_by fs script) (among_devices script) (commits script);
     } in

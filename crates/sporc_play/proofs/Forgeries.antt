@@ -1,63 +1,32 @@
 -- What a rogue's entry holds, and how long it is.
-use Rattle.std.proofs.Common.{◌≡◌, ℕ, suc, ◌+◌, ◌*◌, ◌<◌, ◌≤◌, ◌^◌, Bool, true, false, cond, eqb, ltb, not, List, [], ◌∷◌, ◌++◌, length, leb, take, drop, map, filter, fold, flat_map, Option, Some, None, refl, ap, sym, ◌∙◌, arith, length-append}
-use Rattle.std.proofs.lemmas.Bool.{le-leb}
-use Rattle.std.specs.Prelude.{Result, Ok, Err, is_none, option_map}
-use Rattle.std.proofs.lemmas.List.{length-map}
+use Rattle.std.proofs.Common.{◌≡◌, ℕ, ◌+◌, ◌*◌, ◌<◌, ◌≤◌, ◌^◌, Bool, true, false, cond, eqb, ltb, not, List, [], ◌∷◌, ◌++◌, length, leb, take, drop, map, filter, fold, flat_map, Option, Some, None, refl, ap, sym, ◌∙◌, arith, length-append}
+use Rattle.sporc_play.proofs.Common.{le-leb, Result, Ok, Err, is_none, option_map, length-map, w16, to_be_bytes, AllByRecursion, cons_option, nat_cmp, eq_by_cmp, nat_cmp_total, unsigned_tied, empty}
+use Rattle.sporc_play.proofs.Common.{get, get-insert, length-sha256, LeafFault, LmsPrivate, height_of, mask_of, MAX_MEMBERS, MemberChange, first_device, role_code_of, Roster, after_change}
+use Rattle.sporc_play.proofs.Common.{change_fault_of, numbers_of, ChangeBody, Entry, Genesis, Header, Wrap, change_bytes, wrap_bytes, entry_bytes, signed_string, IsGenesis, fits_version}
+use Rattle.sporc_play.proofs.Common.{Keys, previous_stream, stream_of, count_of, epoch_of, hash_of, roster_of, Good, Kit, PlainClient, Setup, Forgery, Suffix, pair_key, random_of}
+use Rattle.sporc_play.proofs.Common.{IsSmallBody, base_by, derived_pairs, device_in, epoch_by, first_flipped, forged_body, forged_change, forged_header, forged_sealing, key_there, kind_of, number_by}
+use Rattle.sporc_play.proofs.Common.{sealed_for, spoiled, unsigned_by, value_at, version_by, wrap_flipped, leaf_after, IsTrue, AreDrawn}
 use Rattle.std.proofs.lemmas.List.Concat.{flat_map-cons}
-use Rattle.std.specs.Int.{w16, to_be_bytes}
-use Rattle.std.specs.List.{AllByRecursion, cons_option}
-use Rattle.std.specs.Ordering.{nat_cmp, eq_by_cmp}
-use Rattle.std.specs.Cmp.{nat_cmp_total, unsigned_tied}
 use Rattle.std.proofs.lemmas.Bool.Decides.{nat_tests}
-use Rattle.std.specs.FinMap.{empty, get, get-insert}
-use Rattle.sha2.proofs.Facts256.{length-sha256}
-use Rattle.lms_leaf.specs.declared.faults.LeafFault.{LeafFault}
 use Rattle.lms_leaf.specs.declared.faults.LeafFault.TheVariants.{Exhausted}
-use Rattle.lms_tree.specs.LmsPrivate.{LmsPrivate}
-use Rattle.lms_tree.specs.LmsType.{height_of}
 use Rattle.lms_tree.specs.Signatures.{lms_signature_of}
-use Rattle.sporc_cipher.specs.Mask.{mask_of}
 use Rattle.sporc_cipher.proofs.Stream.{length-mask_from}
-use Rattle.sporc_member.specs.declared.device.TheConstants.{FIRST_DEVICE}
-use Rattle.sporc_member.specs.declared.limits.TheConstants.{MAX_MEMBERS}
-use Rattle.sporc_member.specs.declared.change.Change.{Change as MemberChange}
 use Rattle.sporc_member.specs.declared.change.Change.TheVariants as changes
 use Rattle.sporc_member.specs.declared.change.ChangeFault.{ChangeFault}
-use Rattle.sporc_member.specs.Device.{first_device}
-use Rattle.sporc_member.specs.Role.{role_code_of}
-use Rattle.sporc_member.specs.Roster.{Roster, after_change, change_fault_of, numbers_of}
-use Rattle.sporc_entry.specs.declared.change.ChangeBody.{ChangeBody}
-use Rattle.sporc_entry.specs.declared.entry.Entry.{Entry}
-use Rattle.sporc_entry.specs.declared.genesis.Genesis.{Genesis}
-use Rattle.sporc_entry.specs.declared.header.Header.{Header}
-use Rattle.sporc_entry.specs.declared.wrap.Wrap.{Wrap}
-use Rattle.sporc_entry.specs.ChangeBody.{change_body_bytes, change_bytes, wrap_bytes}
-use Rattle.sporc_entry.specs.Entry.{entry_bytes, signed_string}
-use Rattle.sporc_entry.specs.Genesis.{IsGenesis}
-use Rattle.sporc_entry.specs.Version.{fits_version, names_device, version_of}
-use Rattle.sporc_epoch.specs.Keys.{Keys}
+use Rattle.sporc_entry.specs.ChangeBody.{change_body_bytes}
 use Rattle.sporc_epoch.specs.declared.fault.SealFault.TheVariants.{NoPairKey}
 use Rattle.sporc_epoch.specs.Sealing.{Sealing, body_sealed, change_sealed, least_of, least_unpaired, wraps_sealed}
-use Rattle.sporc_epoch.specs.Streams.{previous_stream, stream_of}
 use Rattle.sporc_epoch.proofs.SpelledBodies.{wraps_few}
-use Rattle.sporc_head.specs.History.{count_of, epoch_of, hash_of, roster_of}
-use Rattle.sporc_line.specs.Good.{Good}
-use Rattle.sporc_line.specs.Kit.{Kit}
-use Rattle.sporc_client.specs.PlainClient.{PlainClient}
-use Rattle.sporc_client.specs.Run.{Setup}
 use Rattle.sporc_client.proofs.SubmitRosters.{IsFew, all_paired, few_after, few_members, few_numbers, sealed_same}
-use Rattle.sporc_script.specs.declared.sign.Forgery.{Forgery}
-use Rattle.sporc_script.specs.declared.sign.Suffix.{Suffix}
 use Rattle.sporc_script.specs.declared.sign.Suffix.TheVariants as suffixes
-use Rattle.sporc_play.specs.Derived.{pair_key, random_of}
-use Rattle.sporc_play.specs.Forged.{IsSmallBody, IsSmallChange, base_by, derived_pairs, device_in, epoch_by, first_flipped, forged_body, forged_change, forged_entry, forged_header, forged_sealing, key_there, kind_of, leaf_by, number_by, sealed_for, signed_by, spoiled, unless_refused, unsigned_by, value_at, version_by, with_derived, wrap_flipped}
-use Rattle.sporc_play.specs.Scene.{leaf_after}
+use Rattle.sporc_play.specs.Forged.{IsSmallChange, forged_entry, leaf_by, signed_by, unless_refused, with_derived}
+use Rattle.std.proofs.lemmas.List.Sums.{length-filter, count_by-le-length}
+use Rattle.lms_leaf.specs.Leaves.{LeavesModel}
 
 -- ---- a flipped byte
 
 length-first_flipped : (bytes : List ℕ) → length (first_flipped bytes) ≡ length bytes
-length-first_flipped [] = refl
-length-first_flipped (b ∷ bytes) = refl
+length-first_flipped bytes = grind arith
 
 -- ---- a spoiled body is small
 
@@ -80,14 +49,6 @@ whole_others p (w ∷ ws) all = go (p w) (whole_others p ws all.1)
     go true h = (all.0, h)
     go false h = h
 
-fewer : (p : Wrap → Bool) (ws : List Wrap) → length (filter p ws) ≤ length ws
-fewer p [] = omega arith
-fewer p (w ∷ ws) = go (p w) (fewer p ws)
-  where
-    go : (b : Bool) → length (filter p ws) ≤ length ws → length (cond b (w ∷ filter p ws) (filter p ws)) ≤ suc (length ws)
-    go true h = omega (arith, h)
-    go false h = omega (arith, h)
-
 pub spoiled_small : (suffix : Option Suffix) (body : ChangeBody) → IsSmallBody body → IsSmallBody (spoiled suffix body)
 spoiled_small None body is = is
 spoiled_small (Some (suffixes.Number k)) body is = is
@@ -105,8 +66,8 @@ spoiled_small (Some (suffixes.Drop member)) body is = record {
   change = is.change;
   commitment = is.commitment;
   previous = is.previous;
-  wraps = whole_others (λ w. not (eqb w.member member)) body.wraps is.wraps;
-  few = omega (arith, fewer (λ w. not (eqb w.member member)) body.wraps, is.few);
+  wraps = whole_others (λ (w : Wrap). not (eqb w.member member)) body.wraps is.wraps;
+  few = omega (arith, length-filter (λ (w : Wrap). not (eqb w.member member)) body.wraps, count_by-le-length (λ (w : Wrap). not (eqb w.member member)) body.wraps, is.few);
 }
 spoiled_small (Some (suffixes.Version k)) body is = is
 spoiled_small (Some (suffixes.Device number)) body is = is
@@ -265,19 +226,8 @@ value_there c base there =
     let yes : leb base (length c.entries) ≡ true = le-leb base (length c.entries) there in
     rw yes refl
 
--- every version that a rogue's entry has can name its device
-fits_named : (second : Bool) (number : ℕ) → let version = version_of second in fits_version version (cond (names_device version) number FIRST_DEVICE) ≡ true
-fits_named true number = refl
-fits_named false number = refl
-
-fits_first : (second : Bool) → fits_version (version_of second) FIRST_DEVICE ≡ true
-fits_first true = refl
-fits_first false = refl
-
 pub header_fits : (suffix : Option Suffix) (upgraded : Bool) → let version = version_by suffix upgraded in fits_version version (device_in suffix version) ≡ true
-header_fits (Some (suffixes.Version k)) upgraded = fits_first (names_device k)
-header_fits (Some (suffixes.Device number)) upgraded = fits_named upgraded number
-header_fits suffix upgraded = fits_first upgraded
+header_fits suffix upgraded = grind arith
 
 pub header_same : (c : PlainClient) (f : Forgery) (own : ℕ) (version device : ℕ) (document base_hash : List ℕ) (number base epoch leaf kind : ℕ)
     → version ≡ version_by f.signed.suffix (roster_of c.opening.genesis c.entries).upgraded → device ≡ device_in f.signed.suffix version
@@ -325,3 +275,12 @@ pub leaf_none : (key : LmsPrivate) (n count : ℕ) → n ≡ count → count ≡
 leaf_none key n count is all =
     let no : ltb n (2 ^ height_of key.lms) ≡ false = not_below n (2 ^ height_of key.lms) (is ∙ all) in
     ap (λ (b : Bool). cond b (Ok n) (Err (Exhausted n))) no
+
+not_faulty : (faulty : Bool) → (IsTrue faulty → ⊥) → faulty ≡ false
+not_faulty true works = absurd (works refl)
+not_faulty false works = refl
+
+pub drawn_more : {D : Type 0} (key : LmsPrivate) (old new : LeavesModel D) (count : ℕ) → AreDrawn key old.next old → new.next ≡ old.next + count → old.next + count ≤ old.leaf_count → new.leaf_count ≡ old.leaf_count
+    → (IsTrue new.faulty → ⊥) → AreDrawn key (old.next + count) new
+drawn_more key old new count was next within same works =
+    record { next = next; within = omega (arith, within, was.count); count = same ∙ was.count; works = not_faulty new.faulty works }

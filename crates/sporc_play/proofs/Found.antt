@@ -1,18 +1,15 @@
 -- Entries by their numbers.
-use Rattle.std.proofs.Common.{◌≡◌, ℕ, zero, suc, ◌+◌, ◌-◌, ◌<◌, List, [], ◌∷◌, ◌++◌, length, get_or, map, drop, drop-cons, add-one, append_assoc, Some, Option, Vec, Global, refl, ap, sym, subst, arith, ◌∙◌}
-use Rattle.std.specs.Prelude.{false, is_some, None, Result, Ok, Err, slice_get}
+use Rattle.std.proofs.Common.{◌≡◌, ℕ, zero, suc, ◌+◌, ◌-◌, ◌<◌, List, [], ◌∷◌, ◌++◌, length, get_or, map, drop, drop-cons, add-one, append_assoc, Some, Option, Vec, Global, refl, ap, sym, subst, arith, ◌∙◌, option_map}
+use Rattle.sporc_play.proofs.Common.{false, is_some, None, Result, Ok, Err, slice_get, entries_found, entries_at, entry_at, with_entry}
 use Rattle.sporc_play.specs.declared.made.Found.{Found}
 use Rattle.sporc_play.specs.declared.made.Found.TheVariants.{Entries}
-use Rattle.sporc_play.specs.Joined.{entries_found}
-use Rattle.sporc_play.specs.Scene.{entries_at, entry_at, with_entry}
+use Rattle.std.proofs.lemmas.Option.{slice_get_read, slice_get-map}
 
 abbrev bytes_of : Vec ℕ Global → List ℕ
 bytes_of v = v.items
 
 get_there : (made : List (Vec ℕ Global)) (i : ℕ) (entry : Vec ℕ Global) → i < length made → entry ≡ get_or made i entry → slice_get (map bytes_of made) i ≡ Some (bytes_of entry)
-get_there [] i entry low is = absurd (omega arith)
-get_there (x ∷ made) zero entry low is = ap (λ (v : Vec ℕ Global). Some (bytes_of v)) (sym is)
-get_there (x ∷ made) (suc i) entry low is = get_there made i entry (omega arith) is
+get_there made i entry low is = slice_get-map bytes_of made i ∙ ap (option_map bytes_of) (slice_get_read made (length made) i entry refl low is)
 
 -- an entry with a number above 0
 pub entry_there : (made : List (Vec ℕ Global)) (n : ℕ) (entry : Vec ℕ Global) → (n ≡ 0 → ⊥) → n - 1 < length made → entry ≡ get_or made (n - 1) entry
@@ -47,5 +44,4 @@ all_found made numbers slice found entries items is value same read =
     ap (λ (ns : List ℕ). entries_at made ns) (sym same) ∙ sym value ∙ ap entries_found is ∙ ap (λ (xs : List (Vec ℕ Global)). Ok (map bytes_of xs)) (sym read)
 
 pub none_there : {X : Type 0} (o : Option X) → false ≡ is_some o → o ≡ None
-none_there None is = refl
-none_there (Some x) is = absurd cc
+none_there o is = grind arith

@@ -1,35 +1,20 @@
 -- The keys of epochs that are read off a history of bytes are bytes.
 use Rattle.std.proofs.Common.{◌≡◌, ℕ, zero, suc, Bool, true, false, cond, List, [], ◌∷◌, ◌++◌, length, map, take, refl, sym, subst, Option, None, Some, Result, Ok, Err, IfSome}
-use Rattle.std.specs.Prelude.{◌==◌, flat_map, is_some, option_and_then, slice_get, unwrap_or}
-use Rattle.std.specs.FinMap.{get}
-use Rattle.std.specs.Int.{w16, w32, to_be_bytes}
-use Rattle.std.specs.List.{AllByRecursion, cons_option}
-use Rattle.std.proofs.lemmas.Bool.{eqb-true}
-use Rattle.sporc_base.specs.Bytes.{IsBytes}
-use Rattle.sporc_member.specs.declared.change.Change.{Change as MemberChange}
-use Rattle.sporc_member.specs.declared.change.Change.TheVariants.{Add, Remove, SetRole, AddDevice, DropDevice, Upgrade}
-use Rattle.sporc_member.specs.Role.{role_code_of}
+use Rattle.sporc_play.proofs.Common.{◌==◌, flat_map, is_some, option_and_then, slice_get, unwrap_or, get, w16, w32, to_be_bytes, AllByRecursion, cons_option, eqb-true, IsBytes, MemberChange, Add}
+use Rattle.sporc_play.proofs.Common.{Remove, SetRole, AddDevice, DropDevice, Upgrade, role_code_of, ChangeBody, Entry, Genesis, Header, Wrap, change_bytes, wrap_bytes, Keys, stream_of}
+use Rattle.sporc_play.proofs.Common.{CommittedChange, change_read, changes, committed_by, epoch_of, Kit, current_key, PlainClient, mask_of}
 use Rattle.sporc_member.specs.Roster.{member_at, removes, roster_after}
-use Rattle.sporc_entry.specs.declared.change.ChangeBody.{ChangeBody}
-use Rattle.sporc_entry.specs.declared.entry.Entry.{Entry}
-use Rattle.sporc_entry.specs.declared.genesis.Genesis.{Genesis}
-use Rattle.sporc_entry.specs.declared.header.Header.{Header}
-use Rattle.sporc_entry.specs.declared.wrap.Wrap.{Wrap}
-use Rattle.sporc_entry.specs.ChangeBody.{change_body_bytes, change_bytes, wrap_bytes}
-use Rattle.sporc_entry.specs.Entry.{IsEntry, change_of, device_bytes, entry_bytes, entry_of, header_bytes}
+use Rattle.sporc_entry.specs.ChangeBody.{change_body_bytes}
+use Rattle.sporc_entry.specs.Entry.{IsEntry, change_of, entry_bytes, entry_of, header_bytes}
 use Rattle.sporc_entry.proofs.EntryLaws.{entry_takes}
-use Rattle.sporc_epoch.specs.Keys.{Keys}
-use Rattle.sporc_epoch.specs.Streams.{stream_of}
 use Rattle.sporc_epoch.specs.Wraps.{opened_under, wrap_for, wrap_opened}
-use Rattle.sporc_head.specs.History.{CommittedChange, change_in, change_read, changes, committed_by, epoch_of}
-use Rattle.sporc_line.specs.Kit.{Kit}
+use Rattle.sporc_head.specs.History.{change_in}
 use Rattle.sporc_line.specs.Keys.{key_after, key_started}
-use Rattle.sporc_client.specs.Entries.{current_key}
-use Rattle.sporc_client.specs.PlainClient.{PlainClient}
 use Rattle.sporc_client.proofs.SameSpelling.{change_read_of}
 use Rattle.sporc_client.proofs.TypedHistories.{found_typed, typed_at}
 use Rattle.sporc_play.proofs.ByteClients.{AreByteKeys}
 use Rattle.sporc_play.proofs.ByteFacts.{AreBytes, are_bytes, bytes_mask}
+use Rattle.sporc_entry.proofs.Written.{header_bytes-append}
 
 -- ---- parts of strings of bytes
 
@@ -42,22 +27,7 @@ front [] ys all = tt
 front (x ∷ xs) ys all = (all.0, front xs ys all.1)
 
 after_header : (h : Header) (rest : List ℕ) → AreBytes (header_bytes h rest) → AreBytes rest
-unfolding header_bytes
-after_header h rest all =
-    let last = h.kind ∷ rest in
-    let leaf = to_be_bytes w32 h.leaf ++ last in
-    let epoch = to_be_bytes w32 h.epoch ++ leaf in
-    let hash = h.base_hash ++ epoch in
-    let base = to_be_bytes w32 h.base ++ hash in
-    let number = to_be_bytes w32 h.number ++ base in
-    let device = device_bytes h.version h.device ++ number in
-    let author = to_be_bytes w16 h.author ++ device in
-    let end : AreBytes last =
-    behind (to_be_bytes w32 h.leaf) last
-    (behind (to_be_bytes w32 h.epoch) leaf
-    (behind h.base_hash epoch (behind (to_be_bytes w32 h.base) hash (behind (to_be_bytes w32 h.number) base
-    (behind (device_bytes h.version h.device) number (behind (to_be_bytes w16 h.author) device (behind h.document author all.1))))))) in
-    end.1
+after_header h rest all = behind (header_bytes h []) rest (subst AreBytes (sym (header_bytes-append h rest)) all)
 
 body_in : (e : Entry) → AreBytes (entry_bytes e) → AreBytes e.body
 unfolding entry_bytes
@@ -143,17 +113,19 @@ changes_bytes (bytes ∷ entries) all = go (change_in bytes) (change_bytes_in by
 
 -- ---- keys
 
-pub opened_bytes : (body : ChangeBody) (author stream me : ℕ) (pairs : Keys) → IsByteBody body → IfSome (wrap_opened body author stream me pairs) AreBytes
+-- what holds of what is sealed, and of what it is under any mask, holds of what is opened
+pub opened_has : (P : List ℕ → Type 0) → ((key : List ℕ) (stream : ℕ) (sealed : List ℕ) → P sealed → P (mask_of key stream sealed)) → (body : ChangeBody) (author stream me : ℕ) (pairs : Keys) → AllByRecursion (λ w. P w.sealed) body.wraps
+    → IfSome (wrap_opened body author stream me pairs) P
 unfolding wrap_opened
-opened_bytes body author stream me pairs is = go (wrap_for me body.wraps) (found_typed (λ (w : Wrap). AreBytes w.sealed) (λ (w : Wrap). w.member == me) body.wraps is.wraps)
+opened_has P masks body author stream me pairs all = go (wrap_for me body.wraps) (found_typed (λ (w : Wrap). P w.sealed) (λ (w : Wrap). w.member == me) body.wraps all)
   where
-    under : (pair : Option (List ℕ)) (w : Wrap) → AreBytes w.sealed → IfSome (opened_under stream pair w) AreBytes
-    under None w are = tt
-    under (Some pair) w are = bytes_mask pair stream w.sealed are
+    under : (pair : Option (List ℕ)) (w : Wrap) → P w.sealed → IfSome (opened_under stream pair w) P
+    under None w is = tt
+    under (Some pair) w is = masks pair stream w.sealed is
 
-    go : (o : Option Wrap) → IfSome o (λ w. AreBytes w.sealed) → IfSome (option_and_then (opened_under stream (get pairs author)) o) AreBytes
-    go None are = tt
-    go (Some w) are = under (get pairs author) w are
+    go : (o : Option Wrap) → IfSome o (λ w. P w.sealed) → IfSome (option_and_then (opened_under stream (get pairs author)) o) P
+    go None is = tt
+    go (Some w) is = under (get pairs author) w is
 
 key_bytes : (g : Genesis) (kit : Kit) (cs : List CommittedChange) (epoch : ℕ) → AreByteKeys kit.ring → AllByRecursion IsByteCommitted cs → IfSome (key_after g kit cs epoch) AreBytes
 unfolding key_after key_started
@@ -162,7 +134,7 @@ key_bytes g kit cs (suc e) ring all = go (slice_get cs e) (typed_at IsByteCommit
   where
     tests : (c : CommittedChange) (removed member : Bool) → IsByteCommitted c → IfSome (cond removed None (cond member (wrap_opened c.body c.header.author (stream_of c.header) kit.me.member kit.pairs) (get kit.ring (suc e)))) AreBytes
     tests c true member is = tt
-    tests c false true is = opened_bytes c.body c.header.author (stream_of c.header) kit.me.member kit.pairs is
+    tests c false true is = opened_has AreBytes bytes_mask c.body c.header.author (stream_of c.header) kit.me.member kit.pairs is.wraps
     tests c false false is = ring (suc e)
 
     go : (o : Option CommittedChange) → IfSome o IsByteCommitted → IfSome (key_started g kit (take (suc e) cs) (suc e) o) AreBytes

@@ -1,12 +1,9 @@
 -- How long the bytes of an insertion are.
 use Rattle.std.proofs.Common.{◌≡◌, ℕ, zero, suc, ◌+◌, ◌-◌, ◌≤◌, List, [], ◌∷◌, ◌++◌, length, refl, ap, subst, arith, append_assoc, append-nil, length-append}
-use Rattle.std.specs.Int.{w64, to_be_bytes}
-use Rattle.std.specs.Char.{encode_utf8}
-use Rattle.std.specs.Str.{encode_utf8_all}
+use Rattle.sporc_play.proofs.Common.{w64, to_be_bytes, encode_utf8, encode_utf8_all, delta_bytes, parts_bytes, Mark, insertion, insert_marks, keep_marks}
 use Rattle.sporc_delta.specs.declared.part.Part.{Part}
 use Rattle.sporc_delta.specs.declared.part.Part.TheVariants.{Keep as KeepRun, Insert as InsertText, Remove as RemoveRun}
-use Rattle.sporc_delta.specs.Format.{delta_bytes, parts_bytes}
-use Rattle.sporc_delta.specs.Marks.{Mark, Keep, Insert, insertion, insert_marks, keep_marks}
+use Rattle.sporc_delta.specs.Marks.{Keep, Insert}
 use Rattle.sporc_delta.specs.Parts.{runs, with_mark}
 
 abbrev size : List Part → ℕ

@@ -1,45 +1,23 @@
 -- A joiner's client opens with keys of epochs, one of which meets the commitment of the genesis.
-use Rattle.std.proofs.Common.{◌≡◌, ℕ, zero, suc, ◌+◌, Bool, true, false, cond, List, [], ◌∷◌, ◌++◌, length, map, reverse, take, refl, sym, ap, ◌∙◌, subst, not, Option, None, Some, Result, Ok, Err, IfOk, IfSome}
-use Rattle.std.specs.Prelude.{◌==◌, Contains, option_and_then, take_while}
-use Rattle.std.specs.Cmp.{nat_cmp_total}
-use Rattle.std.specs.FinMap.{empty, get, insert, get-empty, get-insert}
-use Rattle.std.specs.List.{AllByRecursion}
-use Rattle.std.specs.Ordering.{nat_cmp, eq_by_cmp}
-use Rattle.std.specs.Str.{bytes_eq}
-use Rattle.std.proofs.lemmas.List.{map-append, reverse-append}
+use Rattle.std.proofs.Common.{◌≡◌, ℕ, ◌+◌, Bool, true, false, cond, List, [], ◌∷◌, ◌++◌, length, map, reverse, refl, sym, ap, ◌∙◌, subst, not, Option, None, Some, Result, Ok, Err, IfOk, IfSome}
+use Rattle.sporc_play.proofs.Common.{Contains, take_while, nat_cmp_total, empty, get, insert, get-empty, get-insert, AllByRecursion, nat_cmp, eq_by_cmp, bytes_eq, map-append}
+use Rattle.sporc_play.proofs.Common.{reverse-append, IsBytes, first_of, unless, mask_of, commitment_of, Genesis, Wrap, IsWrap, HintFault, Keys, previous_stream, stream_of, CommittedChange, changes}
+use Rattle.sporc_play.proofs.Common.{LineOpenFault, Meets, open_checks, PlainClient, Setup, AreEpochKeys, Device, Join, Scene, entries_at, entry_at, joins, opens_unless, opens_with, with_entry, all_append}
 use Rattle.std.proofs.lemmas.Slice.Eq.{bytes_eq-Decides}
-use Rattle.sporc_base.specs.Bytes.{IsBytes}
-use Rattle.sporc_base.specs.FirstFault.{first_of, unless}
-use Rattle.sporc_cipher.specs.Mask.{mask_of}
 use Rattle.sporc_cipher.proofs.Stream.{length-mask_from}
-use Rattle.sporc_hash.specs.Chain.{commitment_of}
-use Rattle.sporc_entry.specs.declared.genesis.Genesis.{Genesis}
-use Rattle.sporc_entry.specs.declared.wrap.Wrap.{Wrap}
-use Rattle.sporc_entry.specs.ChangeBody.{IsWrap}
-use Rattle.sporc_epoch.specs.declared.fault.HintFault.{HintFault}
 use Rattle.sporc_epoch.specs.declared.fault.HintFault.TheVariants.{WrongKey}
 use Rattle.sporc_epoch.specs.Hints.{hints_at, hints_of, hints_under, is_committed, is_of, joining, joins as joins_by, keys_back, ring_of, start_by, with_key, with_keys}
-use Rattle.sporc_epoch.specs.Keys.{Keys}
-use Rattle.sporc_epoch.specs.Streams.{previous_stream, stream_of}
-use Rattle.sporc_epoch.specs.Wraps.{opened_under, wrap_for, wrap_opened}
-use Rattle.sporc_head.specs.History.{CommittedChange, changes}
-use Rattle.sporc_line.specs.declared.fault.LineOpenFault.{LineOpenFault}
+use Rattle.sporc_epoch.specs.Wraps.{wrap_opened}
 use Rattle.sporc_line.specs.declared.fault.LineOpenFault.TheVariants as line_faults
-use Rattle.sporc_line.specs.Good.{Meets}
-use Rattle.sporc_line.specs.Openings.{open_checks}
-use Rattle.sporc_client.specs.PlainClient.{PlainClient}
-use Rattle.sporc_client.specs.Run.{Setup}
-use Rattle.sporc_client.specs.Typed.{AreEpochKeys}
 use Rattle.sporc_client.proofs.TypedHistories.{IsTypedCommitted, changes_typed, found_typed}
-use Rattle.sporc_member.specs.declared.device.Device.{Device}
 use Rattle.sporc_script.specs.declared.command.Command.TheVariants as commands
-use Rattle.sporc_script.specs.declared.command.Join.{Join}
-use Rattle.sporc_play.specs.Scene.{Scene, entries_at, entry_at, joins, opens_unless, opens_with, with_entry}
 use Rattle.sporc_play.proofs.Acts.{made_bytes, no_act}
 use Rattle.sporc_play.proofs.ByteClients.{AreByteKeys}
 use Rattle.sporc_play.proofs.ByteFacts.{AreBytes, bytes_mask, is_bytes}
-use Rattle.sporc_play.proofs.HistoryKeys.{IsByteCommitted, changes_bytes}
+use Rattle.sporc_play.proofs.HistoryKeys.{IsByteCommitted, changes_bytes, opened_has}
 use Rattle.sporc_play.proofs.Runs.{MayAct, MayBe}
+use Rattle.std.proofs.lemmas.Option.{IfSome_then}
+use Rattle.sporc_play.proofs.Places.{all_take, all_each}
 
 -- ---- the entries that are handed over
 
@@ -51,10 +29,6 @@ given_are made (n ∷ ns) all = go (entry_at made n) refl (entries_at made ns) (
     go None at r rest = tt
     go (Some bytes) at (Ok entries) rest = (made_bytes made n bytes all at, rest)
     go (Some bytes) at (Err missing) rest = tt
-
-each_bytes : (entries : List (List ℕ)) → AllByRecursion AreBytes entries → AllByRecursion IsBytes entries
-each_bytes [] all = tt
-each_bytes (b ∷ bs) all = (is_bytes b all.0, each_bytes bs all.1)
 
 -- ---- keys
 
@@ -78,18 +52,9 @@ both : (cs : List CommittedChange) → AllByRecursion IsByteCommitted cs → All
 both [] a b = tt
 both (c ∷ cs) a b = (record { bytes = a.0; typed = b.0 }, both cs a.1 b.1)
 
-taken : (n : ℕ) (cs : List CommittedChange) → AllByRecursion IsSound cs → AllByRecursion IsSound (take n cs)
-taken zero cs all = tt
-taken (suc n) [] all = tt
-taken (suc n) (c ∷ cs) all = (all.0, taken n cs all.1)
-
-joined : (xs ys : List CommittedChange) → AllByRecursion IsSound xs → AllByRecursion IsSound ys → AllByRecursion IsSound (xs ++ ys)
-joined [] ys a b = b
-joined (x ∷ xs) ys a b = (a.0, joined xs ys a.1 b)
-
 reversed : (xs : List CommittedChange) → AllByRecursion IsSound xs → AllByRecursion IsSound (reverse xs)
 reversed [] all = tt
-reversed (x ∷ xs) all = subst (AllByRecursion IsSound) (sym (reverse-append (x ∷ []) xs)) (joined (reverse xs) (x ∷ []) (reversed xs all.1) (all.0, tt))
+reversed (x ∷ xs) all = subst (AllByRecursion IsSound) (sym (reverse-append (x ∷ []) xs)) (all_append IsSound (reverse xs) (x ∷ []) (reversed xs all.1) (all.0, tt))
 
 reverse_map : {X Y : Type 0} (f : X → Y) (xs : List X) → reverse (map f xs) ≡ map f (reverse xs)
 reverse_map f [] = refl
@@ -142,17 +107,7 @@ wraps_both [] a b = tt
 wraps_both (w ∷ ws) a b = (record { bytes = a.0; size = b.0.sealed }, wraps_both ws a.1 b.1)
 
 opened_is : (c : CommittedChange) (author stream me : ℕ) (pairs : Keys) → IsSound c → IfSome (wrap_opened c.body author stream me pairs) IsKey
-unfolding wrap_opened
-opened_is c author stream me pairs is =
-    go (wrap_for me c.body.wraps) (found_typed (λ (w : Wrap). IsKey w.sealed) (λ (w : Wrap). w.member == me) c.body.wraps (wraps_both c.body.wraps is.bytes.wraps is.typed.wraps))
-  where
-    under : (pair : Option (List ℕ)) (w : Wrap) → IsKey w.sealed → IfSome (opened_under stream pair w) IsKey
-    under None w key = tt
-    under (Some pair) w key = masked pair stream w.sealed key
-
-    go : (o : Option Wrap) → IfSome o (λ w. IsKey w.sealed) → IfSome (option_and_then (opened_under stream (get pairs author)) o) IsKey
-    go None key = tt
-    go (Some w) key = under (get pairs author) w key
+opened_is c author stream me pairs is = opened_has IsKey masked c.body author stream me pairs (wraps_both c.body.wraps is.bytes.wraps is.typed.wraps)
 
 under_is : (c : CommittedChange) (cs : List CommittedChange) (o : Option (List ℕ)) → IsSound c → AllByRecursion IsSound cs → IfSome o IsKey → IfOk (hints_under c (map start_by cs) o) HoldsKeys
 under_is c cs None is all key = tt
@@ -165,12 +120,12 @@ at_is me pairs cs (Some c) all is = under_is c cs (wrap_opened c.body c.header.a
 hints_are : (entries : List (List ℕ)) (me : ℕ) (pairs : Keys) → AllByRecursion AreBytes entries → IfOk (hints_of entries me pairs) HoldsKeys
 unfolding hints_of
 hints_are entries me pairs all =
-    let typed = each_bytes entries all in
+    let typed = all_each AreBytes IsBytes entries is_bytes all in
     let cs = changes entries in
     let sound : AllByRecursion IsSound cs = both cs (changes_bytes entries typed) (changes_typed entries typed) in
     let before = take_while (λ (c : CommittedChange). not (joins_by me c)) cs in
     subst (λ starts. IfOk (hints_at me pairs starts (joining me cs)) HoldsKeys) (sym (reverse_map start_by before))
-    (at_is me pairs (reverse before) (joining me cs) (reversed before (taken _ cs sound)) (found_typed IsSound (joins_by me) cs sound))
+    (at_is me pairs (reverse before) (joining me cs) (reversed before (all_take IsSound _ cs sound)) (found_typed IsSound (joins_by me) cs sound))
 
 -- ---- the opening
 
@@ -183,18 +138,10 @@ meets g (Some key) none = go (bytes_eq (commitment_of g.document 0 key) g.commit
     go false is none = absurd cc
 
 sizes : (ring : Keys) → HoldsKeys ring → AreEpochKeys ring
-sizes ring holds epoch = go (get ring epoch) (holds epoch)
-  where
-    go : (o : Option (List ℕ)) → IfSome o IsKey → IfSome o (λ key. length key ≡ 32)
-    go None is = tt
-    go (Some key) is = is.size
+sizes ring holds epoch = IfSome_then (get ring epoch) (holds epoch) (λ key is. is.size)
 
 byte_keys : (ring : Keys) → HoldsKeys ring → AreByteKeys ring
-byte_keys ring holds epoch = go (get ring epoch) (holds epoch)
-  where
-    go : (o : Option (List ℕ)) → IfSome o IsKey → IfSome o AreBytes
-    go None is = tt
-    go (Some key) is = is.bytes
+byte_keys ring holds epoch = IfSome_then (get ring epoch) (holds epoch) (λ key is. is.bytes)
 
 unless_acts : (s : Setup) (scene : Scene) (who : Device) (ring : Keys) (fault : Option LineOpenFault) → Contains s.devices who → HoldsKeys ring → first_of (open_checks s.genesis (get ring 0)) ≡ fault → MayAct s scene (opens_unless who ring fault)
 unless_acts s scene who ring None member holds none = record {

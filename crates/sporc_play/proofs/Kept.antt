@@ -1,58 +1,31 @@
 -- Entries that are made of others, and comparisons: what a state becomes, and what is told.
-use Rattle.std.proofs.Common.{◌≡◌, ℕ, zero, suc, ◌+◌, ◌-◌, ◌<◌, ◌≤◌, List, [], ◌∷◌, ◌++◌, length, take, set, refl, sym, ap, ◌∙◌, subst, arith, Option, None, Some, option_map}
-use Rattle.std.specs.Prelude.{◌↔◌, IfSome, slice_get}
-use Rattle.sporc_memory.specs.MemoryDisk.{MemoryDiskModel}
-use Rattle.sporc_client.specs.ClientModel.{ClientModel, state_of}
-use Rattle.sporc_client.specs.Log.{Logged, journal_of}
-use Rattle.sporc_client.specs.PlainClient.{Opening, PlainClient}
-use Rattle.sporc_client.proofs.Calls.{replay_opening}
-use Rattle.sporc_entry.specs.declared.genesis.Genesis.{Genesis}
-use Rattle.sporc_entry.specs.Genesis.{genesis_bytes}
-use Rattle.sporc_hash.specs.Chain.{chain, last_value}
+use Rattle.std.proofs.Common.{◌≡◌, ℕ, ◌+◌, ◌-◌, ◌<◌, ◌≤◌, List, [], ◌∷◌, ◌++◌, length, take, set, refl, sym, ap, ◌∙◌, subst, arith, Option, None, Some, option_map}
+use Rattle.sporc_play.proofs.Common.{◌↔◌, IfSome, slice_get, MemoryDiskModel, ClientModel, state_of, Logged, journal_of, Opening, PlainClient, replay_opening, Genesis, genesis_bytes, chain, last_value}
+use Rattle.sporc_play.proofs.Common.{Device, PlayLine, Seat, PlayState, setup_of, Stands, compare_line, Compares, hashes_of, flip_line, flipped_line, line_by, not_open_line, Effect, Scene, cuts}
+use Rattle.sporc_play.proofs.Common.{entry_at, flip_byte, flipped, flips, IsSeatAt, AreOfOneDocument, HasSameMembers, Holds, IsClientOf, StandsFor, AppendsLineOf}
 use Rattle.sporc_hash.specs.Verdict.{DivergesAfter, IfForked, SameTip, TipIsIn}
 use Rattle.sporc_hash.specs.declared.verdict.Verdict.{Verdict}
 use Rattle.sporc_hash.specs.declared.verdict.Verdict.TheVariants.{ForkedAfter, Longer, Prefix, Same}
 use Rattle.sporc_hash.proofs.Prefixes.{slice_get-chain}
-use Rattle.sporc_member.specs.declared.device.Device.{Device}
 use Rattle.sporc_script.specs.declared.command.Command.TheVariants as commands
 use Rattle.sporc_script.specs.declared.command.Flip.{Flip}
 use Rattle.sporc_script.specs.declared.command.DevicePair.{DevicePair}
-use Rattle.sporc_script.specs.declared.play_line.PlayLine.{PlayLine}
-use Rattle.sporc_play.specs.declared.seat.Seat.{Seat}
-use Rattle.sporc_play.specs.declared.state.PlayState.{PlayState}
-use Rattle.sporc_play.specs.Cast.{setup_of}
 use Rattle.sporc_report.specs.JournalLines.{journal_lines}
-use Rattle.sporc_report.specs.ClientLines.{Stands, compare_line}
-use Rattle.sporc_play.specs.Report.{Compares, hashes_of, flip_line, flipped_line, line_by, not_open_line}
-use Rattle.sporc_play.specs.Scene.{Effect, Scene, cuts, entry_at, flip_byte, flipped, flips, performed}
-use Rattle.sporc_play.specs.Seats.{IsSeatAt}
-use Rattle.sporc_play.specs.Stage.{AreOfOneDocument, Becomes, HasSameMembers, Holds, IsClientOf, StandsFor, AppendsLineOf}
 use Rattle.sporc_play.proofs.Becoming.{entries_of}
 use Rattle.sporc_play.proofs.Commands.{client_there, seat_there}
-use Rattle.sporc_play.proofs.MadeEntries.{made_stands, makes}
+use Rattle.sporc_play.proofs.MadeEntries.{makes}
 use Rattle.sporc_play.proofs.Places.{at_place}
+use Rattle.std.proofs.lemmas.Option.{slice_get_past}
+use Rattle.sporc_play.proofs.Seating.{acted, same_for_all, stands_made}
 
 -- ---- entries that are made of others
 
-pub flip_becomes : (old new : PlayState) (f : Flip) (entries : List (List ℕ)) → HasSameMembers old new → entries_of new ≡ entries_of old ++ entries → flips f.at (entry_at (entries_of old) f.entry) ≡ makes entries
-    → Becomes old (commands.Flip f) new
-flip_becomes old new f entries same grown act script scene stands =
+pub made_becomes : (old new : PlayState) (entries : List (List ℕ)) (act : List (List ℕ) → Effect) → HasSameMembers old new → entries_of new ≡ entries_of old ++ entries → act (entries_of old) ≡ makes entries
+    → (script : List PlayLine) (scene : Scene) → StandsFor script scene old → StandsFor script (acted (setup_of script) scene (act scene.made)) new
+made_becomes old new entries act same grown does script scene stands =
     let s = setup_of script in
-    let is : flips f.at (entry_at scene.made f.entry) ≡ makes entries = ap (λ (es : List (List ℕ)). flips f.at (entry_at es f.entry)) (sym stands.made) ∙ act in
-    subst (λ (a : Effect). StandsFor script (performed s scene (commands.Flip f) a) new) (sym is)
-    (made_stands script scene (performed s scene (commands.Flip f) (makes entries)) old new stands same
-    (λ who. record { client = refl; log = refl; last = refl; asked = refl; leaves = refl })
-    (grown ∙ ap (λ (es : List (List ℕ)). es ++ entries) stands.made))
-
-pub cut_becomes : (old new : PlayState) (number : ℕ) (entries : List (List ℕ)) → HasSameMembers old new → entries_of new ≡ entries_of old ++ entries → cuts (entry_at (entries_of old) number) ≡ makes entries
-    → Becomes old (commands.Cut number) new
-cut_becomes old new number entries same grown act script scene stands =
-    let s = setup_of script in
-    let is : cuts (entry_at scene.made number) ≡ makes entries = ap (λ (es : List (List ℕ)). cuts (entry_at es number)) (sym stands.made) ∙ act in
-    subst (λ (a : Effect). StandsFor script (performed s scene (commands.Cut number) a) new) (sym is)
-    (made_stands script scene (performed s scene (commands.Cut number) (makes entries)) old new stands same
-    (λ who. record { client = refl; log = refl; last = refl; asked = refl; leaves = refl })
-    (grown ∙ ap (λ (es : List (List ℕ)). es ++ entries) stands.made))
+    subst (λ (a : Effect). StandsFor script (acted s scene a) new) (sym (ap act (sym stands.made) ∙ does))
+    (stands_made script scene (acted s scene (makes entries)) old new stands (same_for_all s scene entries) same (grown ∙ ap (λ (es : List (List ℕ)). es ++ entries) stands.made))
 
 pub flip_tells : (old : PlayState) (f : Flip) (out out' : List ℕ) → out' ≡ out ++ flip_line (length (entries_of old) + 1) f.entry f.at (entry_at (entries_of old) f.entry) → AppendsLineOf old (commands.Flip f) out out'
 flip_tells old f out out' is script scene stands =
@@ -70,16 +43,11 @@ flip_act made f bytes byte new found at is = ap (flips f.at) found ∙ ap (flip_
 pub flip_tale : (made : List (List ℕ)) (f : Flip) (next : ℕ) (bytes : List ℕ) (byte : ℕ) → entry_at made f.entry ≡ Some bytes → slice_get bytes f.at ≡ Some byte → flip_line next f.entry f.at (entry_at made f.entry) ≡ flipped_line next f.at (Some byte)
 flip_tale made f next bytes byte found at = ap (flip_line next f.entry f.at) found ∙ ap (flipped_line next f.at) at
 
-pub nothing_at : (bytes : List ℕ) (at : ℕ) → length bytes ≤ at → slice_get bytes at ≡ None
-nothing_at [] at over = refl
-nothing_at (b ∷ bs) zero over = absurd (omega (arith, over))
-nothing_at (b ∷ bs) (suc at) over = nothing_at bs at (omega (arith, over))
-
 pub no_byte_act : (made : List (List ℕ)) (f : Flip) (bytes : List ℕ) → entry_at made f.entry ≡ Some bytes → length bytes ≤ f.at → flips f.at (entry_at made f.entry) ≡ makes []
-no_byte_act made f bytes found over = ap (flips f.at) found ∙ ap (flip_byte bytes f.at) (nothing_at bytes f.at over)
+no_byte_act made f bytes found over = ap (flips f.at) found ∙ ap (flip_byte bytes f.at) (slice_get_past bytes f.at over)
 
 pub no_byte_line : (made : List (List ℕ)) (f : Flip) (next : ℕ) (bytes : List ℕ) → entry_at made f.entry ≡ Some bytes → length bytes ≤ f.at → flip_line next f.entry f.at (entry_at made f.entry) ≡ flipped_line next f.at None
-no_byte_line made f next bytes found over = ap (flip_line next f.entry f.at) found ∙ ap (flipped_line next f.at) (nothing_at bytes f.at over)
+no_byte_line made f next bytes found over = ap (flip_line next f.entry f.at) found ∙ ap (flipped_line next f.at) (slice_get_past bytes f.at over)
 
 pub cut_act : (made : List (List ℕ)) (number : ℕ) (bytes new : List ℕ) → entry_at made number ≡ Some bytes → new ≡ take (length bytes - 1) bytes → cuts (entry_at made number) ≡ makes (new ∷ [])
 cut_act made number bytes new found is = ap cuts found ∙ ap (λ (b : List ℕ). makes (b ∷ [])) (sym is)
@@ -96,7 +64,7 @@ pub record IsFound (state : PlayState) (who : Device) (found : Option (ClientMod
 pub found_by : (state : PlayState) (who : Device) (found : Option (ClientModel MemoryDiskModel)) → (i : ℕ) × (seat : Seat) × IsSeatAt state.seats.items i who seat × (found ≡ seat.client) → IsFound state who found
 found_by state who found (i, seat, at, is) = record { place = i; seat = seat; at = at; is = is }
 
-found_there : (script : List PlayLine) (scene : Scene) (state : PlayState) (who : Device) (found : Option (ClientModel MemoryDiskModel)) → StandsFor script scene state → IsFound state who found → scene.world.clients who ≡ option_map state_of found
+pub found_there : (script : List PlayLine) (scene : Scene) (state : PlayState) (who : Device) (found : Option (ClientModel MemoryDiskModel)) → StandsFor script scene state → IsFound state who found → scene.world.clients who ≡ option_map state_of found
 found_there script scene state who found stands f = client_there script scene state f.place who f.seat stands f.at ∙ ap (option_map state_of) (sym f.is)
 
 -- what is known of a client that was found

@@ -13,7 +13,6 @@ pub mod FirstMoves
 pub mod Forgeries
 pub mod Found
 pub mod Founders
-pub mod GeneratedPlays
 pub mod GeneratedRun
 pub mod Generating
 pub mod HistoryKeys
@@ -32,7 +31,6 @@ pub mod Places
 pub mod Played
 pub mod Ready
 pub mod Reported
-pub mod Results
 pub mod Rosters
 pub mod Runs
 pub mod Scripts
@@ -50,3 +48,4 @@ pub mod Submitted
 pub mod Summaries
 pub mod TextBytes
 pub mod Told
+pub mod Common

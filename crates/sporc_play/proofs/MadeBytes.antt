@@ -1,31 +1,14 @@
 -- The entries that clients make are strings of bytes.
-use Rattle.std.proofs.Common.{ℕ, ◌+◌, ◌<◌, Bool, true, false, List, [], ◌∷◌, ◌++◌, length, arith, Option, None, Some}
-use Rattle.std.specs.Prelude.{flat_map, option_map}
-use Rattle.std.specs.FinMap.{get}
-use Rattle.std.specs.Int.{w16, to_be_bytes}
-use Rattle.std.specs.List.{AllByRecursion, cons_option}
-use Rattle.sporc_cipher.specs.Mask.{mask_of}
-use Rattle.sporc_delta.specs.Format.{delta_bytes}
-use Rattle.sporc_hash.specs.Chain.{genesis_value, last_value, next_value, value_after}
-use Rattle.sporc_member.specs.declared.change.Change.{Change as MemberChange}
-use Rattle.sporc_member.specs.declared.change.Change.TheVariants.{Add, Remove, SetRole, AddDevice, DropDevice, Upgrade}
+use Rattle.std.proofs.Common.{ℕ, ◌+◌, ◌<◌, Bool, List, [], ◌∷◌, ◌++◌, length, arith, Option, None, Some}
+use Rattle.sporc_play.proofs.Common.{flat_map, option_map, get, w16, to_be_bytes, AllByRecursion, cons_option, mask_of, delta_bytes, last_value, MemberChange, Add, Remove, SetRole, AddDevice}
+use Rattle.sporc_play.proofs.Common.{DropDevice, Upgrade, role_code_of, ChangeBody, Wrap, change_bytes, wrap_bytes, signed_string, genesis_bytes, version_of, Keys, entry_stream, previous_stream}
+use Rattle.sporc_play.proofs.Common.{roster_of, Pending, Chosen, bytes_made, current_key, PlainClient, me_of}
+use Rattle.sporc_hash.specs.Chain.{genesis_value, next_value, value_after}
 use Rattle.sporc_member.specs.declared.role.Role.{Role}
-use Rattle.sporc_member.specs.declared.role.Role.TheVariants.{Admin, Editor, Reader}
-use Rattle.sporc_member.specs.Role.{role_code_of}
-use Rattle.sporc_entry.specs.declared.change.ChangeBody.{ChangeBody}
-use Rattle.sporc_entry.specs.declared.wrap.Wrap.{Wrap}
-use Rattle.sporc_entry.specs.ChangeBody.{change_body_bytes, change_bytes, wrap_bytes}
-use Rattle.sporc_entry.specs.Entry.{signed_string}
-use Rattle.sporc_entry.specs.Genesis.{genesis_bytes}
-use Rattle.sporc_entry.specs.Version.{version_of}
-use Rattle.sporc_epoch.specs.Keys.{Keys}
+use Rattle.sporc_entry.specs.ChangeBody.{change_body_bytes}
 use Rattle.sporc_epoch.specs.Sealing.{body_sealed, wraps_sealed}
-use Rattle.sporc_epoch.specs.Streams.{entry_stream, previous_stream}
-use Rattle.sporc_head.specs.History.{roster_of}
-use Rattle.sporc_client.specs.declared.pending.Pending.{Pending}
 use Rattle.sporc_client.specs.declared.pending.Pending.TheVariants as items
-use Rattle.sporc_client.specs.Entries.{Chosen, body_of, bytes_made, current_key, entry_made, kind_of, sealing_of, unsigned_entry}
-use Rattle.sporc_client.specs.PlainClient.{PlainClient, me_of}
+use Rattle.sporc_client.specs.Entries.{body_of, entry_made, kind_of, sealing_of, unsigned_entry}
 use Rattle.sporc_client.proofs.Spellings.{AreTypedItems, HasScalars}
 use Rattle.sporc_play.proofs.ByteClients.{IsByteChange, IsByteItem}
 use Rattle.sporc_play.proofs.ByteFacts.{AreBytes, bytes_16, bytes_append, bytes_mask, bytes_sha}
@@ -35,9 +18,7 @@ use Rattle.sporc_play.proofs.TextBytes.{delta_are}
 -- ---- changes
 
 role_fits : (role : Role) → role_code_of role < 256
-role_fits Reader = omega arith
-role_fits Editor = omega arith
-role_fits Admin = omega arith
+role_fits role = grind arith
 
 change_are : (change : MemberChange) (rest : List ℕ) → IsByteChange change → AreBytes rest → AreBytes (change_bytes change rest)
 change_are (Add member role key) rest is are =
@@ -101,8 +82,7 @@ hash_are genesis entries = value_are (genesis_value genesis) entries (bytes_sha 
 -- ---- entries
 
 kind_fits : (item : Pending) → kind_of item < 256
-kind_fits (items.Edit marks) = omega arith
-kind_fits (items.Change change) = omega arith
+kind_fits item = grind arith
 
 -- an item whose bytes are known
 abbrev pub IsWritten : Pending → Type 0
@@ -122,8 +102,7 @@ body_are c chosen (items.Change change) is new old =
     })
 
 version_fits : (upgraded : Bool) → version_of upgraded < 256
-version_fits true = omega arith
-version_fits false = omega arith
+version_fits upgraded = grind arith
 
 pub made_are : (c : PlainClient) (chosen : Chosen) (item : Pending) → IsWritten item → (me_of c).number < 256 → AreBytes c.opening.genesis.document → AreBytes chosen.randomizer → AreBytes chosen.new_key → AreBytes (current_key c) → AreBytes (bytes_made c chosen item)
 unfolding entry_made

@@ -1,28 +1,11 @@
 -- Commands that make entries without a client: of another entry, or for a rogue.
 use Rattle.std.proofs.Common.{◌≡◌, ℕ, ◌+◌, List, [], ◌++◌, length, map, refl, sym, ap, ap₂, ◌∙◌, subst, Option, None, Some, option_map, Result}
-use Rattle.std.specs.Option.{option_to_list}
-use Rattle.lms_leaf.specs.declared.faults.LeafFault.{LeafFault}
-use Rattle.lms_tree.specs.LmsPrivate.{LmsPrivate}
-use Rattle.sporc_memory.specs.MemoryDisk.{MemoryDiskModel}
-use Rattle.sporc_client.specs.ClientModel.{ClientModel, state_of}
-use Rattle.sporc_client.specs.PlainClient.{PlainClient}
-use Rattle.sporc_client.specs.Run.{Setup}
-use Rattle.sporc_member.specs.declared.device.Device.{Device}
-use Rattle.sporc_member.specs.Device.{first_device}
+use Rattle.sporc_play.proofs.Common.{option_to_list, LeafFault, LmsPrivate, MemoryDiskModel, ClientModel, state_of, PlainClient, Setup, Device, first_device, PlayLine, Forgery, Rogue, PlayState}
+use Rattle.sporc_play.proofs.Common.{setup_of, forged_entry, line_by, next_number, sign_line, Effect, Scene, after, if_open, leaf_after, performed, signs_by, with_more, AreDrawn, IsRogueAt, HasSigned}
+use Rattle.sporc_play.proofs.Common.{forged_by, signing_line, IsRogueOf, StandsFor}
 use Rattle.sporc_script.specs.declared.command.Command.TheVariants as commands
-use Rattle.sporc_script.specs.declared.play_line.PlayLine.{PlayLine}
-use Rattle.sporc_script.specs.declared.sign.Forgery.{Forgery}
-use Rattle.sporc_play.specs.declared.seat.Rogue.{Rogue}
-use Rattle.sporc_play.specs.declared.state.PlayState.{PlayState}
-use Rattle.sporc_play.specs.Cast.{setup_of}
-use Rattle.sporc_play.specs.Forged.{forged_entry}
-use Rattle.sporc_play.specs.Report.{line_by, next_number, sign_line}
-use Rattle.sporc_play.specs.Scene.{Effect, Scene, after, if_open, leaf_after, performed, signs_by, with_more}
-use Rattle.sporc_play.specs.Seats.{AreDrawn, IsRogueAt}
-use Rattle.sporc_play.specs.Signing.{HasSigned, forged_by, signing_line}
-use Rattle.sporc_play.specs.Stage.{HasSameMembers, IsRogueOf, StandsFor}
 use Rattle.sporc_play.proofs.Places.{at_place}
-use Rattle.sporc_play.proofs.Seating.{ChangesRogue, IsSameAt, stands_made, stands_rogue}
+use Rattle.sporc_play.proofs.Seating.{ChangesRogue, stands_rogue}
 use Rattle.sporc_play.proofs.Submissions.{more_other, more_own}
 
 -- ---- for a rogue
@@ -93,10 +76,3 @@ signing_told script scene state i next f rogue client old new stands at client_i
           ∙ ap (λ (o : Option PlainClient). line_by f.from o (λ c. sign_line (first_device f.member) (next_number scene) (leaf_after (s.private (first_device f.member)) (scene.leaves (first_device f.member))))) (sym client_is),
       told,
     )
-
--- ---- of another entry
-
--- a command that makes these entries and does nothing else
-pub made_stands : (script : List PlayLine) (scene scene' : Scene) (state state' : PlayState) → StandsFor script scene state → HasSameMembers state state' → ((who : Device) → IsSameAt who scene scene')
-    → map (λ bytes. bytes.items) state'.made.items ≡ scene'.made → StandsFor script scene' state'
-made_stands script scene scene' state state' stands same all made = stands_made script scene scene' state state' stands all same made

@@ -1,19 +1,9 @@
 -- What the moves of one client change.
-use Rattle.std.proofs.Common.{◌≡◌, ◌≢◌, ℕ, Bool, cond, List, [], ◌∷◌, ◌++◌, map, refl, sym, ap, ◌∙◌, append-nil, append_assoc, Option, None, Some}
-use Rattle.std.specs.Prelude.{⊤}
-use Rattle.sporc_member.specs.declared.device.Device.{Device}
-use Rattle.sporc_member.specs.Device.{same_device}
-use Rattle.sporc_member.proofs.SameDevice.{one_same}
-use Rattle.sporc_epoch.specs.Keys.{Keys}
-use Rattle.sporc_client.specs.Log.{Logged}
-use Rattle.sporc_client.specs.PlainClient.{PlainClient, opened}
-use Rattle.sporc_client.specs.Run.{Setup, World, Move, Open, Happen, Give, Restart, after, after_all, given, opening_of}
-use Rattle.sporc_client.specs.Step.{replay_from, step}
-use Rattle.sporc_client.specs.Answers.{refusal_of}
-use Rattle.sporc_client.proofs.Worlds.{gives_to, happens_to, restarted, restarts}
-use Rattle.sporc_client.proofs.Calls.{put_other}
-use Rattle.sporc_client.proofs.Reached.{put_same}
-use Rattle.sporc_play.specs.Logs.{log_after, logs_after, mover_of}
+use Rattle.std.proofs.Common.{◌≡◌, ◌≢◌, ℕ, Bool, cond, List, [], ◌∷◌, ◌++◌, map, refl, sym, ap, ◌∙◌, append-nil, append_assoc, Option, Some, arith, None}
+use Rattle.sporc_play.proofs.Common.{⊤, Device, same_device, one_same, Keys, Logged, PlainClient, opened, Setup, World, Move, Open, Happen, Give, Restart, after_all, given, opening_of, replay_from}
+use Rattle.sporc_play.proofs.Common.{step, refusal_of, gives_to, happens_to, restarted, put_other, put_same, log_after, logs_after, mover_of, Effect, nothing, if_open}
+use Rattle.sporc_client.specs.Run.{after}
+use Rattle.sporc_client.proofs.Worlds.{restarts}
 use Rattle.sporc_play.proofs.Distinct.{same_or_not}
 
 -- moves that are all of one device's client
@@ -28,22 +18,7 @@ happens_of who (e ∷ es) = (refl, happens_of who es)
 -- ---- other clients
 
 pub client_other : (s : Setup) (w : World) (move : Move) (other : Device) → other ≢ mover_of move → (after s w move).clients other ≡ w.clients other
-client_other s w (Open who ring) other differs = put_other w.clients who (opened (opening_of s who ring)) other differs
-client_other s w (Happen who event) other differs = go (w.clients who)
-  where
-    go : (o : Option PlainClient) → (happens_to w who event o).clients other ≡ w.clients other
-    go None = refl
-    go (Some c) = put_other w.clients who (step c event) other differs
-client_other s w (Give who position bytes) other differs = go (w.clients who)
-  where
-    go : (o : Option PlainClient) → (gives_to w who position bytes o).clients other ≡ w.clients other
-    go None = refl
-    go (Some c) = put_other w.clients who (given c bytes (refusal_of c position bytes)) other differs
-client_other s w (Restart who k) other differs = go (w.clients who)
-  where
-    go : (o : Option PlainClient) → (restarts w who k o).clients other ≡ w.clients other
-    go None = refl
-    go (Some c) = put_other w.clients who (restarted c k) other differs
+client_other s w move other differs = grind (arith, put_other)
 
 pub clients_other : (s : Setup) (w : World) (moves : List Move) (who other : Device) → AreOf who moves → other ≢ who → (after_all s w moves).clients other ≡ w.clients other
 clients_other s w [] who other are differs = refl
@@ -93,3 +68,8 @@ client_opened s w who ring = put_same w.clients who (opened (opening_of s who ri
 
 pub log_moved : (s : Setup) (w : World) (logs : Device → List Logged) (move : Move) → logs_after s w logs (move ∷ []) (mover_of move) ≡ log_after w (logs (mover_of move)) move
 log_moved s w logs move = log_own w logs move
+
+-- what holds of nothing, and of what a client does, holds of it if there is one
+pub if_open_has : (P : Effect → Type 0) (o : Option PlainClient) (act : PlainClient → Effect) → P nothing → ((c : PlainClient) → o ≡ Some c → P (act c)) → P (if_open o act)
+if_open_has P None act none each = none
+if_open_has P (Some c) act none each = each c refl

@@ -1,19 +1,9 @@
 -- A script's play is one run.
 use Rattle.std.proofs.Common.{◌≡◌, List, ℕ, true, [], ◌∷◌, ◌++◌, refl, sym, ap, ◌∙◌, subst, append_assoc}
-use Rattle.std.specs.Prelude.{Contains}
-use Rattle.std.specs.List.{AllByRecursion}
-use Rattle.std.proofs.lemmas.Bool.{and_parts}
-use Rattle.sporc_client.specs.Typed.{IsTypedRun}
-use Rattle.sporc_script.specs.Commands.{InRange}
-use Rattle.sporc_script.specs.Declarations.{declared_by as declarations, may_follow, names_performers}
-use Rattle.sporc_script.specs.declared.command.Join.{Join}
-use Rattle.sporc_script.specs.Grammar.{IsPlayScript}
-use Rattle.sporc_script.specs.declared.command.Command.{Command}
+use Rattle.sporc_play.proofs.Common.{Contains, AllByRecursion, and_parts, IsTypedRun, InRange, declarations, may_follow, names_performers, Join, IsPlayScript, Command, PlayLine, has_admin, IsOneRun}
+use Rattle.sporc_play.proofs.Common.{moves_of, commands_of}
 use Rattle.sporc_script.specs.declared.command.Command.TheVariants as commands
-use Rattle.sporc_script.specs.declared.play_line.PlayLine.{PlayLine}
-use Rattle.sporc_play.specs.Cast.{has_admin, setup_of}
-use Rattle.sporc_play.specs.Moves.{IsOneRun, moves_of}
-use Rattle.sporc_play.specs.Scene.{commands_of}
+use Rattle.sporc_play.specs.Cast.{setup_of}
 use Rattle.sporc_play.proofs.Acts.{change_acts, cut_acts, discard_acts, edit_acts, flip_acts, give_acts, no_act, restart_acts}
 use Rattle.sporc_play.proofs.FirstMoves.{first_run}
 use Rattle.sporc_play.proofs.Runs.{MayBe, one_run_of, typed_play}
@@ -53,7 +43,7 @@ all_act script before (l ∷ ls) whole all = (
 
 pub typed_run : (text : List ℕ) (script : List PlayLine) → IsPlayScript text script → has_admin script ≡ true → IsTypedRun (setup_of script) (moves_of script (commands_of script))
 typed_run text script is founded =
-    typed_play script (commands_of script) (first_run text script is founded) (all_act script [] script refl (script_follows text script is))
+    let all = script_follows text script is in typed_play script (commands_of script) (first_run script all founded) (all_act script [] script refl all)
 
 pub one_run : (text : List ℕ) (script : List PlayLine) → IsPlayScript text script → has_admin script ≡ true → IsOneRun script (commands_of script)
 one_run text script is founded = one_run_of script (commands_of script) (typed_run text script is founded)

@@ -1,32 +1,13 @@
 -- The state before the first command.
-use Rattle.std.proofs.Common.{◌≡◌, ℕ, ◌≤◌, Bool, true, false, List, [], ◌∷◌, length, map, fold, refl, sym, ap, ap₂, ◌∙◌, subst, Option, None, Some, option_map}
-use Rattle.std.specs.Prelude.{if◌then◌else◌}
-use Rattle.std.specs.FinMap.{empty, insert}
-use Rattle.std.specs.List.{AllByRecursion, list_any}
-use Rattle.std.proofs.lemmas.List.{take_all}
-use Rattle.std.proofs.lemmas.List.Elements.{All-from_recursion}
-use Rattle.lms_sign.specs.Signer.{SignerModel}
-use Rattle.sporc_memory.specs.MemoryDisk.{MemoryDiskModel}
-use Rattle.sporc_epoch.specs.Keys.{Keys}
-use Rattle.sporc_client.specs.ClientModel.{ClientModel, state_of}
-use Rattle.sporc_client.specs.Run.{Move}
-use Rattle.sporc_member.specs.declared.device.Device.{Device}
-use Rattle.sporc_member.specs.declared.founder.Founder.{Founder}
-use Rattle.sporc_member.specs.Device.{first_device}
-use Rattle.sporc_member.specs.Role.{is_admin}
+use Rattle.std.proofs.Common.{◌≡◌, ℕ, ◌≤◌, Bool, true, false, List, [], length, map, fold, refl, sym, ap, ap₂, ◌∙◌, subst, Option, None, Some, option_map}
+use Rattle.sporc_play.proofs.Common.{if◌then◌else◌, empty, insert, list_any, take_all, All-from_recursion, SignerModel, MemoryDiskModel, Keys, ClientModel, state_of, Move, Device}
+use Rattle.sporc_play.proofs.Common.{Founder, first_device, is_admin, Tree, PlayLine, Rogue, Seat, PlayState, founders_of, genesis_by, has_admin, is_pair, private_of, public_of, tree_of, pair_key}
+use Rattle.sporc_play.proofs.Common.{HasBlank, HaveDeclared, IsFresh, IsFreshRogue, Scene, opening, openings, scene_moved, scene_opened, AreDeclared, Holds, IsCastOf, IsRogueOf, IsSeatOf, StandsFor}
 use Rattle.sporc_script.specs.declared.command.Pair.{Pair}
-use Rattle.sporc_script.specs.declared.command.Tree.{Tree}
-use Rattle.sporc_script.specs.declared.play_line.PlayLine.{PlayLine}
 use Rattle.sporc_play.specs.declared.cast.Cast.{Cast}
 use Rattle.sporc_play.specs.declared.cast.Declared.{Declared}
-use Rattle.sporc_play.specs.declared.seat.Rogue.{Rogue}
-use Rattle.sporc_play.specs.declared.seat.Seat.{Seat}
-use Rattle.sporc_play.specs.declared.state.PlayState.{PlayState}
-use Rattle.sporc_play.specs.Cast.{founders_of, genesis_by, has_admin, is_pair, private_of, public_of, setup_of, tree_of}
-use Rattle.sporc_play.specs.Derived.{pair_key}
-use Rattle.sporc_play.specs.Opening.{HasBlank, HaveDeclared, IsFresh, IsFreshRogue}
-use Rattle.sporc_play.specs.Scene.{Scene, opening, openings, scene_moved, scene_opened}
-use Rattle.sporc_play.specs.Stage.{AreDeclared, Holds, IsCastOf, IsRogueOf, IsSeatOf, StandsFor}
+use Rattle.sporc_play.specs.Cast.{setup_of}
+use Rattle.sporc_play.proofs.Places.{all_each}
 
 -- ---- who takes part
 
@@ -60,17 +41,9 @@ fresh_seat script seat is = record {
   holds = fresh_holds script seat.device seat.signer seat.client is.closed is.signer;
 }
 
-fresh_seats : (script : List PlayLine) (seats : List Seat) → AllByRecursion (IsFresh (tree_of script)) seats → AllByRecursion (IsSeatOf (setup_of script) (scene_opened script 0)) seats
-fresh_seats script [] all = tt
-fresh_seats script (x ∷ xs) all = (fresh_seat script x all.0, fresh_seats script xs all.1)
-
 fresh_rogue : (script : List PlayLine) (rogue : Rogue) → IsFreshRogue (tree_of script) rogue → IsRogueOf (setup_of script) (scene_opened script 0) rogue
 unfolding setup_of
 fresh_rogue script rogue is = record { asked = is.asked; signer = record { key = is.signer.key; leaves = is.signer.leaves } }
-
-fresh_rogues : (script : List PlayLine) (rogues : List Rogue) → AllByRecursion (IsFreshRogue (tree_of script)) rogues → AllByRecursion (IsRogueOf (setup_of script) (scene_opened script 0)) rogues
-fresh_rogues script [] all = tt
-fresh_rogues script (x ∷ xs) all = (fresh_rogue script x all.0, fresh_rogues script xs all.1)
 
 -- ---- the state
 
@@ -87,8 +60,8 @@ pub stands_first : (script : List PlayLine) (state : PlayState) → AreDeclared 
 stands_first script state declared known genesis none = record {
   genesis = genesis ∙ ap genesis_by known.founders ∙ sym (genesis_is script);
   cast = cast_is script state.cast state.seats.items state.rogues.items known;
-  seats = fresh_seats script state.seats.items known.fresh;
-  rogues = fresh_rogues script state.rogues.items known.fresh_rogues;
+  seats = all_each (IsFresh (tree_of script)) (IsSeatOf (setup_of script) (scene_opened script 0)) state.seats.items (fresh_seat script) known.fresh;
+  rogues = all_each (IsFreshRogue (tree_of script)) (IsRogueOf (setup_of script) (scene_opened script 0)) state.rogues.items (fresh_rogue script) known.fresh_rogues;
   seated = seated_are script state.cast state.seats.items state.rogues.items known;
   rogue_devices = known.rogues_are;
   declared = declared;

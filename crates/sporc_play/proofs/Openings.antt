@@ -1,35 +1,20 @@
 -- The clients of the founders open, one line after another.
-use Rattle.std.proofs.Common.{◌≡◌, ℕ, zero, suc, ◌+◌, ◌<◌, Bool, true, false, cond, List, [], ◌∷◌, ◌++◌, length, take, get_or, map, refl, sym, ap, ◌∙◌, subst, arith, append-nil, Option, None, Some, option_map}
-use Rattle.std.specs.Prelude.{Contains, filter_map, if◌then◌else◌}
-use Rattle.std.specs.List.{cons_option}
-use Rattle.std.proofs.lemmas.List.Elements.{filter_map-append}
-use Rattle.sporc_memory.specs.MemoryDisk.{MemoryDiskModel}
-use Rattle.sporc_client.specs.ClientModel.{ClientModel, state_of}
-use Rattle.sporc_client.specs.Log.{Logged}
-use Rattle.sporc_client.specs.Run.{Setup, World, Move, Open, after, after_all, start}
-use Rattle.sporc_client.proofs.Calls.{after_append}
-use Rattle.sporc_member.specs.declared.device.Device.{Device}
-use Rattle.sporc_member.specs.declared.founder.Founder.{Founder}
-use Rattle.sporc_member.specs.Device.{same_device}
-use Rattle.sporc_script.specs.declared.command.Command.{Command}
+use Rattle.std.proofs.Common.{◌≡◌, ℕ, zero, suc, ◌+◌, ◌<◌, Bool, true, false, cond, List, [], ◌∷◌, ◌++◌, length, take, get_or, map, refl, sym, ap, ◌∙◌, subst, arith, append-nil, Option, None, Some, option_map, ap₂}
+use Rattle.sporc_play.proofs.Common.{Contains, filter_map, if◌then◌else◌, cons_option, filter_map-append, MemoryDiskModel, ClientModel, state_of, Logged, Setup, World, Move, Open, after_all, start}
+use Rattle.sporc_play.proofs.Common.{after_append, Device, Founder, same_device, Command, PlayLine, Seat, PlayState, device_by, first_ring, founders_of, is_founder, opener_by, openers_by, seat_open}
+use Rattle.sporc_play.proofs.Common.{log_after, logs_after, mover_of, Scene, openings, scene_moved, scene_opened, IsSeatAt, IsSeatOf, StandsFor}
+use Rattle.sporc_client.specs.Run.{after}
 use Rattle.sporc_script.specs.declared.command.Command.TheVariants as commands
-use Rattle.sporc_script.specs.declared.play_line.PlayLine.{PlayLine}
-use Rattle.sporc_play.specs.declared.seat.Seat.{Seat}
-use Rattle.sporc_play.specs.declared.state.PlayState.{PlayState}
 use Rattle.sporc_play.proofs.Distinct.{AreDistinct, IsNotIn, are_distinct}
-use Rattle.sporc_play.specs.Cast.{device_by, first_ring, founders_of, is_founder, opener_by, openers_by, setup_of}
-use Rattle.sporc_play.specs.Joined.{seat_open}
-use Rattle.sporc_play.specs.Logs.{log_after, logs_after, mover_of}
-use Rattle.sporc_play.specs.Scene.{Scene, openings, scene_moved, scene_opened}
-use Rattle.sporc_play.specs.Seats.{IsSeatAt}
-use Rattle.sporc_play.specs.Stage.{IsSeatOf, StandsFor}
+use Rattle.sporc_play.specs.Cast.{setup_of}
 use Rattle.sporc_play.proofs.Becoming.{entries_of}
 use Rattle.sporc_play.proofs.Commands.{seat_there}
 use Rattle.sporc_play.proofs.Joins.{own_open, seat_opens}
 use Rattle.sporc_play.proofs.Moved.{client_other}
 use Rattle.sporc_play.proofs.Places.{among_here, among_more, apart_front, not_in_contains}
 use Rattle.sporc_play.proofs.Reported.{take_more}
-use Rattle.sporc_play.proofs.Seating.{ChangesSeat, Does, same_for_others, stands_seat, with_client}
+use Rattle.sporc_play.proofs.Seating.{ChangesSeat, acted, stands_acted, with_client}
+use Rattle.sporc_play.specs.Scene.{moved}
 
 -- the devices that have or may get a client, by these lines
 abbrev devices : List PlayLine → List Device
@@ -59,13 +44,7 @@ devices_before (x ∷ xs) (suc i) who l low is own apart =
 
 -- an opener is a device that the line declares
 pub opener_device : (fs : List Founder) (c : Command) (who : Device) → opener_by fs c ≡ Some who → device_by c ≡ Some who
-opener_device fs (commands.Member f) who is = is
-opener_device fs (commands.Device d) who is = go (is_founder fs d.member) is
-  where
-    go : (founds : Bool) → cond founds (Some d) None ≡ Some who → Some d ≡ Some who
-    go true is = is
-    go false is = absurd cc
-opener_device fs c who is = absurd cc
+opener_device fs c who is = grind arith
 
 opener_or_not : (fs : List Founder) (who : Device) (c : Command) (ds os : List Device) → IsNotIn who (cons_option (device_by c) ds) → (IsNotIn who ds → IsNotIn who os) → IsNotIn who (cons_option (opener_by fs c) os)
 opener_or_not fs who (commands.Member f) ds os apart rest = (apart.0, rest apart.1)
@@ -96,36 +75,28 @@ openings_append fs xs ys =
     joined [] es = refl
     joined (d ∷ ds) es = ap (λ (moves : List Move). Open d first_ring ∷ moves) (joined ds es)
 
-world_more : (s : Setup) (fs : List Founder) (script : List PlayLine) (i : ℕ) (l : PlayLine) → i < length script → l ≡ get_or script i l
-    → after_all s start (openings fs (take (i + 1) script)) ≡ after_all s (after_all s start (openings fs (take i script))) (openings fs (l ∷ []))
-world_more s fs script i l low is =
-    ap (after_all s start) (ap (openings fs) (take_more script i l low is) ∙ openings_append fs (take i script) (l ∷ [])) ∙ after_append s start (openings fs (take i script)) (openings fs (l ∷ []))
-
 logs_append : (s : Setup) (w : World) (logs : Device → List Logged) (xs ys : List Move) → logs_after s w logs (xs ++ ys) ≡ logs_after s (after_all s w xs) (logs_after s w logs xs) ys
 logs_append s w logs [] ys = refl
 logs_append s w logs (move ∷ xs) ys = logs_append s (after s w move) (λ (who : Device). if same_device who (mover_of move) then log_after w (logs who) move else logs who) xs ys
 
-logs_more : (s : Setup) (fs : List Founder) (script : List PlayLine) (i : ℕ) (l : PlayLine) → i < length script → l ≡ get_or script i l
-    → logs_after s start (λ who. []) (openings fs (take (i + 1) script))
-    ≡ logs_after s (after_all s start (openings fs (take i script))) (logs_after s start (λ who. []) (openings fs (take i script))) (openings fs (l ∷ []))
-logs_more s fs script i l low is =
-    ap (logs_after s start (λ who. [])) (ap (openings fs) (take_more script i l low is) ∙ openings_append fs (take i script) (l ∷ []))
-    ∙ logs_append s start (λ who. []) (openings fs (take i script)) (openings fs (l ∷ []))
+scene_more : (script : List PlayLine) (xs ys : List Move) → scene_moved script (xs ++ ys) ≡ acted (setup_of script) (scene_moved script xs) (moved ys)
+scene_more script xs ys =
+    ap₂ (λ (w : World) (logs : Device → List Logged). let scene : Scene = record { world = w; logs = logs; made = []; last = λ who. 0; asked = λ who. 0; leaves = λ who. 0 } in scene)
+    (after_append (setup_of script) start xs ys) (logs_append (setup_of script) start (λ who. []) xs ys)
 
 -- ---- one line
 
 no_client_in : (o : Option (ClientModel MemoryDiskModel)) → option_map state_of o ≡ None → o ≡ None
-no_client_in None is = refl
-no_client_in (Some c) is = absurd cc
+no_client_in o is = grind arith
 
 opening_of_one : (fs : List Founder) (l : PlayLine) (who : Device) → opener_by fs l.command ≡ Some who → openings fs (l ∷ []) ≡ Open who first_ring ∷ []
 opening_of_one fs l who is = ap (λ (o : Option Device). map (λ (d : Device). Open d first_ring) (cons_option o [])) is
 
-seat_opened : (s : Setup) (scene scene' : Scene) (x : Seat) → IsSeatOf s scene x → x.client ≡ None → Does s scene (Open x.device first_ring ∷ []) scene' → IsSeatOf s scene' (seat_open s first_ring x x.signer)
-seat_opened s scene scene' x was closed does =
+seat_opened : (s : Setup) (scene : Scene) (x : Seat) → IsSeatOf s scene x → x.client ≡ None → IsSeatOf s (acted s scene (moved (Open x.device first_ring ∷ []))) (seat_open s first_ring x x.signer)
+seat_opened s scene x was closed =
     let same : with_client x None ≡ x = ap (with_client x) (sym closed) in
-    subst (λ (y : Seat). IsSeatOf s scene' (seat_open s first_ring y x.signer)) same
-    (seat_opens s scene scene' x first_ring x.signer refl (subst (IsSeatOf s scene) (sym same) was) does)
+    subst (λ (y : Seat). IsSeatOf s (acted s scene (moved (Open x.device first_ring ∷ []))) (seat_open s first_ring y x.signer)) same
+    (seat_opens s scene x first_ring x.signer refl (subst (IsSeatOf s scene) (sym same) was))
 
 devices_are : (script : List PlayLine) → (setup_of script).devices ≡ filter_map (λ (l : PlayLine). device_by l.command) script
 unfolding setup_of
@@ -147,24 +118,18 @@ founder_stands script state state' i k l who x x' low is opener stands at opens 
     let s = setup_of script in
     let fs = founders_of script in
     let scene = scene_opened script i in
-    let scene' = scene_opened script (i + 1) in
     let apart : AreDistinct (devices script) = subst (λ (ds : List Device). AreDistinct ds) (devices_are script) (apart_front s.devices _ (are_distinct _ stands.declared.distinct)) in
     let before : IsNotIn who (openers_by fs (take i script)) = not_opener fs who (take i script) (devices_before script i who l low is (opener_device fs l.command who opener) apart) in
     let closed : scene.world.clients who ≡ None = unopened s start who (openers_by fs (take i script)) before in
     let was = seat_there script scene state k who x stands at in
     let unopen : x.client ≡ None = no_client_in x.client (sym was.client ∙ ap scene.world.clients at.own ∙ closed) in
-    let does : Does s scene (Open who first_ring ∷ []) scene' = record {
-      world = world_more s fs script i l low is ∙ ap (after_all s scene.world) (opening_of_one fs l who opener);
-      logs = logs_more s fs script i l low is ∙ ap (logs_after s scene.world scene.logs) (opening_of_one fs l who opener);
-      last = refl;
-      asked = refl;
-      leaves = refl;
-    } in
-    stands_seat script scene scene' state state' k who x x' stands at
-    (λ other differs. same_for_others s scene scene' (Open who first_ring ∷ []) who other does (refl, tt) differs)
-    (subst (IsSeatOf s scene') (sym opens)
-    (seat_opened s scene scene' x was unopen (subst (λ (d : Device). Does s scene (Open d first_ring ∷ []) scene') (sym at.own) does)))
-    (ap (λ (y : Seat). y.device) opens ∙ own_open s first_ring x x.signer) changed (same ∙ stands.made)
+    let moves : openings fs (take (i + 1) script) ≡ openings fs (take i script) ++ Open who first_ring ∷ [] =
+    ap (openings fs) (take_more script i l low is) ∙ openings_append fs (take i script) (l ∷ []) ∙ ap (λ (ms : List Move). openings fs (take i script) ++ ms) (opening_of_one fs l who opener) in
+    subst (λ (next : Scene). StandsFor script next state') (sym (ap (scene_moved script) moves ∙ scene_more script (openings fs (take i script)) (Open who first_ring ∷ [])))
+    (stands_acted script scene state state' k who x x' (moved (Open who first_ring ∷ [])) stands at (record { moves = (refl, tt); entries = refl })
+    (subst (IsSeatOf s (acted s scene (moved (Open who first_ring ∷ [])))) (sym opens)
+    (subst (λ (d : Device). IsSeatOf s (acted s scene (moved (Open d first_ring ∷ []))) (seat_open s first_ring x x.signer)) at.own (seat_opened s scene x was unopen)))
+    (ap (λ (y : Seat). y.device) opens ∙ own_open s first_ring x x.signer) changed same)
 
 -- a line that is no founder's opens no client
 pub other_stands : (script : List PlayLine) (state : PlayState) (i : ℕ) (l : PlayLine) → i < length script → l ≡ get_or script i l → opener_by (founders_of script) l.command ≡ None

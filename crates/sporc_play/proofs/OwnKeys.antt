@@ -1,21 +1,10 @@
 -- The keys that a play derives are such as a genesis can have.
-use Rattle.std.proofs.Common.{◌≡◌, ℕ, ◌<◌, ◌^◌, ◌∷◌, ◌++◌, length, take, Some, arith, length-append}
-use Rattle.std.proofs.lemmas.List.{length-take-le}
-use Rattle.std.specs.Int.{w16, w32, to_be_bytes}
-use Rattle.sha2.proofs.Facts256.{length-sha256}
+use Rattle.std.proofs.Common.{◌≡◌, ℕ, ◌∷◌, ◌++◌, length, take, Some, arith, length-append}
+use Rattle.sporc_play.proofs.Common.{length-take-le, w16, w32, to_be_bytes, length-sha256, lms_public_of, root_of, public_key_in, height_of, lms_code_of, Device, Tree}
+use Rattle.sporc_play.proofs.Common.{private_of, public_of, derived}
 use Rattle.lms_ots.specs.OtsType.{ots_code_of}
-use Rattle.lms_tree.specs.LmsPrivate.{lms_public_of, root_of}
-use Rattle.lms_tree.specs.LmsPublic.{public_key_in}
-use Rattle.lms_tree.specs.LmsType.{height_of, lms_code_of}
 use Rattle.lms_tree.proofs.PublicKeyLemmas.{public_key_read_back}
 use Rattle.sporc_client.proofs.HonestSignatures.{root_len}
-use Rattle.sporc_entry.specs.Genesis.{IsFounder}
-use Rattle.sporc_member.specs.declared.device.Device.{Device}
-use Rattle.sporc_member.specs.Device.{first_device}
-use Rattle.sporc_script.specs.declared.command.Tree.{Tree}
-use Rattle.sporc_script.specs.declared.member_role.MemberRole.{MemberRole}
-use Rattle.sporc_play.specs.Cast.{founder_of, private_of, public_of}
-use Rattle.sporc_play.specs.Derived.{derived}
 
 pub derived_len : (kind member number : ℕ) → length (derived kind member number) ≡ 32
 derived_len kind member number = length-sha256 (240 ∷ kind ∷ to_be_bytes w16 member ++ to_be_bytes w32 number)
@@ -42,6 +31,3 @@ pub own_key_known : (tree : Tree) (who : Device) → public_key_in (public_of tr
 own_key_known tree who =
     let key = private_of tree who in
     public_key_read_back (lms_public_of key) (half_len 2 who.member who.number) (root_len key (height_of key.lms) 1)
-
-pub own_founder : (tree : Tree) (m : MemberRole) → 0 < m.member → m.member < 2 ^ 16 → IsFounder (founder_of tree m)
-own_founder tree m positive small = record { member = (positive, small); key = own_key_len tree (first_device m.member) }

@@ -1,15 +1,27 @@
 -- Elements of lists at places, and numbers or devices that stand apart.
 use Rattle.std.proofs.Common.{◌≡◌, ◌≢◌, ℕ, zero, suc, ◌+◌, ◌<◌, ◌≤◌, List, [], ◌∷◌, ◌++◌, length, take, get_or, map, refl, sym, ap, ◌∙◌, subst, arith, add-one, Option, None, Some, inl, inr}
-use Rattle.std.specs.Prelude.{◌⊎◌, Contains, filter_map, slice_get}
-use Rattle.std.specs.List.{AllByRecursion, cons_option}
+use Rattle.sporc_play.proofs.Common.{◌⊎◌, Contains, filter_map, slice_get, AllByRecursion, cons_option, take_all}
 use Rattle.std.proofs.Math.ListN.{set}
-use Rattle.std.proofs.lemmas.List.{take_all}
 use Rattle.sporc_play.proofs.Distinct.{AreDistinct, IsNotIn}
+use Rattle.std.proofs.lemmas.Option.{slice_get_read}
 
 pub at_place : {X : Type 0} (P : X → Type 0) (xs : List X) (i : ℕ) (x : X) → AllByRecursion P xs → slice_get xs i ≡ Some x → P x
 at_place P [] i x all at = absurd cc
 at_place P (y ∷ ys) zero x all at = let same : y ≡ x = cc in subst P same all.0
 at_place P (y ∷ ys) (suc i) x all at = at_place P ys i x all.1 at
+
+pub all_each : {X : Type 0} (P Q : X → Type 0) (xs : List X) → ((x : X) → P x → Q x) → AllByRecursion P xs → AllByRecursion Q xs
+all_each P Q [] then all = tt
+all_each P Q (x ∷ xs) then all = (then x all.0, all_each P Q xs then all.1)
+
+pub all_mapped : {X Y : Type 0} (P : Y → Type 0) (f : X → Y) (xs : List X) → ((x : X) → P (f x)) → AllByRecursion P (map f xs)
+all_mapped P f [] each = tt
+all_mapped P f (x ∷ xs) each = (each x, all_mapped P f xs each)
+
+pub all_take : {X : Type 0} (P : X → Type 0) (n : ℕ) (xs : List X) → AllByRecursion P xs → AllByRecursion P (take n xs)
+all_take P zero xs all = tt
+all_take P (suc n) [] all = tt
+all_take P (suc n) (x ∷ xs) all = (all.0, all_take P n xs all.1)
 
 -- ---- those that stand apart
 
@@ -70,9 +82,7 @@ numbers_set {A = A} number (y ∷ ys) (suc i) x new at own = ap (λ (ns : List A
 -- ---- where one stands
 
 pub element : {X : Type 0} (xs : List X) (i : ℕ) (x : X) → i < length xs → x ≡ get_or xs i x → slice_get xs i ≡ Some x
-element [] i x low is = absurd (omega (arith, low))
-element (y ∷ ys) zero x low is = ap Some (sym is)
-element (y ∷ ys) (suc i) x low is = element ys i x (omega (arith, low)) is
+element xs i x low is = slice_get_read xs (length xs) i x refl low is
 
 pub not_in_contains : {A : Type 0} (n : A) (ns : List A) → IsNotIn n ns → Contains ns n → ⊥
 not_in_contains n [] apart (k, low, at) = omega (arith, low)

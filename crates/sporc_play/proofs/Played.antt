@@ -1,16 +1,10 @@
 -- What a play did, from what its parts did.
 use Rattle.std.proofs.Common.{◌≡◌, ◌≤◌, List, ℕ, length, Result, Ok, Err, sym, subst, inr}
-use Rattle.std.specs.Io.KnownBytes.{Consumes, IsAtEnd}
-use Rattle.std.specs.Result.{IfErr, OnOk, OnErr}
+use Rattle.sporc_play.proofs.Common.{Consumes, IsAtEnd, IfErr, OnOk, OnErr, IsPlayScript, PlayLine, MAX_SCRIPT, IsWriteCause, PlayOutcome, ReadsScript, ReadsWhole, Reports, ReportsPrefix}
 use Rattle.sporc_outside.specs.Uses.{Use}
 use Rattle.sporc_outside.specs.Streams.{StreamTold}
-use Rattle.sporc_script.specs.Grammar.{IsPlayScript}
-use Rattle.sporc_script.specs.declared.play_line.PlayLine.{PlayLine}
 use Rattle.sporc_play.specs.declared.fault.PlayFault.{PlayFault}
 use Rattle.sporc_play.specs.declared.fault.PlayFault.TheVariants as faults
-use Rattle.sporc_play.specs.declared.playing.TheConstants.{MAX_SCRIPT}
-use Rattle.sporc_play.specs.Playing.{IsWriteCause, PlayOutcome, ReadsScript, ReadsWhole}
-use Rattle.sporc_play.specs.Report.{Reports, ReportsPrefix}
 use Rattle.sporc_play.proofs.ClosedPlays.{own_play}
 use Rattle.sporc_play.proofs.OneRun.{one_run}
 

@@ -1,45 +1,19 @@
 -- A state that stands for a scene of a script can perform the script's next command.
-use Rattle.std.proofs.Common.{◌≡◌, ℕ, zero, suc, ◌+◌, ◌-◌, ◌^◌, ◌<◌, ◌≤◌, Bool, true, false, cond, List, [], ◌∷◌, length, take, get_or, refl, sym, ap, ◌∙◌, subst, arith, length-take, Option, None, Some, IfSome, IsSome}
-use Rattle.std.specs.Prelude.{Contains, filter_map}
-use Rattle.std.specs.List.{AllByRecursion}
-use Rattle.std.proofs.lemmas.Bool.{and_parts}
-use Rattle.std.proofs.lemmas.List.{length-map}
-use Rattle.lms_tree.specs.LmsPrivate.{LmsPrivate}
-use Rattle.lms_sign.specs.Signer.{SignerModel}
-use Rattle.sporc_memory.specs.MemoryDisk.{MemoryDiskModel}
-use Rattle.sporc_entry.specs.declared.genesis.Genesis.{Genesis}
-use Rattle.sporc_entry.specs.Genesis.{IsGenesis}
-use Rattle.sporc_client.specs.PlainClient.{Opening}
-use Rattle.sporc_client.specs.ClientModel.{ClientModel}
-use Rattle.sporc_client.specs.Run.{Setup}
-use Rattle.sporc_member.specs.declared.device.Device.{Device}
-use Rattle.sporc_member.specs.Device.{first_device, same_device}
-use Rattle.sporc_script.specs.Declarations.{declared_by as declarations, is_client, is_rogue, may_follow, names_performers, none_declared}
-use Rattle.sporc_script.specs.Grammar.{IsPlayScript}
-use Rattle.sporc_script.specs.declared.command.Command.{Command}
+use Rattle.std.proofs.Common.{◌≡◌, ℕ, zero, suc, ◌+◌, ◌-◌, ◌^◌, ◌<◌, ◌≤◌, true, List, [], ◌∷◌, length, take, get_or, refl, sym, ap, ◌∙◌, subst, arith, length-take, Option, None, Some, IfSome, IsSome}
+use Rattle.sporc_play.proofs.Common.{Contains, filter_map, AllByRecursion, and_parts, length-map, LmsPrivate, SignerModel, Genesis, IsGenesis, Opening, ClientModel, Setup, Device}
+use Rattle.sporc_play.proofs.Common.{first_device, declarations, is_client, is_rogue, may_follow, names_performers, none_declared, IsPlayScript, Command, PlayLine, MAX_SCRIPT, Rogue, Seat}
+use Rattle.sporc_play.proofs.Common.{PlayState, device_by, has_admin, IsShortScript, Scene, after, after_each, commands_of, opening, scene_at, signer_of, text_size, with_more, AreDrawn, IsReady}
+use Rattle.sporc_play.proofs.Common.{seated, IsCast, CanPerform, Holds, IsReadyRogue, IsReadySeat, IsRogueOf, IsSeatOf, StandsFor}
 use Rattle.sporc_script.specs.declared.command.Command.TheVariants as commands
-use Rattle.sporc_script.specs.declared.play_line.PlayLine.{PlayLine}
-use Rattle.sporc_play.specs.declared.playing.TheConstants.{MAX_SCRIPT}
-use Rattle.sporc_play.specs.declared.seat.Rogue.{Rogue}
-use Rattle.sporc_play.specs.declared.seat.Seat.{Seat}
-use Rattle.sporc_play.specs.declared.state.PlayState.{PlayState}
-use Rattle.sporc_play.specs.Cast.{device_by, has_admin, setup_of}
-use Rattle.sporc_play.specs.Playing.{IsShortScript}
-use Rattle.sporc_play.specs.Scene.{Scene, after, after_each, commands_of, opening, scene_at, signer_of, text_size, with_more}
-use Rattle.sporc_play.specs.Seats.{AreDrawn, IsReady, seated}
-use Rattle.sporc_play.specs.Stage.{IsCast, CanPerform, Holds, IsReadyRogue, IsReadySeat, IsRogueOf, IsSeatOf, StandsFor}
+use Rattle.sporc_play.specs.Cast.{setup_of}
 use Rattle.sporc_play.proofs.Scripts.{client_named, joiner_named, line_at, rogue_named}
 use Rattle.sporc_play.proofs.Sizes.{script_count, script_sizes}
+use Rattle.sporc_play.proofs.Places.{all_each}
 
 -- ---- counts
 
 more_at_most : (counts : Device → ℕ) (who : Option Device) (device : Device) → with_more counts who 1 device ≤ counts device + 1
-more_at_most counts None device = omega arith
-more_at_most counts (Some n) device = go (same_device device n)
-  where
-    go : (same : Bool) → cond same (counts device + 1) (counts device) ≤ counts device + 1
-    go true = omega arith
-    go false = omega arith
+more_at_most counts who device = grind arith
 
 pub asked_grows : (s : Setup) (scene : Scene) (commands : List (Scene → Command)) (who : Device) → (after_each s scene commands).asked who ≤ scene.asked who + length commands
 asked_grows s scene [] who = omega arith
@@ -48,9 +22,7 @@ asked_grows s scene (c ∷ cs) who =
 
 -- the first line asks nobody
 first_asks : (c : Command) → may_follow none_declared c ≡ true → signer_of c ≡ None
-first_asks (commands.Submit who) may = absurd cc
-first_asks (commands.Sign f) may = absurd cc
-first_asks c may = refl
+first_asks c may = grind arith
 
 asked_from : (s : Setup) (scene : Scene) (lines : List PlayLine) (i : ℕ) (who : Device) → ((l : PlayLine) → l ≡ get_or lines 0 l → 0 < length lines → signer_of l.command ≡ None) → scene.asked who ≡ 0
     → (after_each s scene (commands_of (take i lines))).asked who ≤ i - 1
@@ -82,45 +54,36 @@ some_signer s scene who signer (Some c) holds none = absurd cc
 some_signer s scene who (Some signer) None holds none = refl
 some_signer s scene who None None holds none = absurd holds
 
-ready_seats : (s : Setup) (scene : Scene) (seats : List Seat) → ((who : Device) → scene.asked who + 1 < 2 ^ 24) → AllByRecursion (IsSeatOf s scene) seats → AllByRecursion IsReadySeat seats
-ready_seats s scene [] few all = tt
-ready_seats s scene (x ∷ xs) few all = (
-  record {
-    asked = subst (λ (n : ℕ). n + 1 < 2 ^ 24) (sym all.0.asked) (few x.device);
-    signer = some_signer s scene x.device x.signer x.client all.0.holds;
-    ready = ready_client s scene x.device x.signer x.client all.0.holds;
-  },
-  ready_seats s scene xs few all.1,
-)
+ready_seat : (s : Setup) (scene : Scene) (x : Seat) → scene.asked x.device + 1 < 2 ^ 24 → IsSeatOf s scene x → IsReadySeat x
+ready_seat s scene x few is = record {
+  asked = subst (λ (n : ℕ). n + 1 < 2 ^ 24) (sym is.asked) few;
+  signer = some_signer s scene x.device x.signer x.client is.holds;
+  ready = ready_client s scene x.device x.signer x.client is.holds;
+}
 
-ready_rogues : (s : Setup) (scene : Scene) (rogues : List Rogue) → ((who : Device) → scene.asked who + 1 < 2 ^ 24) → AllByRecursion (IsRogueOf s scene) rogues → AllByRecursion IsReadyRogue rogues
-ready_rogues s scene [] few all = tt
-ready_rogues s scene (x ∷ xs) few all = (
-  record {
-    asked = subst (λ (n : ℕ). n + 1 < 2 ^ 24) (sym all.0.asked) (few x.device);
-    leaves = subst (λ (k : LmsPrivate). AreDrawn k x.signer.leaves.next x.signer.leaves) (sym all.0.signer.key)
-        (subst (λ (n : ℕ). AreDrawn (s.private x.device) n x.signer.leaves) (sym all.0.signer.leaves.next) all.0.signer.leaves);
-  },
-  ready_rogues s scene xs few all.1,
-)
+ready_rogue : (s : Setup) (scene : Scene) (x : Rogue) → scene.asked x.device + 1 < 2 ^ 24 → IsRogueOf s scene x → IsReadyRogue x
+ready_rogue s scene x few is = record {
+  asked = subst (λ (n : ℕ). n + 1 < 2 ^ 24) (sym is.asked) few;
+  leaves = subst (λ (k : LmsPrivate). AreDrawn k x.signer.leaves.next x.signer.leaves) (sym is.signer.key)
+      (subst (λ (n : ℕ). AreDrawn (s.private x.device) n x.signer.leaves) (sym is.signer.leaves.next) is.signer.leaves);
+}
 
-one_document : (s : Setup) (scene : Scene) (genesis : Genesis) (seats : List Seat) → genesis ≡ s.genesis → AllByRecursion (IsSeatOf s scene) seats → AllByRecursion (λ seat. IfSome seat.client (λ c. c.opening.genesis ≡ genesis)) seats
-one_document s scene genesis [] same all = tt
-one_document s scene genesis (x ∷ xs) same all = (go x.signer x.client all.0.holds, one_document s scene genesis xs same all.1)
-  where
-    go : (signer : Option (SignerModel MemoryDiskModel)) (client : Option (ClientModel MemoryDiskModel)) → Holds s scene x.device signer client → IfSome client (λ c. c.opening.genesis ≡ genesis)
-    go signer None holds = tt
-    go signer (Some c) holds = ap (λ (o : Opening). o.genesis) holds.opening ∙ sym same
+one_document : {D : Type 0} (s : Setup) (scene : Scene) (who : Device) (genesis : Genesis) → genesis ≡ s.genesis → (signer : Option (SignerModel D)) (client : Option (ClientModel D)) → Holds s scene who signer client → IfSome client (λ c. c.opening.genesis ≡ genesis)
+one_document s scene who genesis same signer None holds = tt
+one_document s scene who genesis same signer (Some c) holds = ap (λ (o : Opening). o.genesis) holds.opening ∙ sym same
 
 -- from whom a command names
 pub can_perform : (script : List PlayLine) (scene : Scene) (state : PlayState) (c : Command) → StandsFor script scene state → ((who : Device) → scene.asked who + 1 < 2 ^ 24) → IsCast state c → text_size c ≤ MAX_SCRIPT → CanPerform state c
-can_perform script scene state c stands few named short = record {
-  named = named;
-  seats = ready_seats (setup_of script) scene state.seats.items few stands.seats;
-  rogues = ready_rogues (setup_of script) scene state.rogues.items few stands.rogues;
-  one_document = one_document (setup_of script) scene state.genesis state.seats.items stands.genesis stands.seats;
-  short = short;
-}
+can_perform script scene state c stands few named short =
+    let s = setup_of script in
+    record {
+      named = named;
+      seats = all_each (IsSeatOf s scene) IsReadySeat state.seats.items (λ x. ready_seat s scene x (few x.device)) stands.seats;
+      rogues = all_each (IsRogueOf s scene) IsReadyRogue state.rogues.items (λ x. ready_rogue s scene x (few x.device)) stands.rogues;
+      one_document = all_each (IsSeatOf s scene) (λ seat. IfSome seat.client (λ c. c.opening.genesis ≡ state.genesis)) state.seats.items
+          (λ x is. one_document s scene x.device state.genesis stands.genesis x.signer x.client is.holds) stands.seats;
+      short = short;
+    }
 
 -- ---- those whom a command names
 

@@ -1,27 +1,16 @@
 -- A report, line by line.
-use Rattle.std.proofs.Common.{◌≡◌, ℕ, zero, suc, ◌+◌, ◌<◌, ◌≤◌, List, [], ◌∷◌, ◌++◌, length, take, get_or, Option, refl, sym, ap, ◌∙◌, subst, arith, add-one, append-nil, append_assoc}
-use Rattle.std.proofs.lemmas.List.{take_all}
-use Rattle.std.proofs.lemmas.List.Sums.{fold-append}
-use Rattle.std.specs.Io.KnownBytes.{Appends}
+use Rattle.std.proofs.Common.{◌≡◌, ℕ, ◌+◌, ◌<◌, ◌≤◌, List, [], ◌∷◌, ◌++◌, length, take, get_or, Option, refl, sym, ap, ◌∙◌, subst, append-nil, append_assoc}
+use Rattle.sporc_play.proofs.Common.{take_all, Appends, Setup, Command, PlayLine, setup_of, IsWriteCause, Reports, ReportsFrom, ReportsPrefix, Writes, Scene, after, after_each}
+use Rattle.sporc_play.proofs.Common.{commands_of, opening, scene_at}
 use Rattle.sporc_outside.proofs.Prefixes.{AppendsPrefix-all, AppendsPrefix-none, AppendsPrefix-then}
-use Rattle.sporc_client.specs.Run.{Setup}
-use Rattle.sporc_script.specs.declared.command.Command.{Command}
-use Rattle.sporc_script.specs.declared.play_line.PlayLine.{PlayLine}
 use Rattle.sporc_play.specs.declared.fault.PlayFault.{PlayFault}
 use Rattle.sporc_play.specs.declared.fault.PlayFault.TheVariants as faults
-use Rattle.sporc_play.specs.Cast.{setup_of}
 use Rattle.sporc_play.specs.Lines.{WritesPrefix}
-use Rattle.sporc_play.specs.Playing.{IsWriteCause}
-use Rattle.sporc_play.specs.Report.{Reports, ReportsFrom, ReportsPrefix, Writes}
-use Rattle.sporc_play.specs.Scene.{Scene, after, after_each, commands_of, opening, scene_at}
-
-take_suc : (lines : List PlayLine) (i : ℕ) (l : PlayLine) → i < length lines → l ≡ get_or lines i l → take (suc i) lines ≡ take i lines ++ l ∷ []
-take_suc [] i l low is = absurd (omega arith)
-take_suc (x ∷ xs) zero l low is = ap (λ (y : PlayLine). y ∷ []) (sym is)
-take_suc (x ∷ xs) (suc i) l low is = ap (λ (ys : List PlayLine). x ∷ ys) (take_suc xs i l (omega arith) is)
+use Rattle.std.proofs.lemmas.List.{take_more as more_taken}
+use Rattle.std.proofs.lemmas.List.Sums.{fold_push}
 
 pub take_more : (lines : List PlayLine) (i : ℕ) (l : PlayLine) → i < length lines → l ≡ get_or lines i l → take (i + 1) lines ≡ take i lines ++ l ∷ []
-take_more lines i l low is = rw add-one (take_suc lines i l low is)
+take_more lines i l low is = more_taken lines i l low ∙ ap (λ (y : PlayLine). take i lines ++ y ∷ []) (sym is)
 
 -- ---- scenes
 
@@ -31,7 +20,7 @@ commands_push (x ∷ xs) l = ap (λ (cs : List (Scene → Command)). (λ scene. 
 
 pub after_push : (s : Setup) (scene : Scene) (commands : List (Scene → Command)) (command : Scene → Command)
     → after_each s scene (commands ++ command ∷ []) ≡ after s (after_each s scene commands) (command (after_each s scene commands))
-after_push s scene commands command = fold-append (λ (now : Scene) (c : Scene → Command). after s now (c now)) scene commands (command ∷ [])
+after_push s scene commands command = fold_push (λ (now : Scene) (c : Scene → Command). after s now (c now)) scene commands command
 
 pub scene_more : (lines : List PlayLine) (i : ℕ) (l : PlayLine) → i < length lines → l ≡ get_or lines i l → scene_at lines (i + 1) ≡ after (setup_of lines) (scene_at lines i) l.command
 scene_more lines i l low is =

@@ -1,25 +1,13 @@
 -- Plays as runs of their clients: the moves of commands, one command after another.
 use Rattle.std.proofs.Common.{◌≡◌, ℕ, Bool, true, false, cond, Option, Some, IfSome, List, [], ◌∷◌, ◌++◌, length, map, take, drop, refl, sym, ap, ◌∙◌, subst, append_assoc, append-nil, take-append-drop}
-use Rattle.std.specs.Prelude.{if◌then◌else◌}
-use Rattle.std.specs.Cmp.{nat_cmp_total}
-use Rattle.std.specs.FinMap.{empty, get, get-empty, get-insert}
-use Rattle.std.specs.List.{AllByRecursion}
-use Rattle.std.specs.Ordering.{nat_cmp, eq_by_cmp}
-use Rattle.sporc_base.proofs.ListLemmas.{all_append}
-use Rattle.sporc_epoch.specs.Keys.{Keys}
-use Rattle.sporc_client.specs.Run.{Setup, Move, Open, World, IsRun, after_all, start}
-use Rattle.sporc_client.specs.Typed.{IsTypedMove, IsTypedRun}
+use Rattle.sporc_play.proofs.Common.{if◌then◌else◌, nat_cmp_total, empty, get, get-empty, get-insert, AllByRecursion, nat_cmp, eq_by_cmp, all_append, Keys, Setup, Move, Open, World, IsRun, after_all}
+use Rattle.sporc_play.proofs.Common.{start, IsTypedMove, IsTypedRun, after_append, run_append, Device, Command, PlayLine, first_ring, founders_of, has_admin, openers_by, setup_of, first_key, IsOneRun}
+use Rattle.sporc_play.proofs.Common.{moves_from, moves_of, Effect, Scene, effect_of, after, after_each, opening, opening_moves, openings}
 use Rattle.sporc_client.proofs.Agreed.{agree}
-use Rattle.sporc_client.proofs.Calls.{after_append, run_append}
-use Rattle.sporc_member.specs.declared.device.Device.{Device}
-use Rattle.sporc_script.specs.declared.command.Command.{Command}
-use Rattle.sporc_script.specs.declared.play_line.PlayLine.{PlayLine}
-use Rattle.sporc_play.specs.Cast.{first_ring, founders_of, has_admin, openers_by, setup_of}
-use Rattle.sporc_play.specs.Derived.{first_key}
-use Rattle.sporc_play.specs.Moves.{IsOneRun, moves_from, moves_of}
-use Rattle.sporc_play.specs.Scene.{Effect, Scene, effect_of, after, after_each, opening, opening_moves, openings}
-use Rattle.sporc_play.proofs.ByteClients.{AreByteClients, AreByteKeys, IsByteMove, moves_bytes}
+use Rattle.sporc_play.proofs.ByteClients.{AreByteClients, IsByteMove, moves_bytes}
 use Rattle.sporc_play.proofs.ByteFacts.{AreBytes, bytes_sha}
+use Rattle.std.proofs.Math.Seq.{take-append_seam}
+use Rattle.sporc_play.proofs.Places.{all_mapped}
 
 -- ---- the clients of a play are those of its moves
 
@@ -35,10 +23,6 @@ moves_append s scene (c ∷ cs) ys =
     ap (λ (moves : List Move). (effect_of s scene (c scene)).moves ++ moves) (moves_append s scene' cs ys)
     ∙ sym (append_assoc (effect_of s scene (c scene)).moves (moves_from s scene' cs) (moves_from s (after_each s scene' cs) ys))
 
-take_front : (xs ys : List Move) → take (length xs) (xs ++ ys) ≡ xs
-take_front [] ys = refl
-take_front (x ∷ xs) ys = ap (λ (moves : List Move). x ∷ moves) (take_front xs ys)
-
 moves_front : (cast : List PlayLine) (commands : List (Scene → Command)) (n : ℕ) → take (length (moves_of cast (take n commands))) (moves_of cast commands) ≡ moves_of cast (take n commands)
 moves_front cast commands n =
     let s = setup_of cast in
@@ -49,7 +33,7 @@ moves_front cast commands n =
     ap (λ (cs : List (Scene → Command)). opening_moves cast ++ moves_from s scene cs) (sym (take-append-drop n commands))
     ∙ ap (λ (moves : List Move). opening_moves cast ++ moves) (moves_append s scene first (drop n commands))
     ∙ sym (append_assoc (opening_moves cast) (moves_from s scene first) rest) in
-    ap (take (length (moves_of cast (take n commands)))) split ∙ take_front (moves_of cast first) rest
+    ap (take (length (moves_of cast (take n commands)))) split ∙ take-append_seam (moves_of cast first) rest
 
 pub one_run_of : (cast : List PlayLine) (commands : List (Scene → Command)) → IsTypedRun (setup_of cast) (moves_of cast commands) → IsOneRun cast commands
 one_run_of cast commands run =
@@ -106,17 +90,16 @@ runs_on s moves scene (c ∷ cs) come all =
 abbrev no_keys : Keys
 no_keys = empty
 
-first_keys : AreByteKeys first_ring
-first_keys epoch =
-    subst (λ (o : Option (List ℕ)). IfSome o AreBytes) (sym (get-insert nat_cmp_total no_keys 0 first_key epoch)) (go (eq_by_cmp nat_cmp epoch 0))
+-- what holds of the first key holds of the ring's
+pub first_ring_has : (P : List ℕ → Type 0) → P first_key → (epoch : ℕ) → IfSome (get first_ring epoch) P
+first_ring_has P is epoch = subst (λ (o : Option (List ℕ)). IfSome o P) (sym (get-insert nat_cmp_total no_keys 0 first_key epoch)) (go (eq_by_cmp nat_cmp epoch 0))
   where
-    go : (b : Bool) → IfSome (cond b (Some first_key) (get no_keys epoch)) AreBytes
-    go true = bytes_sha _
-    go false = subst (λ (o : Option (List ℕ)). IfSome o AreBytes) (sym (get-empty nat_cmp epoch)) tt
+    go : (b : Bool) → IfSome (cond b (Some first_key) (get no_keys epoch)) P
+    go true = is
+    go false = subst (λ (o : Option (List ℕ)). IfSome o P) (sym (get-empty nat_cmp epoch)) tt
 
 openings_bytes : (ds : List Device) → AllByRecursion IsByteMove (map (λ (who : Device). Open who first_ring) ds)
-openings_bytes [] = tt
-openings_bytes (who ∷ ds) = (first_keys, openings_bytes ds)
+openings_bytes ds = all_mapped IsByteMove (λ (who : Device). Open who first_ring) ds (λ who. first_ring_has AreBytes (bytes_sha _))
 
 first_bytes : (cast : List PlayLine) → AllByRecursion IsByteMove (opening_moves cast)
 first_bytes cast = go (has_admin cast)

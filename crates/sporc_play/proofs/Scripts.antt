@@ -1,23 +1,14 @@
 -- What the grammar gives of a script: who is declared, and whom its commands name.
 use Rattle.std.proofs.Common.{◌≡◌, ◌≢◌, ℕ, zero, suc, ◌+◌, ◌<◌, Bool, true, false, eq-eqb, List, [], ◌∷◌, ◌++◌, length, take, get_or, fold, refl, sym, ap, ◌∙◌, subst, arith, append_assoc, append-nil, Option, None, Some, inl, inr}
-use Rattle.std.specs.Prelude.{◌==◌, ◌&&◌, ◌||◌, not, nat_lt, Contains, filter_map}
-use Rattle.std.specs.List.{AllByRecursion, cons_option, list_any}
-use Rattle.std.proofs.lemmas.Bool.{and_parts, eqb-true}
-use Rattle.std.proofs.lemmas.List.Elements.{filter_map-append}
-use Rattle.sporc_member.specs.declared.device.Device.{Device}
-use Rattle.sporc_member.specs.Device.{first_device, same_device}
-use Rattle.sporc_member.proofs.SameDevice.{one_same, same_one}
-use Rattle.sporc_script.specs.Commands.{InRange}
-use Rattle.sporc_script.specs.Declarations.{Declared, declared_after, declared_by as declarations, is_among, is_client, is_declared, is_rogue, is_joiner, may_declare, may_follow, none_declared}
-use Rattle.sporc_script.specs.Grammar.{IsNext, IsPlayScript, play_line}
+use Rattle.sporc_play.proofs.Common.{◌==◌, ◌&&◌, ◌||◌, not, nat_lt, Contains, filter_map, AllByRecursion, cons_option, list_any, and_parts, eqb-true, filter_map-append, Device, first_device}
+use Rattle.sporc_play.proofs.Common.{same_device, one_same, same_one, InRange, declared_after, declarations, is_client, is_declared, is_rogue, may_declare, may_follow, none_declared, IsNext}
+use Rattle.sporc_play.proofs.Common.{IsPlayScript, play_line, FurtherInRange, Command, PlayLine, declared_member, device_by, rogue_by, all_append}
+use Rattle.sporc_script.specs.Declarations.{Declared, is_among, is_joiner}
 use Rattle.sporc_script.specs.Lines.{ReadsAs, lines_of}
-use Rattle.sporc_script.specs.Spelling.{FurtherInRange}
-use Rattle.sporc_script.specs.declared.command.Command.{Command}
 use Rattle.sporc_script.specs.declared.command.Command.TheVariants as commands
-use Rattle.sporc_script.specs.declared.play_line.PlayLine.{PlayLine}
 use Rattle.sporc_play.proofs.Distinct.{AreDistinct, IsNotIn}
-use Rattle.sporc_play.specs.Cast.{declared_member, device_by, rogue_by}
 use Rattle.sporc_play.proofs.Places.{among_cases, among_front, among_here, among_more, not_in_append}
+use Rattle.std.proofs.lemmas.Map.Views.{Contains-from_any}
 
 -- ---- each line may follow those before it
 
@@ -75,8 +66,7 @@ abbrev rogues : List PlayLine → List ℕ
 rogues lines = read_off rogue_number lines
 
 option_append : {A : Type 0} (o : Option A) (xs : List A) → cons_option o [] ++ xs ≡ cons_option o xs
-option_append None xs = refl
-option_append (Some x) xs = refl
+option_append o xs = grind arith
 
 -- a list that each line adds to
 fold_read : {A : Type 0} (part : Declared → List A) (read : Command → Option A) → ((d : Declared) (c : Command) → part (declared_after d c) ≡ part d ++ cons_option (read c) [])
@@ -87,20 +77,13 @@ fold_read {A = A} part read adds d (l ∷ ls) =
     ∙ append_assoc (part d) (cons_option (read l.command) []) (read_off read ls) ∙ ap (λ (xs : List A). part d ++ xs) (option_append (read l.command) (read_off read ls))
 
 adds_number : (d : Declared) (c : Command) → (declared_after d c).numbers ≡ d.numbers ++ cons_option (declared_member c) []
-adds_number d (commands.Member m) = refl
-adds_number d (commands.Rogue m) = refl
-adds_number d (commands.Joiner m) = refl
-adds_number d c = sym (append-nil d.numbers)
+adds_number d c = grind (arith, append-nil)
 
 adds_client : (d : Declared) (c : Command) → (declared_after d c).clients ≡ d.clients ++ cons_option (device_by c) []
-adds_client d (commands.Member m) = refl
-adds_client d (commands.Joiner m) = refl
-adds_client d (commands.Device x) = refl
-adds_client d c = sym (append-nil d.clients)
+adds_client d c = grind (arith, append-nil)
 
 adds_rogue : (d : Declared) (c : Command) → (declared_after d c).rogues ≡ d.rogues ++ cons_option (rogue_number c) []
-adds_rogue d (commands.Rogue m) = refl
-adds_rogue d c = sym (append-nil d.rogues)
+adds_rogue d c = grind (arith, append-nil)
 
 pub numbers_are : (lines : List PlayLine) → (declarations lines).numbers ≡ filter_map (λ (l : PlayLine). declared_member l.command) lines
 numbers_are lines = fold_read (λ (d : Declared). d.numbers) declared_member adds_number none_declared lines
@@ -125,12 +108,7 @@ of_devices : IsTest same_device
 of_devices = record { one = same_one; is = λ a b same. subst (λ (d : Device). same_device a d ≡ true) same (one_same a) }
 
 among : {A : Type 0} (same : A → A → Bool) → IsTest same → (xs : List A) (x : A) → list_any (λ y. same y x) xs ≡ true → Contains xs x
-among same test [] x is = absurd cc
-among {A = A} same test (y ∷ ys) x is = go (same y x) refl is (among same test ys x)
-  where
-    go : (b : Bool) → same y x ≡ b → (b || list_any (λ z. same z x) ys) ≡ true → (list_any (λ z. same z x) ys ≡ true → Contains ys x) → Contains (y ∷ ys) x
-    go true at is rest = (0, omega arith, test.one y x at)
-    go false at is rest = let r = rest is in (suc r.0, omega (arith, r.1), r.2)
+among same test xs x is = Contains-from_any {eq = λ y x. same x y} (λ a b h. sym (test.one b a h)) x xs is
 
 not_among : {A : Type 0} (same : A → A → Bool) → IsTest same → (xs : List A) (x : A) → list_any (λ y. same y x) xs ≡ false → IsNotIn x xs
 not_among same test [] x is = tt
@@ -143,8 +121,7 @@ not_among {A = A} same test (y ∷ ys) x is = go (same y x) refl is (not_among s
 -- ---- numbers apart
 
 is_not : (b : Bool) → not b ≡ true → b ≡ false
-is_not true is = absurd cc
-is_not false is = refl
+is_not b is = grind arith
 
 -- a number that may be declared is none of those before
 new_number : (before : List PlayLine) (n : ℕ) → may_declare (declarations before) n ≡ true → IsNotIn n (numbers before)
@@ -178,17 +155,13 @@ numbers_apart before (l ∷ ls) all apart =
     subst (λ (xs : List PlayLine). AreDistinct (numbers xs)) (append_assoc before (l ∷ []) ls)
     (numbers_apart (before ++ l ∷ []) ls all.2 (subst (λ (ns : List ℕ). AreDistinct ns) (sym (read_push declared_member before l)) (apart_more before l (declared_member l.command) refl all.0 apart)))
 
-pub script_numbers_apart : (text : List ℕ) (script : List PlayLine) → IsPlayScript text script → AreDistinct (filter_map (λ (l : PlayLine). declared_member l.command) script)
-script_numbers_apart text script is = numbers_apart [] script (script_follows text script is) tt
+pub script_numbers_apart : (script : List PlayLine) → Follows [] script → AreDistinct (filter_map (λ (l : PlayLine). declared_member l.command) script)
+script_numbers_apart script all = numbers_apart [] script all tt
 
 -- ---- devices apart
 
 abbrev AreInRange : List PlayLine → Type 0
 AreInRange lines = AllByRecursion (λ (l : PlayLine). InRange l.command) lines
-
-in_range_push : (before : List PlayLine) (l : PlayLine) → AreInRange before → InRange l.command → AreInRange (before ++ l ∷ [])
-in_range_push [] l all is = (is, tt)
-in_range_push (x ∷ xs) l all is = (all.0, in_range_push xs l all.1 is)
 
 in_range : (before lines : List PlayLine) → Follows before lines → AreInRange lines
 in_range before [] all = tt
@@ -244,7 +217,7 @@ devices_apart : (before lines : List PlayLine) → Follows before lines → AreI
 devices_apart before [] all fits apart = subst (λ (ls : List PlayLine). AreDistinct (devices ls)) (sym (append-nil before)) apart
 devices_apart before (l ∷ ls) all fits apart =
     subst (λ (xs : List PlayLine). AreDistinct (devices xs)) (append_assoc before (l ∷ []) ls)
-    (devices_apart (before ++ l ∷ []) ls all.2 (in_range_push before l fits all.1) (subst (λ (ds : List Device). AreDistinct ds) (sym (read_push device_by before l)) (devices_more before l.command all.0 fits apart)))
+    (devices_apart (before ++ l ∷ []) ls all.2 (all_append (λ (l : PlayLine). InRange l.command) before (l ∷ []) fits (all.1, tt)) (subst (λ (ds : List Device). AreDistinct ds) (sym (read_push device_by before l)) (devices_more before l.command all.0 fits apart)))
 
 apart_insert : {A : Type 0} (xs : List A) (n : A) (ys : List A) → AreDistinct (xs ++ ys) → IsNotIn n xs → IsNotIn n ys → AreDistinct (xs ++ n ∷ ys)
 apart_insert [] n ys apart a b = (b, apart)
@@ -269,11 +242,8 @@ all_apart (l ∷ ls) fits apart clients = go l.command fits.0 apart clients (all
         (not_in_both x (devices ls) (read_off rogue_by ls) clients.0 (further_no_rogue x ls is), rest apart clients.1)
     go c is apart clients rest = rest apart clients
 
-pub script_apart : (text : List ℕ) (script : List PlayLine) → IsPlayScript text script
-    → AreDistinct (filter_map (λ (l : PlayLine). device_by l.command) script ++ filter_map (λ (l : PlayLine). rogue_by l.command) script)
-script_apart text script is =
-    let all = script_follows text script is in
-    all_apart script (in_range [] script all) (script_numbers_apart text script is) (devices_apart [] script all tt tt)
+pub script_apart : (script : List PlayLine) → Follows [] script → AreDistinct (filter_map (λ (l : PlayLine). device_by l.command) script ++ filter_map (λ (l : PlayLine). rogue_by l.command) script)
+script_apart script all = all_apart script (in_range [] script all) (script_numbers_apart script all) (devices_apart [] script all tt tt)
 
 -- ---- those whom a command names
 

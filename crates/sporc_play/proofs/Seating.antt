@@ -1,38 +1,25 @@
 -- Seats, rogues and whole states after what a command did.
-use Rattle.std.proofs.Common.{◌≡◌, ◌≢◌, ℕ, List, [], ◌∷◌, ◌++◌, map, sym, ap, ◌∙◌, subst, Option, None, Some, option_map}
-use Rattle.std.specs.List.{AllByRecursion}
+use Rattle.std.proofs.Common.{◌≡◌, ◌≢◌, ℕ, List, [], ◌++◌, map, sym, ap, ◌∙◌, subst, Option, None, Some, option_map, refl, append-nil}
+use Rattle.sporc_play.proofs.Common.{AllByRecursion, SignerModel, MemoryDiskModel, ClientModel, state_of, Logged, PlainClient, Setup, Move, after_all, replay, Device}
+use Rattle.sporc_play.proofs.Common.{PlayLine, Rogue, Seat, PlayState, setup_of, logs_after, Scene, if_open, AreDrawn, IsReady, IsRogueAt, IsSeatAt, rogue_devices}
+use Rattle.sporc_play.proofs.Common.{seated, HasSameMembers, Holds, IsCastOf, IsRogueOf, IsSeatOf, IsSignerOf, StandsFor, Effect, nothing}
 use Rattle.std.proofs.Math.ListN.{set}
-use Rattle.lms_sign.specs.Signer.{SignerModel}
-use Rattle.sporc_memory.specs.MemoryDisk.{MemoryDiskModel}
-use Rattle.sporc_client.specs.ClientModel.{ClientModel, state_of}
-use Rattle.sporc_client.specs.Log.{Logged}
-use Rattle.sporc_client.specs.PlainClient.{PlainClient}
-use Rattle.sporc_client.specs.Run.{Setup, World, Move, Happen, after_all}
-use Rattle.sporc_client.specs.Step.{replay}
-use Rattle.sporc_client.proofs.Calls.{replay_append}
-use Rattle.sporc_member.specs.declared.device.Device.{Device}
-use Rattle.sporc_script.specs.declared.play_line.PlayLine.{PlayLine}
-use Rattle.sporc_play.specs.declared.seat.Rogue.{Rogue}
-use Rattle.sporc_play.specs.declared.seat.Seat.{Seat}
-use Rattle.sporc_play.specs.declared.state.PlayState.{PlayState}
 use Rattle.sporc_play.proofs.Distinct.{AreDistinct, IsNotIn, are_distinct}
-use Rattle.sporc_play.specs.Cast.{setup_of}
-use Rattle.sporc_play.specs.Logs.{logs_after}
-use Rattle.sporc_play.specs.Scene.{Scene, adds, if_open}
-use Rattle.sporc_play.specs.Seats.{AreDrawn, IsReady, IsRogueAt, IsSeatAt, client_logged, rogue_devices, seat_logged, seated}
-use Rattle.sporc_play.specs.Stage.{HasSameMembers, Holds, IsCastOf, IsRogueOf, IsSeatOf, IsSignerOf, StandsFor}
-use Rattle.sporc_play.proofs.Moved.{AreOf, client_happens, clients_other, log_happens, logs_other}
-use Rattle.sporc_play.proofs.Places.{all_others, all_set, apart_back, apart_front, not_across, not_behind, numbers_set}
+use Rattle.sporc_play.proofs.Moved.{AreOf, clients_other, logs_other}
+use Rattle.sporc_play.proofs.Places.{all_others, all_set, apart_back, apart_front, not_across, not_behind, numbers_set, all_each}
 
 -- ---- scenes
 
--- a scene is after these moves, and counts are as they were
-pub record Does (s : Setup) (scene : Scene) (moves : List Move) (scene' : Scene) : Type 0 where
-  pub world : scene'.world ≡ after_all s scene.world moves
-  pub logs : scene'.logs ≡ logs_after s scene.world scene.logs moves
-  pub last : scene'.last ≡ scene.last
-  pub asked : scene'.asked ≡ scene.asked
-  pub leaves : scene'.leaves ≡ scene.leaves
+-- a scene after what a command did, if it was no submission or signature
+abbrev pub acted : Setup → Scene → Effect → Scene
+acted s scene act = record {
+  world = after_all s scene.world act.moves;
+  logs = logs_after s scene.world scene.logs act.moves;
+  made = scene.made ++ act.entries;
+  last = scene.last;
+  asked = scene.asked;
+  leaves = scene.leaves;
+}
 
 -- nothing of a device has changed
 pub record IsSameAt (who : Device) (scene scene' : Scene) : Type 0 where
@@ -42,23 +29,17 @@ pub record IsSameAt (who : Device) (scene scene' : Scene) : Type 0 where
   pub asked : scene'.asked who ≡ scene.asked who
   pub leaves : scene'.leaves who ≡ scene.leaves who
 
-pub same_for_others : (s : Setup) (scene scene' : Scene) (moves : List Move) (who other : Device) → Does s scene moves scene' → AreOf who moves → other ≢ who → IsSameAt other scene scene'
-same_for_others s scene scene' moves who other does are differs = record {
-  client = ap (λ (w : World). w.clients other) does.world ∙ clients_other s scene.world moves who other are differs;
-  log = ap (λ (l : Device → List Logged). l other) does.logs ∙ logs_other s scene.world scene.logs moves who other are differs;
-  last = ap (λ (f : Device → ℕ). f other) does.last;
-  asked = ap (λ (f : Device → ℕ). f other) does.asked;
-  leaves = ap (λ (f : Device → ℕ). f other) does.leaves;
+pub same_for_others : (s : Setup) (scene : Scene) (act : Effect) (who other : Device) → AreOf who act.moves → other ≢ who → IsSameAt other scene (acted s scene act)
+same_for_others s scene act who other are differs = record {
+  client = clients_other s scene.world act.moves who other are differs;
+  log = logs_other s scene.world scene.logs act.moves who other are differs;
+  last = refl;
+  asked = refl;
+  leaves = refl;
 }
 
-pub same_for_all : (s : Setup) (scene scene' : Scene) (who : Device) → Does s scene [] scene' → IsSameAt who scene scene'
-same_for_all s scene scene' who does = record {
-  client = ap (λ (w : World). w.clients who) does.world;
-  log = ap (λ (l : Device → List Logged). l who) does.logs;
-  last = ap (λ (f : Device → ℕ). f who) does.last;
-  asked = ap (λ (f : Device → ℕ). f who) does.asked;
-  leaves = ap (λ (f : Device → ℕ). f who) does.leaves;
-}
+pub same_for_all : (s : Setup) (scene : Scene) (entries : List (List ℕ)) (who : Device) → IsSameAt who scene (acted s scene (record { moves = []; entries = entries }))
+same_for_all s scene entries who = record { client = refl; log = refl; last = refl; asked = refl; leaves = refl }
 
 -- ---- seats of which nothing changes
 
@@ -97,39 +78,43 @@ rogue_kept s scene scene' rogue same is = record {
 abbrev pub with_client : Seat → Option (ClientModel MemoryDiskModel) → Seat
 with_client seat client = record seat { client = client }
 
--- a client that has another log now
-pub client_moved : (s : Setup) (scene scene' : Scene) (moves : List Move) (seat : Seat) (c : ClientModel MemoryDiskModel) (log : List Logged) → IsSeatOf s scene (with_client seat (Some c)) → Does s scene moves scene'
-    → (after_all s scene.world moves).clients seat.device ≡ Some (replay c.opening log) → logs_after s scene.world scene.logs moves seat.device ≡ log
-    → IsSeatOf s scene' (with_client seat (Some (record c { log = log })))
-client_moved s scene scene' moves seat c log is does client logs = record {
-  asked = is.asked ∙ ap (λ (f : Device → ℕ). f seat.device) (sym does.asked);
-  last = is.last ∙ ap (λ (f : Device → ℕ). f seat.device) (sym does.last);
-  client = ap (λ (w : World). w.clients seat.device) does.world ∙ client;
+-- moves lead a client to this log
+pub record Leads (s : Setup) (scene : Scene) (who : Device) (c : ClientModel MemoryDiskModel) (moves : List Move) (log : List Logged) : Type 0 where
+  pub client : (after_all s scene.world moves).clients who ≡ Some (replay c.opening log)
+  pub logs : logs_after s scene.world scene.logs moves who ≡ log
+
+client_moved : (s : Setup) (scene : Scene) (act : Effect) (seat : Seat) (c : ClientModel MemoryDiskModel) (log : List Logged) → IsSeatOf s scene (with_client seat (Some c)) → Leads s scene seat.device c act.moves log
+    → IsSeatOf s (acted s scene act) (with_client seat (Some (record c { log = log })))
+client_moved s scene act seat c log is did = record {
+  asked = is.asked;
+  last = is.last;
+  client = did.client;
   holds = record {
     ring = is.holds.ring;
     opening = is.holds.opening;
-    log = ap (λ (l : Device → List Logged). l seat.device) does.logs ∙ logs;
-    ready = subst (λ (n : ℕ). IsReady (s.private seat.device) n (record c { log = log })) (ap (λ (f : Device → ℕ). f seat.device) (sym does.leaves))
-        (record { key = is.holds.ready.key; leaves = is.holds.ready.leaves; no_ticket = is.holds.ready.no_ticket });
+    log = did.logs;
+    ready = record { key = is.holds.ready.key; leaves = is.holds.ready.leaves; no_ticket = is.holds.ready.no_ticket };
   };
 }
 
--- one that adds events to its log
-pub seat_adds : (s : Setup) (scene scene' : Scene) (seat : Seat) (events : PlainClient → List Logged) → IsSeatOf s scene seat
-    → Does s scene (if_open (scene.world.clients seat.device) (λ c. adds seat.device (events c))).moves scene' → IsSeatOf s scene' (seat_logged events seat)
-seat_adds s scene scene' seat events is does = go seat.client is
-  where
-    M : Option PlainClient → List Move
-    M o = (if_open o (λ c. adds seat.device (events c))).moves
+-- a seat whose client, if there is one, has another log now
+abbrev pub seat_acted : (ClientModel MemoryDiskModel → List Logged) → Seat → Seat
+seat_acted log_of seat = record seat { client = option_map (λ (c : ClientModel MemoryDiskModel). record c { log = log_of c }) seat.client }
 
-    go : (o : Option (ClientModel MemoryDiskModel)) → IsSeatOf s scene (with_client seat o) → IsSeatOf s scene' (with_client seat (option_map (client_logged events) o))
-    go None is = seat_kept s scene scene' (with_client seat None) (same_for_all s scene scene' seat.device (subst (λ (o : Option PlainClient). Does s scene (M o) scene') is.client does)) is
-    go (Some c) is =
-        let added = events (state_of c) in
-        let did = subst (λ (o : Option PlainClient). Does s scene (M o) scene') is.client does in
-        client_moved s scene scene' (map (Happen seat.device) added) seat c (c.log ++ added) is did
-        (client_happens s scene.world seat.device (state_of c) added is.client ∙ ap Some (replay_append c.opening c.log added))
-        (log_happens s scene.world scene.logs seat.device added ∙ ap (λ (l : List Logged). l ++ added) is.holds.log)
+-- what a client does, if there is one, leads it to a log
+abbrev pub LeadsTo : Setup → Scene → (PlainClient → Effect) → (ClientModel MemoryDiskModel → List Logged) → Device → Type 0
+LeadsTo s scene act log_of who = (c : ClientModel MemoryDiskModel) → scene.world.clients who ≡ Some (state_of c) → scene.logs who ≡ c.log → Leads s scene who c (act (state_of c)).moves (log_of c)
+
+pub seat_acts : (s : Setup) (scene : Scene) (seat : Seat) (act : PlainClient → Effect) (log_of : ClientModel MemoryDiskModel → List Logged) → IsSeatOf s scene seat → LeadsTo s scene act log_of seat.device
+    → IsSeatOf s (acted s scene (if_open (scene.world.clients seat.device) act)) (seat_acted log_of seat)
+seat_acts s scene seat act log_of is leads = subst T (sym is.client) (go seat.client is)
+  where
+    T : Option PlainClient → Type 0
+    T o = IsSeatOf s (acted s scene (if_open o act)) (seat_acted log_of seat)
+
+    go : (o : Option (ClientModel MemoryDiskModel)) → IsSeatOf s scene (with_client seat o) → IsSeatOf s (acted s scene (if_open (option_map state_of o) act)) (seat_acted log_of (with_client seat o))
+    go None is = seat_kept s scene (acted s scene nothing) (with_client seat None) (same_for_all s scene [] seat.device) is
+    go (Some c) is = client_moved s scene (act (state_of c)) seat c (log_of c) is (leads c is.client is.holds.log)
 
 -- ---- whole states
 
@@ -206,18 +191,22 @@ stands_made script scene scene' state state' stands all same made =
     record {
       genesis = same.genesis ∙ stands.genesis;
       cast = subst (IsCastOf s) (sym same.cast) stands.cast;
-      seats = subst (AllByRecursion (IsSeatOf s scene')) (sym same.seats) (seats_kept state.seats.items stands.seats);
-      rogues = subst (AllByRecursion (IsRogueOf s scene')) (sym same.rogues) (rogues_kept state.rogues.items stands.rogues);
+      seats = subst (AllByRecursion (IsSeatOf s scene')) (sym same.seats) (all_each (IsSeatOf s scene) (IsSeatOf s scene') state.seats.items (λ x. seat_kept s scene scene' x (all x.device)) stands.seats);
+      rogues = subst (AllByRecursion (IsRogueOf s scene')) (sym same.rogues) (all_each (IsRogueOf s scene) (IsRogueOf s scene') state.rogues.items (λ x. rogue_kept s scene scene' x (all x.device)) stands.rogues);
       seated = ap seated same.seats ∙ stands.seated;
       rogue_devices = ap rogue_devices same.rogues ∙ stands.rogue_devices;
       declared = stands.declared;
       made = made;
     }
-  where
-    seats_kept : (seats : List Seat) → AllByRecursion (IsSeatOf (setup_of script) scene) seats → AllByRecursion (IsSeatOf (setup_of script) scene') seats
-    seats_kept [] each = tt
-    seats_kept (x ∷ xs) each = (seat_kept (setup_of script) scene scene' x (all x.device) each.0, seats_kept xs each.1)
 
-    rogues_kept : (rogues : List Rogue) → AllByRecursion (IsRogueOf (setup_of script) scene) rogues → AllByRecursion (IsRogueOf (setup_of script) scene') rogues
-    rogues_kept [] each = tt
-    rogues_kept (x ∷ xs) each = (rogue_kept (setup_of script) scene scene' x (all x.device) each.0, rogues_kept xs each.1)
+-- one device's client alone acts, and makes no entries
+pub record IsQuiet (who : Device) (act : Effect) : Type 0 where
+  pub moves : AreOf who act.moves
+  pub entries : act.entries ≡ []
+
+pub stands_acted : (script : List PlayLine) (scene : Scene) (state state' : PlayState) (i : ℕ) (who : Device) (seat new : Seat) (act : Effect) → StandsFor script scene state → IsSeatAt state.seats.items i who seat
+    → IsQuiet who act → IsSeatOf (setup_of script) (acted (setup_of script) scene act) new → new.device ≡ seat.device → ChangesSeat i new state state'
+    → map (λ bytes. bytes.items) state'.made.items ≡ map (λ bytes. bytes.items) state.made.items → StandsFor script (acted (setup_of script) scene act) state'
+stands_acted script scene state state' i who seat new act stands at quiet is own changed same =
+    stands_seat script scene (acted (setup_of script) scene act) state state' i who seat new stands at (λ other differs. same_for_others (setup_of script) scene act who other quiet.moves differs) is own changed
+    (same ∙ stands.made ∙ sym (append-nil scene.made) ∙ ap (λ (es : List (List ℕ)). scene.made ++ es) (sym quiet.entries))

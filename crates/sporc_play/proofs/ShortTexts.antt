@@ -1,39 +1,25 @@
 -- No text that a client has shown is long: an edit adds few characters, entries that come add few in all, and giving up
 -- goes back to the committed text.
 use Rattle.std.proofs.Common.{◌≡◌, ℕ, zero, suc, ◌+◌, ◌*◌, ◌^◌, ◌≤◌, Bool, true, false, cond, List, [], ◌∷◌, ◌++◌, length, take, drop, refl, sym, ap, ◌∙◌, subst, arith, add-zero, zero-add, length-append, Option, None, Some}
-use Rattle.std.specs.Prelude.{is_none, is_some}
-use Rattle.std.proofs.lemmas.Bool.{and_parts}
-use Rattle.std.proofs.lemmas.List.{take-append-le, take_all}
-use Rattle.std.proofs.lemmas.List.Sums.{fold-append}
+use Rattle.sporc_play.proofs.Common.{is_none, is_some, and_parts, take-append-le, take_all, fold-append, first_of, MAX_COUNT, Mark, apply, base_len, remove_marks, inserted_len, insert_marks, out_len}
+use Rattle.sporc_play.proofs.Common.{replacement, keep_marks, Genesis, change_in, Good, Meets, epoch_key, Kit, MAX_EDIT_BYTES, MAX_EVENTS, edit_checks, edit_fault, ClientModel, state_of, Logged, Edit}
+use Rattle.sporc_play.proofs.Common.{Change, Submit, Dropped, Accept, Discard, Opening, PlainClient, committed_of, opened, shown_after, shown_of, change_comes, edit_comes, form_coming, is_flight}
+use Rattle.sporc_play.proofs.Common.{keeps, own_comes, replay_from, restated, step, replay_opening}
 use Rattle.sporc_hash.proofs.Lists.{from_end}
-use Rattle.sporc_base.specs.FirstFault.{first_of}
-use Rattle.sporc_delta.specs.declared.limits.TheConstants.{MAX_COUNT}
-use Rattle.sporc_delta.specs.Marks.{Mark, apply, base_len, remove_marks, inserted_len, insert_marks, out_len, replacement, keep_marks}
 use Rattle.sporc_delta.proofs.Lengths.{inserted_len-keep_marks, out_len-append, out_len-remove_marks, out_len-insert_marks}
 use Rattle.sporc_suffix.specs.Forms.{Follow, all_inserted}
 use Rattle.sporc_suffix.proofs.Following.{all_inserted-append}
 use Rattle.sporc_xform.proofs.LengthLemmas.{out_len-le}
-use Rattle.sporc_entry.specs.declared.genesis.Genesis.{Genesis}
 use Rattle.sporc_head.specs.declared.limits.TheConstants.{MAX_ENTRIES}
-use Rattle.sporc_head.specs.History.{change_in}
 use Rattle.sporc_line.specs.Document.{forms_of, next_form, text_after}
-use Rattle.sporc_line.specs.Good.{Good, Meets}
-use Rattle.sporc_line.specs.Keys.{epoch_key}
-use Rattle.sporc_line.specs.Kit.{Kit}
 use Rattle.sporc_line.proofs.FormLengths.{inserted_len-over, length-apply, length-text}
 use Rattle.sporc_line.proofs.Goods.{first_key, good_none, good_push, last_passes}
 use Rattle.sporc_line.proofs.MoreForms.{forms_push}
-use Rattle.sporc_client.specs.declared.limits.TheConstants.{MAX_EDIT_BYTES, MAX_EVENTS}
 use Rattle.sporc_client.specs.Allowed.{can_log, can_log_all, is_allowed}
-use Rattle.sporc_client.specs.Answers.{edit_checks, edit_fault}
-use Rattle.sporc_client.specs.ClientModel.{ClientModel, state_of}
-use Rattle.sporc_client.specs.Log.{Logged, Edit, Change, Submit, Dropped, Accept, Discard}
-use Rattle.sporc_client.specs.PlainClient.{Opening, PlainClient, committed_of, opened, shown_after, shown_of}
 use Rattle.sporc_client.specs.Rebasing.{beyond}
 use Rattle.sporc_client.specs.Soundness.{IsSound}
-use Rattle.sporc_client.specs.Step.{change_comes, edit_comes, form_coming, is_flight, keeps, own_comes, replay, replay_from, restated, step}
+use Rattle.sporc_client.specs.Step.{replay}
 use Rattle.sporc_client.proofs.AcceptedHistories.{accept_passes}
-use Rattle.sporc_client.proofs.Calls.{replay_opening}
 use Rattle.sporc_client.proofs.Checked.{edit_fault_is, edit_passed}
 use Rattle.sporc_client.proofs.Comings.{follow_last}
 use Rattle.sporc_client.proofs.Small.{inserted_len-beyond, inserted_len-bytes}

@@ -1,14 +1,9 @@
 -- The shown deltas of a client: one for each event of its log.
 use Rattle.std.proofs.Common.{◌≡◌, ℕ, suc, ◌+◌, Bool, true, false, cond, List, [], ◌∷◌, ◌++◌, length, refl, sym, ap, ◌∙◌, arith, append_assoc, append-nil, length-append, Result, Ok, Err, IfOk}
-use Rattle.std.specs.Prelude.{is_some}
-use Rattle.sporc_delta.specs.Marks.{Mark}
-use Rattle.sporc_head.specs.History.{change_in}
+use Rattle.sporc_play.proofs.Common.{is_some, Mark, change_in, added, entries_by, journal_from, journal_of, Logged, Edit, Change, Submit, Dropped, Accept, Discard, Opening, PlainClient, opened}
+use Rattle.sporc_play.proofs.Common.{accepted, change_comes, edit_comes, is_flight, own_comes, replay_from, step}
 use Rattle.sporc_client.specs.declared.event.Event.{Event}
-use Rattle.sporc_client.specs.Answers.{added}
-use Rattle.sporc_client.specs.Log.{entries_by, journal_from, journal_of}
-use Rattle.sporc_client.specs.Log.{Logged, Edit, Change, Submit, Dropped, Accept, Discard}
-use Rattle.sporc_client.specs.PlainClient.{Opening, PlainClient, opened}
-use Rattle.sporc_client.specs.Step.{accepted, change_comes, edit_comes, is_flight, own_comes, replay, replay_from, step}
+use Rattle.sporc_client.specs.Step.{replay}
 
 -- lists of which one begins with the other
 abbrev pub Grows : List (List Mark) → List (List Mark) → ℕ → Type 0

@@ -1,41 +1,16 @@
 -- The entries that a script signs for rogues are strings of bytes.
 use Rattle.std.proofs.Common.{◌≡◌, ℕ, ◌+◌, ◌<◌, Bool, true, false, cond, List, [], ◌∷◌, drop, length, map, take, filter, sym, ap, ◌∙◌, subst, arith, not, Option, None, Some, Result, Ok, Err, IfSome}
-use Rattle.std.specs.Prelude.{◌==◌, min, nat_le, replicate, unwrap_or}
-use Rattle.std.specs.List.{AllByRecursion}
-use Rattle.std.specs.Str.{all_scalars}
-use Rattle.std.proofs.lemmas.Nat.{xor_of_8}
-use Rattle.lms_leaf.specs.declared.faults.LeafFault.{LeafFault}
-use Rattle.sporc_base.specs.Bytes.{IsBytes}
-use Rattle.sporc_delta.specs.Format.{delta_bytes}
-use Rattle.sporc_delta.specs.Marks.{insertion}
-use Rattle.sporc_delta.proofs.Typing.{inserted-insertion}
-use Rattle.sporc_entry.specs.declared.change.ChangeBody.{ChangeBody}
-use Rattle.sporc_entry.specs.declared.wrap.Wrap.{Wrap}
-use Rattle.sporc_entry.specs.Entry.{signed_string}
-use Rattle.sporc_entry.specs.Genesis.{genesis_bytes}
-use Rattle.sporc_entry.specs.Version.{names_device, version_of}
+use Rattle.sporc_play.proofs.Common.{◌==◌, min, replicate, unwrap_or, AllByRecursion, all_scalars, xor_of_8, LeafFault, IsBytes, delta_bytes, insertion, inserted-insertion, ChangeBody, Wrap}
+use Rattle.sporc_play.proofs.Common.{signed_string, genesis_bytes, previous_stream, stream_of, IsMember, first_device, changes, epoch_of, roster_of, key_after}
+use Rattle.sporc_play.proofs.Common.{Opening, PlainClient, committed_of, reached_at, sound_and_typed_at, DeviceInRange, PlayLine, Forgery, Suffix, What, member_change, setup_of, random_of, device_in}
+use Rattle.sporc_play.proofs.Common.{first_flipped, forged_body, forged_change, forged_header, forged_sealing, key_there, kind_of, spoiled, unsigned_by, value_at, version_by, wrap_flipped, leaf_after}
+use Rattle.sporc_play.proofs.Common.{signs_by}
 use Rattle.sporc_epoch.specs.Sealing.{body_sealed}
-use Rattle.sporc_epoch.specs.Streams.{previous_stream, stream_of}
-use Rattle.sporc_member.specs.declared.device.TheConstants.{FIRST_DEVICE}
-use Rattle.sporc_member.specs.Device.{IsMember, first_device}
-use Rattle.sporc_head.specs.History.{changes, epoch_of, hash_of, roster_of}
-use Rattle.sporc_line.specs.Keys.{key_after}
-use Rattle.sporc_client.specs.PlainClient.{Opening, PlainClient, committed_of}
-use Rattle.sporc_client.proofs.Reached.{reached_at}
-use Rattle.sporc_client.proofs.SoundRuns.{sound_and_typed_at}
 use Rattle.sporc_script.specs.Signs.{ForgeryInRange, MaySuffixInRange, SignedInRange, WhatInRange}
-use Rattle.sporc_script.specs.Spelling.{DeviceInRange}
 use Rattle.sporc_script.specs.declared.command.Command.TheVariants as commands
-use Rattle.sporc_script.specs.declared.play_line.PlayLine.{PlayLine}
-use Rattle.sporc_script.specs.declared.sign.Forgery.{Forgery}
-use Rattle.sporc_script.specs.declared.sign.Suffix.{Suffix}
 use Rattle.sporc_script.specs.declared.sign.Suffix.TheVariants as suffixes
-use Rattle.sporc_script.specs.declared.sign.What.{What}
 use Rattle.sporc_script.specs.declared.sign.What.TheVariants as whats
-use Rattle.sporc_play.specs.Cast.{member_change, setup_of}
-use Rattle.sporc_play.specs.Derived.{random_of}
-use Rattle.sporc_play.specs.Forged.{device_in, first_flipped, forged_body, forged_change, forged_entry, forged_header, forged_sealing, key_there, kind_of, signature_by, signed_by, spoiled, unsigned_by, value_at, version_by, wrap_flipped}
-use Rattle.sporc_play.specs.Scene.{leaf_after, signs_by}
+use Rattle.sporc_play.specs.Forged.{forged_entry, signature_by, signed_by}
 use Rattle.sporc_play.proofs.Acts.{byte_change, client_at, no_act, open_acts}
 use Rattle.sporc_play.proofs.ByteClients.{AreByteKeys}
 use Rattle.sporc_play.proofs.ByteFacts.{AreBytes, are_bytes, bytes_drop, bytes_mask, bytes_sha, bytes_take, bytes_zeros}
@@ -56,33 +31,16 @@ there_are c ring all = go (key_after c.opening.genesis c.opening.kit (changes c.
     go (Some key) is = is
 
 value_are : (c : PlainClient) (base : ℕ) → AreBytes (value_at c base)
-value_are c base = go (nat_le base (length c.entries))
-  where
-    go : (b : Bool) → AreBytes (cond b (hash_of c.opening.genesis (take base c.entries)) (replicate 32 0))
-    go true = hash_are (genesis_bytes c.opening.genesis) (take base c.entries)
-    go false = bytes_zeros 32
+value_are c base = grind (arith, hash_are (genesis_bytes c.opening.genesis) (take base c.entries), bytes_zeros 32)
 
 kind_fits : (what : What) → kind_of what < 256
-kind_fits (whats.Change change) = omega arith
-kind_fits (whats.Insert e) = omega arith
-kind_fits (whats.Raw payload) = omega arith
+kind_fits what = grind arith
 
 version_fits : (suffix : Option Suffix) (upgraded : Bool) → version_by suffix upgraded < 256
-version_fits (Some (suffixes.Version k)) upgraded = go (names_device k)
-  where
-    go : (second : Bool) → version_of second < 256
-    go true = omega arith
-    go false = omega arith
-version_fits suffix true = omega arith
-version_fits suffix false = omega arith
+version_fits suffix upgraded = grind arith
 
 device_fits : (suffix : Option Suffix) (version : ℕ) → MaySuffixInRange suffix → device_in suffix version < 256
-device_fits (Some (suffixes.Device d)) version fits = go (names_device version)
-  where
-    go : (named : Bool) → cond named d FIRST_DEVICE < 256
-    go true = omega (arith, fits)
-    go false = omega arith
-device_fits suffix version fits = omega arith
+device_fits suffix version fits = grind arith
 
 header_are : (c : PlainClient) (f : Forgery) (leaf : ℕ) → MaySuffixInRange f.signed.suffix → AreBytes c.opening.genesis.document → IsByteHeader (forged_header c f leaf)
 header_are c f leaf fits document =

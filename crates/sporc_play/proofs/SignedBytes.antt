@@ -1,23 +1,15 @@
 -- Signatures and entries are strings of bytes.
 use Rattle.std.proofs.Common.{ℕ, zero, suc, ◌<◌, Bool, true, false, cond, List, [], ◌∷◌, ◌++◌, length}
-use Rattle.std.specs.Int.{w16, w32, to_be_bytes}
+use Rattle.sporc_play.proofs.Common.{w16, w32, to_be_bytes, LmsPrivate, root_of, sibling_value, height_of, lms_code_of, Entry, Header, device_bytes, names_device, Device, Tree, private_of, public_of}
+use Rattle.sporc_play.proofs.Common.{derived}
 use Rattle.lms_ots.specs.Chains.{concatenated}
 use Rattle.lms_ots.specs.Coefficients.{coef_of, with_checksum}
 use Rattle.lms_ots.specs.OtsType.{ots_code_of, part_count_of, width_of}
 use Rattle.lms_ots.specs.Signatures.{message_digest, ots_signature_of, signed_part}
 use Rattle.lms_ots.specs.declared.ots_type.OtsType.{OtsType}
-use Rattle.lms_tree.specs.LmsPrivate.{LmsPrivate, root_of, sibling_value}
-use Rattle.lms_tree.specs.LmsType.{height_of, lms_code_of}
 use Rattle.lms_tree.specs.Nodes.{node_of}
 use Rattle.lms_tree.specs.Signatures.{lms_signature_of}
-use Rattle.sporc_entry.specs.declared.entry.Entry.{Entry}
-use Rattle.sporc_entry.specs.declared.header.Header.{Header}
-use Rattle.sporc_entry.specs.Entry.{device_bytes, entry_bytes, header_bytes}
-use Rattle.sporc_entry.specs.Version.{names_device}
-use Rattle.sporc_member.specs.declared.device.Device.{Device}
-use Rattle.sporc_script.specs.declared.command.Tree.{Tree}
-use Rattle.sporc_play.specs.Cast.{private_of, public_of}
-use Rattle.sporc_play.specs.Derived.{derived}
+use Rattle.sporc_entry.specs.Entry.{entry_bytes, header_bytes}
 use Rattle.sporc_play.proofs.ByteFacts.{AreBytes, bytes_16, bytes_32, bytes_append, bytes_chain, bytes_concatenated, bytes_sha, bytes_take}
 
 part_are : (t : OtsType) (id : List ℕ) (q : ℕ) (seed string : List ℕ) (i : ℕ) → AreBytes (signed_part t id q seed string i)

@@ -1,27 +1,17 @@
 -- The texts of a script are no longer than the script.
 use Rattle.std.proofs.Common.{◌≡◌, ℕ, suc, ◌+◌, ◌<◌, ◌≤◌, Bool, true, false, cond, List, [], ◌∷◌, ◌++◌, length, codes, refl, sym, ap, subst, arith, length-append, Option, None, Some, inl, inr}
-use Rattle.std.specs.Prelude.{◌==◌, flat_map, encode_utf8}
+use Rattle.sporc_play.proofs.Common.{◌==◌, flat_map, AllByRecursion, encode_utf8_all, eqb-true, len_utf8_ascii, length-encode, spelling, IsNext, IsPlayScript, play_line, device_text, stated_spelling}
+use Rattle.sporc_play.proofs.Common.{text_edit_spelling, Command, PlayLine, Suffix, What, TextEdit, edit_size, text_size, what_size}
+use Rattle.std.specs.Prelude.{encode_utf8}
 use Rattle.std.specs.Fmt.{decimal}
-use Rattle.std.specs.List.{AllByRecursion}
-use Rattle.std.specs.Str.{encode_utf8_all}
-use Rattle.std.proofs.lemmas.Bool.{eqb-true}
-use Rattle.std.proofs.lemmas.Str.{len_utf8_ascii, length-encode}
 use Rattle.hex.specs.Hex.{encode_lower, encode_with}
-use Rattle.sporc_script.specs.Commands.{spelling}
-use Rattle.sporc_script.specs.Grammar.{IsNext, IsPlayScript, play_line}
 use Rattle.sporc_script.specs.Lines.{ReadsAs, lines_of, with_byte}
 use Rattle.sporc_script.specs.Quoted.{escape, quoted}
 use Rattle.sporc_script.specs.Signs.{signed_spelling_of, suffix_spelling, with_suffix}
-use Rattle.sporc_script.specs.Spelling.{device_text, stated_spelling, text_edit_spelling}
-use Rattle.sporc_script.specs.declared.command.Command.{Command}
 use Rattle.sporc_script.specs.declared.command.Command.TheVariants as commands
-use Rattle.sporc_script.specs.declared.play_line.PlayLine.{PlayLine}
-use Rattle.sporc_script.specs.declared.sign.Suffix.{Suffix}
-use Rattle.sporc_script.specs.declared.sign.What.{What}
 use Rattle.sporc_script.specs.declared.sign.What.TheVariants as whats
-use Rattle.sporc_script.specs.declared.text_edit.TextEdit.{TextEdit}
 use Rattle.sporc_script.specs.declared.text_edit.TextEdit.TheVariants.{Insert, Remove}
-use Rattle.sporc_play.specs.Scene.{edit_size, text_size, what_size}
+use Rattle.sporc_play.proofs.Places.{all_each}
 
 -- ---- quoted texts
 
@@ -98,8 +88,7 @@ abbrev AreWithin : ℕ → List (List ℕ) → Type 0
 AreWithin n lines = AllByRecursion (λ (l : List ℕ). length l ≤ n) lines
 
 wider : (n m : ℕ) (lines : List (List ℕ)) → n ≤ m → AreWithin n lines → AreWithin m lines
-wider n m [] low all = tt
-wider n m (l ∷ ls) low all = (omega (arith, low, all.0), wider n m ls low all.1)
+wider n m lines low all = all_each (λ (l : List ℕ). length l ≤ n) (λ (l : List ℕ). length l ≤ m) lines (λ l is. omega (arith, low, is)) all
 
 byte_within : (b n : ℕ) (lines : List (List ℕ)) → AreWithin n lines → AreWithin (suc n) (with_byte b lines)
 byte_within b n [] all = (omega arith, tt)

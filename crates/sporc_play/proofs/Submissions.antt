@@ -1,32 +1,11 @@
 -- Submissions, on the state and on the scene that it stands for.
 use Rattle.std.proofs.Common.{◌≡◌, ◌≢◌, ℕ, ◌+◌, Bool, cond, List, [], ◌∷◌, ◌++◌, length, map, refl, sym, ap, ap₂, ◌∙◌, subst, add-zero, Option, None, Some, option_map, Result}
-use Rattle.std.specs.Option.{option_to_list}
-use Rattle.lms_leaf.specs.declared.faults.LeafFault.{LeafFault}
-use Rattle.lms_sign.specs.Signer.{SignerModel}
-use Rattle.lms_tree.specs.LmsPrivate.{LmsPrivate}
-use Rattle.sporc_memory.specs.MemoryDisk.{MemoryDiskModel}
-use Rattle.sporc_client.specs.declared.fault.SubmitFault.{SubmitFault}
-use Rattle.sporc_client.specs.declared.submitted.Submitted.{Submitted}
-use Rattle.sporc_client.specs.ClientModel.{ClientModel, state_of}
-use Rattle.sporc_client.specs.Log.{Logged}
-use Rattle.sporc_client.specs.PlainClient.{PlainClient}
-use Rattle.sporc_client.specs.Run.{Setup, Happen, after_all}
-use Rattle.sporc_client.specs.Step.{replay}
-use Rattle.sporc_client.specs.Submissions.{submission, submission_added}
-use Rattle.sporc_client.proofs.Calls.{replay_append}
-use Rattle.sporc_member.specs.declared.device.Device.{Device}
-use Rattle.sporc_member.proofs.SameDevice.{one_same}
+use Rattle.sporc_play.proofs.Common.{option_to_list, LeafFault, SignerModel, LmsPrivate, MemoryDiskModel, SubmitFault, Submitted, ClientModel, state_of, Logged, PlainClient, Setup, Happen, after_all}
+use Rattle.sporc_play.proofs.Common.{replay, submission, submission_added, replay_append, Device, one_same, PlayLine, Seat, PlayState, setup_of, random_of, line_by, next_number, submit_line}
+use Rattle.sporc_play.proofs.Common.{logs_after, Effect, Scene, after, entries_in, if_open, leaf_after, submission_in, with_more, AreDrawn, ClientSubmitted, HasSubmitted, IsReady, IsSeatAt}
+use Rattle.sporc_play.proofs.Common.{IsSubmitted, answer_of, last_with, submission_line, Holds, IsSeatOf, StandsFor}
 use Rattle.sporc_script.specs.declared.command.Command.TheVariants as commands
-use Rattle.sporc_script.specs.declared.play_line.PlayLine.{PlayLine}
-use Rattle.sporc_play.specs.declared.seat.Seat.{Seat}
-use Rattle.sporc_play.specs.declared.state.PlayState.{PlayState}
-use Rattle.sporc_play.specs.Cast.{setup_of}
-use Rattle.sporc_play.specs.Derived.{random_of}
-use Rattle.sporc_play.specs.Report.{line_by, next_number, submit_line}
-use Rattle.sporc_play.specs.Logs.{logs_after}
-use Rattle.sporc_play.specs.Scene.{Effect, Scene, after, entries_in, if_open, last_made, leaf_after, submission_in, submits, with_more}
-use Rattle.sporc_play.specs.Seats.{AreDrawn, ClientSubmitted, HasSubmitted, IsReady, IsSeatAt, IsSubmitted, answer_of, last_with, submission_line}
-use Rattle.sporc_play.specs.Stage.{Holds, IsSeatOf, StandsFor}
+use Rattle.sporc_play.specs.Scene.{last_made, submits}
 use Rattle.sporc_play.proofs.Commands.{seat_there}
 use Rattle.sporc_play.proofs.Distinct.{same_or_not}
 use Rattle.sporc_play.proofs.Moved.{AreOf, client_happens, clients_other, happens_of, log_happens, logs_other}

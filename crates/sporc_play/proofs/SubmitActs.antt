@@ -1,41 +1,26 @@
 -- What a submission does may happen wherever a play has come to, and its entry is a string of bytes.
-use Rattle.std.proofs.Common.{◌≡◌, ℕ, ◌+◌, ◌*◌, ◌^◌, ◌<◌, Bool, true, false, cond, eq-eqb, List, ◌++◌, drop, length, length-append, take, refl, sym, ap, ◌∙◌, subst, arith, Option, Some, Result, Ok, Err}
-use Rattle.std.specs.Prelude.{IsSomeAnd, nat_lt}
-use Rattle.std.specs.List.{AllByRecursion}
-use Rattle.std.proofs.lemmas.Bool.{ltb-true}
-use Rattle.sha2.proofs.Facts256.{length-sha256}
-use Rattle.lms_leaf.specs.declared.faults.LeafFault.{LeafFault}
-use Rattle.lms_leaf.specs.declared.faults.LeafFault.TheVariants.{Exhausted}
-use Rattle.lms_tree.specs.LmsPrivate.{LmsPrivate}
-use Rattle.lms_tree.specs.LmsType.{height_of}
+use Rattle.std.proofs.Common.{◌≡◌, ℕ, ◌+◌, ◌*◌, ◌^◌, ◌<◌, true, eq-eqb, List, ◌++◌, drop, length, length-append, take, refl, sym, ap, ◌∙◌, subst, arith, Option, Some, Result, Ok, Err}
+use Rattle.sporc_play.proofs.Common.{IsSomeAnd, AllByRecursion, length-sha256, LeafFault, LmsPrivate, height_of, Device, SubmitFault, Pending, Submitted, Chosen, bytes_made, Dropped}
+use Rattle.sporc_play.proofs.Common.{Submit, Opening, PlainClient, me_of, Due, Waiting, Nothing, Drop, Refuse, Sign, answered, due, signed, reached_at, sound_and_typed_at, PlayLine, derived, random_of}
+use Rattle.sporc_play.proofs.Common.{leaf_after, submission_in}
 use Rattle.sporc_member.specs.declared.change.ChangeFault.{ChangeFault}
-use Rattle.sporc_member.specs.declared.device.Device.{Device}
 use Rattle.sporc_member.specs.ChangeFault.{change_fault_code_of}
-use Rattle.sporc_client.specs.declared.fault.SubmitFault.{SubmitFault}
-use Rattle.sporc_client.specs.declared.pending.Pending.{Pending}
-use Rattle.sporc_client.specs.declared.submitted.Submitted.{Submitted}
 use Rattle.sporc_client.specs.declared.submitted.Submitted.TheVariants as submitted
 use Rattle.sporc_client.specs.Allowed.{can_log, is_drop}
-use Rattle.sporc_client.specs.Entries.{Chosen, bytes_made}
-use Rattle.sporc_client.specs.Log.{Dropped, Submit}
-use Rattle.sporc_client.specs.PlainClient.{Opening, PlainClient, me_of}
-use Rattle.sporc_client.specs.Submissions.{Due, Waiting, Nothing, Drop, Refuse, Sign, answered, due, signed, submission}
+use Rattle.sporc_client.specs.Submissions.{submission}
 use Rattle.sporc_client.proofs.Makings.{made_allowed}
-use Rattle.sporc_client.proofs.Reached.{reached_at}
-use Rattle.sporc_client.proofs.SoundRuns.{sound_and_typed_at}
 use Rattle.sporc_client.proofs.Spellings.{AreTypedItems}
 use Rattle.sporc_client.proofs.Submitting.{is_due}
 use Rattle.sporc_script.specs.declared.command.Command.TheVariants as commands
-use Rattle.sporc_script.specs.declared.play_line.PlayLine.{PlayLine}
 use Rattle.sporc_play.specs.Cast.{setup_of}
-use Rattle.sporc_play.specs.Derived.{derived, random_of}
-use Rattle.sporc_play.specs.Scene.{leaf_after, submission_in, submits}
+use Rattle.sporc_play.specs.Scene.{submits}
 use Rattle.sporc_play.proofs.Acts.{client_at, no_act, open_acts}
 use Rattle.sporc_play.proofs.ByteClients.{IsByteItem}
 use Rattle.sporc_play.proofs.ByteFacts.{AreBytes, bytes_append, bytes_drop, bytes_sha, bytes_take, is_bytes}
 use Rattle.sporc_play.proofs.HistoryKeys.{current_bytes}
 use Rattle.sporc_play.proofs.MadeBytes.{first_written, made_are}
 use Rattle.sporc_play.proofs.Runs.{MayAct, MayBe}
+use Rattle.std.proofs.lemmas.Bool.Decides.{nat_tests}
 
 -- ---- what a submission answers
 
@@ -87,11 +72,7 @@ unfolding can_log
 drop_may c fault is = ap (is_drop fault) is ∙ eq-eqb (change_fault_code_of fault) (change_fault_code_of fault) refl
 
 leaf_is : (key : LmsPrivate) (n q : ℕ) → leaf_after key n ≡ Ok q → q < 2 ^ height_of key.lms
-leaf_is key n q is = go (nat_lt n (2 ^ height_of key.lms)) refl is
-  where
-    go : (b : Bool) → nat_lt n (2 ^ height_of key.lms) ≡ b → cond b (Ok n) (Err (Exhausted n)) ≡ Ok q → q < 2 ^ height_of key.lms
-    go true low is = let same : n ≡ q = cc in subst (λ (k : ℕ). k < 2 ^ height_of key.lms) same (ltb-true n (2 ^ height_of key.lms) low)
-    go false low is = absurd cc
+leaf_is key n q is = grind (arith, nat_tests)
 
 -- ---- random bytes, and the document's number
 

@@ -1,31 +1,17 @@
 -- What a call of `submit` did, for a client that keeps no ticket and whose disk works.
-use Rattle.std.proofs.Common.{◌≡◌, ◌≢◌, ℕ, ◌+◌, ◌^◌, ◌<◌, ◌≤◌, Bool, true, false, cond, ltb, eq-eqb, List, [], ◌++◌, length, refl, sym, ap, ap₂, ◌∙◌, subst, arith, add-zero, Option, None, Some, Result, Ok, Err, inl, inr, IfOk, option_map}
-use Rattle.std.specs.Prelude.{◌==◌, ◌⊎◌, is_none, IsTrue, ◌&&◌}
-use Rattle.std.specs.Option.{option_to_list}
-use Rattle.std.specs.Result.{OnOk}
-use Rattle.std.proofs.lemmas.Bool.{eqb-true, lt-ltb, ltb-true}
-use Rattle.lms_leaf.specs.declared.faults.LeafFault.{LeafFault}
+use Rattle.std.proofs.Common.{◌≡◌, ◌≢◌, ℕ, ◌+◌, ◌^◌, ◌<◌, Bool, true, false, cond, eq-eqb, List, [], ◌++◌, length, refl, sym, ap, ap₂, ◌∙◌, subst, arith, add-zero, Option, None, Some, Result, Ok, Err, inl, inr, IfOk, option_map}
+use Rattle.sporc_play.proofs.Common.{◌==◌, ◌⊎◌, is_none, ◌&&◌, option_to_list, OnOk, eqb-true, LeafFault, height_of, SubmitFault, Submitted, ClientModel}
+use Rattle.sporc_play.proofs.Common.{state_of, PlainClient, Due, Waiting, Nothing, Drop, Refuse, Sign, answered, due, is_signing, submission_added, entries_in, leaf_next}
+use Rattle.sporc_play.proofs.Common.{MemoryDiskModel, Seat, random_of, AreDrawn, ClientSubmitted, HasSubmitted, IsReady, IsSubmitted, last_with}
 use Rattle.lms_leaf.specs.declared.faults.LeafFault.TheVariants as leaves
 use Rattle.lms_leaf.specs.Leaves.{DrawFaults, Draws, LeavesModel}
-use Rattle.lms_tree.specs.LmsPrivate.{LmsPrivate}
-use Rattle.lms_tree.specs.LmsType.{height_of}
-use Rattle.sporc_member.specs.declared.device.Device.{Device}
 use Rattle.sporc_base.specs.Outcome.{GivesUnless}
-use Rattle.sporc_client.specs.declared.fault.SubmitFault.{SubmitFault}
 use Rattle.sporc_client.specs.declared.fault.SubmitFault.TheVariants as faults
-use Rattle.sporc_client.specs.declared.submitted.Submitted.{Submitted}
 use Rattle.sporc_client.specs.declared.submitted.Submitted.TheVariants as submitted
-use Rattle.sporc_client.specs.ClientModel.{ClientModel, state_of}
 use Rattle.sporc_client.specs.Drawing.{IsDraw, asks_draw, at_hand, drawn, gives_entry, kept_after, leaf_for}
-use Rattle.sporc_client.specs.PlainClient.{PlainClient}
-use Rattle.sporc_client.specs.Submissions.{Due, Waiting, Nothing, Drop, Refuse, Sign, answered, due, is_signing, submission, submission_added}
-use Rattle.sporc_play.specs.Report.{submit_line}
-use Rattle.sporc_play.specs.Scene.{entries_in, leaf_after, leaf_next}
-use Rattle.sporc_memory.specs.MemoryDisk.{MemoryDiskModel}
+use Rattle.sporc_client.specs.Submissions.{submission}
 use Rattle.sporc_outside.specs.LeafDisk.{DiskTold}
-use Rattle.sporc_play.specs.declared.seat.Seat.{Seat}
-use Rattle.sporc_play.specs.Derived.{random_of}
-use Rattle.sporc_play.specs.Seats.{AreDrawn, ClientSubmitted, HasSubmitted, IsReady, IsSubmitted, last_with}
+use Rattle.sporc_play.proofs.Forgeries.{leaf_drawn, leaf_none, drawn_more}
 
 -- ---- answers
 
@@ -36,25 +22,13 @@ given (Err fault) answer gives named = gives (λ is. named (ap Err is))
 -- ---- without a signature the leaf does not matter, and there is no entry
 
 quiet_answer : (c : PlainClient) (random : List ℕ) (leaf other : Result ℕ LeafFault) (d : Due) → is_signing d ≡ false → answered c random leaf d ≡ answered c random other d
-quiet_answer c random leaf other Waiting quiet = refl
-quiet_answer c random leaf other Nothing quiet = refl
-quiet_answer c random leaf other (Drop fault) quiet = refl
-quiet_answer c random leaf other (Refuse fault) quiet = refl
-quiet_answer c random leaf other (Sign item) quiet = absurd cc
+quiet_answer c random leaf other d quiet = grind arith
 
 quiet_entries : (c : PlainClient) (random : List ℕ) (leaf : Result ℕ LeafFault) (d : Due) → is_signing d ≡ false → entries_in (answered c random leaf d) ≡ []
-quiet_entries c random leaf Waiting quiet = refl
-quiet_entries c random leaf Nothing quiet = refl
-quiet_entries c random leaf (Drop fault) quiet = refl
-quiet_entries c random leaf (Refuse fault) quiet = refl
-quiet_entries c random leaf (Sign item) quiet = absurd cc
+quiet_entries c random leaf d quiet = grind arith
 
 quiet_gives : (answer : Result Submitted SubmitFault) → entries_in answer ≡ [] → gives_entry answer ≡ false
-quiet_gives (Ok submitted.Waiting) none = refl
-quiet_gives (Ok submitted.Nothing) none = refl
-quiet_gives (Ok (submitted.Dropped fault)) none = refl
-quiet_gives (Ok (submitted.Entry entry)) none = absurd cc
-quiet_gives (Err fault) none = refl
+quiet_gives answer none = grind arith
 
 -- ---- with one it does
 
@@ -70,37 +44,15 @@ signs_with c random leaf (Refuse fault) signs = absurd cc
 signs_with c random leaf (Sign item) signs = record { entry = _; is = refl }
 
 no_leaf : (c : PlainClient) (random : List ℕ) (next : ℕ) (d : Due) → is_signing d ≡ true → entries_in (answered c random (Err (leaves.Exhausted next)) d) ≡ []
-no_leaf c random next Waiting signs = refl
-no_leaf c random next Nothing signs = refl
-no_leaf c random next (Drop fault) signs = refl
-no_leaf c random next (Refuse fault) signs = refl
-no_leaf c random next (Sign item) signs = refl
+no_leaf c random next d signs = grind arith
 
 disk_fault : (c : PlainClient) (random : List ℕ) (d : Due) → is_signing d ≡ true → answered c random (Err leaves.DiskFault) d ≡ Err faults.LeafFault
-disk_fault c random Waiting signs = absurd cc
-disk_fault c random Nothing signs = absurd cc
-disk_fault c random (Drop fault) signs = absurd cc
-disk_fault c random (Refuse fault) signs = absurd cc
-disk_fault c random (Sign item) signs = refl
+disk_fault c random d signs = grind arith
 
 -- ---- leaf numbers
 
-not_faulty : (faulty : Bool) → (IsTrue faulty → ⊥) → faulty ≡ false
-not_faulty true works = absurd (works refl)
-not_faulty false works = refl
-
 same_next : {D : Type 0} (old new : LeavesModel D) → new.next ≡ old.next → at_hand None old new ≡ None
 same_next old new same = ap (λ (b : Bool). cond b None (Some old.next)) (eq-eqb new.next old.next same)
-
-leaf_there : (key : LmsPrivate) (next : ℕ) → next < 2 ^ height_of key.lms → leaf_after key next ≡ Ok next
-leaf_there key next low = ap (λ (b : Bool). cond b (Ok next) (Err (leaves.Exhausted next))) (lt-ltb next (2 ^ height_of key.lms) low)
-
-no_more_leaves : (key : LmsPrivate) (next : ℕ) → next ≡ 2 ^ height_of key.lms → leaf_after key next ≡ Err (leaves.Exhausted next)
-no_more_leaves key next all = go (ltb next (2 ^ height_of key.lms)) refl
-  where
-    go : (b : Bool) → ltb next (2 ^ height_of key.lms) ≡ b → cond b (Ok next) (Err (leaves.Exhausted next)) ≡ Err (leaves.Exhausted next)
-    go true is = absurd (omega (arith, ltb-true next (2 ^ height_of key.lms) is, all))
-    go false is = refl
 
 -- ---- the call
 
@@ -156,16 +108,11 @@ module _ {D : Type 0} (disk_told : D → DiskTold) where
       let why = subst (λ (r : Result ℕ LeafFault). DrawFaults disk_told old.leaves r new.leaves) is did.fault in
       let none : entries_in result ≡ [] = ap entries_in (sym called.answer ∙ ap (λ (r : Result ℕ LeafFault). answered c random r (due c)) is) ∙ no_leaf c random old.leaves.next (due c) signs in
       let next : new.leaves.next ≡ old.leaves.next + length (entries_in result) = draws.next ∙ sym (ap (λ (es : List (List ℕ)). old.leaves.next + length es) none ∙ add-zero old.leaves.next) in
-      let within : old.leaves.next + length (entries_in result) ≤ 2 ^ height_of key.lms = subst (λ (n : ℕ). n ≤ 2 ^ height_of key.lms) (sym draws.next ∙ next) called.ready.leaves.within in
       record {
-        answer = ap (λ (r : Result ℕ LeafFault). answered c random r (due c)) (no_more_leaves key old.leaves.next (all ∙ called.ready.leaves.count) ∙ sym is) ∙ called.answer;
+        answer = ap (λ (r : Result ℕ LeafFault). answered c random r (due c)) (leaf_none key old.leaves.next old.leaves.leaf_count all called.ready.leaves.count ∙ sym is) ∙ called.answer;
         client = after_call random old new result called
-            (record {
-              next = next;
-              within = within;
-              count = draws.leaf_count ∙ called.ready.leaves.count;
-              works = not_faulty new.leaves.faulty (λ yes. let no : Err (leaves.Exhausted old.leaves.next) ≡ Err leaves.DiskFault = why.faulty.0 yes in cc);
-            })
+            (drawn_more key old.leaves new.leaves (length (entries_in result)) called.ready.leaves next (omega (arith, ap (λ (es : List (List ℕ)). length es) none, all)) draws.leaf_count
+            (λ yes. let no : Err (leaves.Exhausted old.leaves.next) ≡ Err leaves.DiskFault = why.faulty.0 yes in cc))
             (ap (kept_after None old.leaves new.leaves) (quiet_gives result none) ∙ same_next old.leaves new.leaves draws.next);
       }
 
@@ -183,14 +130,10 @@ module _ {D : Type 0} (disk_told : D → DiskTold) where
       let one : length (entries_in result) ≡ 1 = ap (λ (r : Result Submitted SubmitFault). length (entries_in r)) result_is in
       let low : old.leaves.next < 2 ^ height_of key.lms = subst (λ (n : ℕ). old.leaves.next < n) called.ready.leaves.count draws.within in
       record {
-        answer = ap (λ (r : Result ℕ LeafFault). answered c random r (due c)) (leaf_there key old.leaves.next low ∙ sym is) ∙ called.answer;
+        answer = ap (λ (r : Result ℕ LeafFault). answered c random r (due c)) (leaf_drawn key old.leaves.next old.leaves.next (2 ^ height_of key.lms) refl low refl ∙ sym is) ∙ called.answer;
         client = after_call random old new result called
-            (record {
-              next = draws.next ∙ sym (ap (λ (n : ℕ). old.leaves.next + n) one);
-              within = omega (arith, low, one);
-              count = draws.leaf_count ∙ called.ready.leaves.count;
-              works = not_faulty new.leaves.faulty (λ yes. let no : Ok old.leaves.next ≡ Err leaves.DiskFault = why.faulty.0 yes in cc);
-            })
+            (drawn_more key old.leaves new.leaves (length (entries_in result)) called.ready.leaves (draws.next ∙ sym (ap (λ (n : ℕ). old.leaves.next + n) one)) (omega (arith, one, draws.within)) draws.leaf_count
+            (λ yes. let no : Ok old.leaves.next ≡ Err leaves.DiskFault = why.faulty.0 yes in cc))
             (ap (λ (r : Result Submitted SubmitFault). kept_after None old.leaves new.leaves (gives_entry r)) result_is);
       }
 
@@ -243,30 +186,10 @@ module _ {D : Type 0} (disk_told : D → DiskTold) where
 
 -- ---- a submission, once its answer was told
 
-pub told_line : {X F : Type 0} (r : Result X F) (out new : List ℕ) (who : Device) (next last : ℕ) (result answer : Result Submitted SubmitFault)
-    → OnOk r (new ≡ out ++ submit_line who next last result) → OnOk r (answer ≡ result) → OnOk r (new ≡ out ++ submit_line who next last answer)
-told_line (Ok x) out new who next last result answer line same = line ∙ ap (λ (a : Result Submitted SubmitFault). out ++ submit_line who next last a) (sym same)
-told_line (Err e) out new who next last result answer line same = tt
-
 pub told_made : {V F : Type 0} (items : V → List ℕ) (r : Result (Option V) F) (result answer : Result Submitted SubmitFault)
     → IfOk r (λ made. option_to_list (option_map items made) ≡ entries_in result) → OnOk r (answer ≡ result) → IfOk r (λ made. option_to_list (option_map items made) ≡ entries_in answer)
 told_made items (Ok made) result answer is same = is ∙ ap entries_in (sym same)
 told_made items (Err e) result answer is same = tt
-
-pub told_client : {D X F : Type 0} (r : Result X F) (random : List ℕ) (old new : ClientModel D) (result : Result Submitted SubmitFault) → OnOk r (Submits random old new result)
-    → OnOk r (IsSubmitted old (submission (state_of old) random (leaf_next old)) new)
-told_client (Ok x) random old new result is = subst (λ (a : Result Submitted SubmitFault). IsSubmitted old a new) (sym is.answer) is.client
-told_client (Err e) random old new result is = tt
-
-pub told_answer : {D X F : Type 0} (r : Result X F) (random : List ℕ) (old new : ClientModel D) (result : Result Submitted SubmitFault) → OnOk r (Submits random old new result)
-    → OnOk r (submission (state_of old) random (leaf_next old) ≡ result)
-told_answer (Ok x) random old new result is = is.answer
-told_answer (Err e) random old new result is = tt
-
-pub told_both : {X F : Type 0} {D : Type 0} (r : Result X F) (random : List ℕ) (old new : ClientModel D) (result : Result Submitted SubmitFault) → OnOk r (result ≢ Err faults.Memory) → OnOk r (result ≢ Err faults.LeafFault)
-    → (result ≢ Err faults.Memory → result ≢ Err faults.LeafFault → Submits random old new result) → OnOk r (Submits random old new result)
-told_both (Ok x) random old new result named no_disk is = is named no_disk
-told_both (Err e) random old new result named no_disk is = tt
 
 -- ---- a seat after it
 

@@ -1,6 +1,6 @@
 -- The summary of the generated run.
 use Rattle.std.proofs.Common.{◌≡◌, ℕ, cond, List, ◌++◌, Result, Ok, Err, append_assoc}
-use Rattle.std.specs.Result.{OnOk, is_ok}
+use Rattle.sporc_play.proofs.Common.{OnOk, is_ok}
 
 regrouped : (old a b c d e w f h n : List ℕ) → ((old ++ (a ++ (b ++ (c ++ (d ++ (e ++ (w ++ f))))))) ++ h) ++ n ≡ old ++ (a ++ (b ++ (c ++ (d ++ (e ++ (w ++ (f ++ (h ++ n))))))))
 regrouped old a b c d e w f h n = simp append_assoc

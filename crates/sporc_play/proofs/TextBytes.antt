@@ -1,17 +1,12 @@
 -- The bytes of texts and of deltas.
 use Rattle.std.proofs.Common.{◌≡◌, ℕ, ◌+◌, ◌/◌, ◌<◌, Bool, true, false, cond, ltb, List, [], ◌∷◌, length, refl, sym, ap, ◌∙◌, arith, inl, inr}
-use Rattle.std.specs.Char.{encode_utf8}
-use Rattle.std.specs.Int.{w64, to_be_bytes}
-use Rattle.std.specs.Str.{all_scalars, encode_utf8_all}
+use Rattle.sporc_play.proofs.Common.{encode_utf8, w64, to_be_bytes, all_scalars, encode_utf8_all, and_parts, ltb-true, delta_bytes, part_bytes, parts_bytes, Mark, inserted, inserted-append}
+use Rattle.sporc_play.proofs.Common.{inserted-insert_marks, scalars_append}
 use lib.Utf8.{encode, next, scalar, scalar_cases}
-use Rattle.std.proofs.lemmas.Bool.{and_parts, ltb-true}
 use Rattle.sporc_delta.specs.declared.part.Part.{Part}
 use Rattle.sporc_delta.specs.declared.part.Part.TheVariants.{Insert, Keep, Remove}
-use Rattle.sporc_delta.specs.Format.{delta_bytes, part_bytes, parts_bytes}
-use Rattle.sporc_delta.specs.Marks.{Mark}
 use Rattle.sporc_delta.specs.Parts.{marks_of, part_marks, runs}
 use Rattle.sporc_delta.proofs.Runs.{marks_of-runs}
-use Rattle.sporc_delta.proofs.Typing.{inserted, inserted-append, inserted-insert_marks, scalars_append}
 use Rattle.sporc_play.proofs.ByteFacts.{AreBytes, bytes_64, bytes_append}
 
 char_are : (c : ℕ) → c < 1114112 → AreBytes (encode_utf8 c)

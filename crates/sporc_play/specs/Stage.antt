@@ -1,9 +1,10 @@
 -- How the state that the code keeps stands for a scene.
 use Rattle.std.specs.Prelude.{◌≡◌, ℕ, ◌+◌, ◌≤◌, ◌<◌, ◌^◌, true, List, ◌++◌, fold, map, Option, None}
-use Rattle.std.specs.Prelude.{Some, Contains, IfSome, IsSome, ⊤, if◌then◌else◌}
+use Rattle.std.specs.Prelude.{Some, Contains, IfSome, IsSome, ⊤, get_or, if◌then◌else◌, length}
 use Rattle.std.specs.FinMap.{empty, insert}
 use Rattle.std.specs.List.{All, AllByRecursion, IsDistinct, list_any}
 use Rattle.lms_sign.specs.Signer.{SignerModel}
+use Rattle.lms_tree.specs.LmsPrivate.{LmsPrivate}
 use Rattle.sporc_member.specs.declared.device.Device.{Device}
 use Rattle.sporc_member.specs.Device.{first_device, same_device}
 use Rattle.sporc_entry.specs.Genesis.{IsGenesis}
@@ -21,7 +22,7 @@ use Rattle.sporc_play.specs.declared.playing.TheConstants.{MAX_SCRIPT}
 use Rattle.sporc_play.specs.Cast.{has_admin, is_pair, private_of, rogues_of, setup_of}
 use Rattle.sporc_play.specs.Derived.{pair_key}
 use Rattle.sporc_play.specs.Lines.{AppendsLine}
-use Rattle.sporc_play.specs.Scene.{Scene, after, text_size}
+use Rattle.sporc_play.specs.Scene.{Scene, after, scene_opened, text_size}
 pub use Rattle.sporc_play.specs.Seats.{AreDrawn}
 use Rattle.sporc_play.specs.Seats.{IsReady, plain_in, rogue_devices, seated}
 
@@ -44,6 +45,11 @@ pub record IsCastOf (s : Setup) (cast : Cast) : Type 0 where
   pub founders : cast.founders.items ≡ s.genesis.founders
   pub trees : (who : Device) → s.private who ≡ private_of cast.tree who
   pub pairs : (who : Device) → pairs_among cast who.member ≡ s.pairs who
+
+-- whatever a play is set up with, if this cast takes part in it and a rogue has this key
+abbrev pub ForRogue : LmsPrivate → ℕ → Cast → (Setup → Type 0) → Type 0
+ForRogue key member cast P =
+    (s : Setup) → key ≡ s.private (first_device member) → IsCastOf s cast → P s
 
 -- what the grammar says of the declarations: no two devices are one, and the founders can begin a
 -- document if one is an admin
@@ -96,6 +102,13 @@ pub record StandsFor (script : List PlayLine) (scene : Scene) (state : PlayState
   pub rogue_devices : rogue_devices state.rogues.items ≡ rogues_of script
   pub declared : AreDeclared script
   pub made : map (λ bytes. bytes.items) state.made.items ≡ scene.made
+
+-- whichever line of a script a declaration is: if its founders before it have clients in one state,
+-- it has one in the other, too, if it declares a founder's device
+abbrev pub OpensBy : PlayLine → PlayState → PlayState → Type 0
+OpensBy line old new = (script : List PlayLine) (i : ℕ) → i < length script
+    → line ≡ get_or script i line → StandsFor script (scene_opened script i) old
+    → StandsFor script (scene_opened script (i + 1)) new
 
 -- all but the entries that were made is as it was
 pub record HasSameMembers (old new : PlayState) : Type 0 where

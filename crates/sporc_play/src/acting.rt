@@ -350,7 +350,6 @@ fn push_refused(out: &mut String, device: Device, fault: SubmitFault) -> Result<
 
 /// Hands a client an entry as the one at a position, if there is one.
 pub fn give(
-    alloc: Global,
     seat: &mut Seat,
     give: &Give,
     entry: Option<&[u8]>,
@@ -366,13 +365,12 @@ pub fn give(
         return push_not_open(out, give.device);
     };
     match entry {
-        Some(entry) => give_client(alloc, client, give, entry, out),
+        Some(entry) => give_client(client, give, entry, out),
         None => push_given(out, give, " no entry\n"),
     }
 }
 
 fn give_client(
-    alloc: Global,
     client: &mut PlayClient,
     give: &Give,
     entry: &[u8],
@@ -387,7 +385,7 @@ fn give_client(
         Ok(_) => push_given(out, give, " ok\n"),
         Err(fault) => {
             push_given(out, give, " refused ")?;
-            push_accept_fault(alloc, out, fault)?;
+            push_accept_fault(out, fault)?;
             out.push_str("\n")
         }
     }

@@ -25,7 +25,7 @@ ghost use Rattle.sporc_play.specs.Forged.{signed_by, spoiled, unsigned_by, value
 ghost use Rattle.sporc_play.specs.Forged.{with_derived, wrap_flipped};
 ghost use Rattle.sporc_play.specs.Scene.{leaf_after, what_size};
 ghost use Rattle.sporc_play.specs.Seats.{AreDrawn};
-ghost use Rattle.sporc_play.specs.Stage.{IsCastOf};
+ghost use Rattle.sporc_play.specs.Stage.{ForRogue, IsCastOf};
 
 use crate::cast::Cast;
 use crate::derived::{pair_key, random_of};
@@ -59,10 +59,9 @@ pub fn forge(
     requires limit { t < 2 ^ 24 }
     requires size_limit { what_size forgery.now.signed.what ≤ MAX_SCRIPT }
     requires leaves { AreDrawn signer.old.key signer.old.leaves.next signer.old.leaves }
-    ensures entry { IfOk result
-        (λ made. (s : Setup) → signer.old.key ≡ s.private (first_device forgery.now.member)
-        → IsCastOf s cast.now → option_map (λ v. v.items) made ≡ forged_entry s
-        (state_of client.now) forgery.now t (leaf_after signer.old.key signer.old.leaves.next)) }
+    ensures entry { IfOk result (λ made. ForRogue signer.old.key forgery.now.member cast.now
+        (λ s. option_map (λ v. v.items) made ≡ forged_entry s (state_of client.now) forgery.now t
+        (leaf_after signer.old.key signer.old.leaves.next))) }
     ensures key { signer.new.key ≡ signer.old.key }
     ensures drawn { IfOk result (λ made. AreDrawn signer.old.key
         (signer.old.leaves.next + length (option_to_list made)) signer.new.leaves) }

@@ -3,13 +3,11 @@
 ghost use Rattle.std.specs.Prelude.{◌≡◌, ◌+◌, ◌<◌, ◌≤◌, ◌^◌, ◌++◌, IfOk, OnOk, option_map};
 ghost use Rattle.std.specs.Prelude.{string_bytes};
 ghost use Rattle.std.specs.Option.{option_copied};
-ghost use Rattle.sporc_client.specs.Run.{Setup};
-ghost use Rattle.sporc_member.specs.Device.{first_device};
 ghost use Rattle.sporc_play.specs.declared.playing.TheConstants.{MAX_SCRIPT};
 ghost use Rattle.sporc_play.specs.Scene.{what_size};
 ghost use Rattle.sporc_play.specs.Seats.{AreDrawn};
 ghost use Rattle.sporc_play.specs.Signing.{HasSigned, forged_by, signed_line, signing_line};
-ghost use Rattle.sporc_play.specs.Stage.{IsCastOf};
+ghost use Rattle.sporc_play.specs.Stage.{ForRogue};
 
 use crate::acting::push_not_open;
 use crate::cast::Cast;
@@ -36,14 +34,12 @@ pub fn sign(
     requires leaves { AreDrawn rogue.old.signer.key rogue.old.signer.leaves.next
         rogue.old.signer.leaves }
     requires size_limit { what_size forgery.now.signed.what ≤ MAX_SCRIPT }
-    ensures entry { IfOk result
-        (λ made. (s : Setup) → rogue.old.signer.key ≡ s.private (first_device forgery.now.member)
-        → IsCastOf s cast.now → option_map (λ v. v.items) made
-        ≡ forged_by s forgery.now rogue.old (option_copied client.entry)) }
-    ensures line { OnOk result
-        ((s : Setup) → rogue.old.signer.key ≡ s.private (first_device forgery.now.member)
-        → IsCastOf s cast.now → string_bytes out.new ≡ string_bytes out.old
-        ++ signing_line forgery.now next rogue.old (option_copied client.entry)) }
+    ensures entry { IfOk result (λ made. ForRogue rogue.old.signer.key forgery.now.member cast.now
+        (λ s. option_map (λ v. v.items) made
+        ≡ forged_by s forgery.now rogue.old (option_copied client.entry))) }
+    ensures line { OnOk result (ForRogue rogue.old.signer.key forgery.now.member cast.now
+        (λ s. string_bytes out.new ≡ string_bytes out.old
+        ++ signing_line forgery.now next rogue.old (option_copied client.entry))) }
     ensures rogue { IfOk result
         (λ made. HasSigned rogue.old (option_map (λ v. v.items) made) rogue.new) }
 {

@@ -2,8 +2,8 @@
 
 ghost use Rattle.std.specs.Option.{option_copied, option_to_list};
 ghost use Rattle.std.specs.Prelude.{◌≡◌, ℕ, ◌+◌, ◌<◌, [], ◌∷◌, ◌++◌, length, Contains, IfOk, OnOk};
-ghost use Rattle.std.specs.Prelude.{List, get_or, map as map_, None, Some, option_map, set};
-ghost use Rattle.std.specs.Prelude.{slice_get, string_bytes};
+ghost use Rattle.std.specs.Prelude.{map as map_, None, Some, option_map, set, slice_get};
+ghost use Rattle.std.specs.Prelude.{string_bytes};
 ghost use Rattle.std.specs.List.{list_any};
 ghost use Rattle.sporc_entry.specs.Genesis.{IsGenesis};
 ghost use Rattle.sporc_member.specs.declared.device.Device.{Device};
@@ -13,7 +13,7 @@ ghost use Rattle.sporc_play.specs.Report.{entry_line, flipped_line};
 ghost use Rattle.sporc_play.specs.Scene.{flipped, opening, scene_opened};
 ghost use Rattle.sporc_play.specs.Seats.{IsSeatAt, seated};
 ghost use Rattle.sporc_play.specs.Stage.{AreDeclared, AreOfOneDocument, Becomes, CanPerform};
-ghost use Rattle.sporc_play.specs.Stage.{HasSameMembers, StandsFor, AppendsLineOf};
+ghost use Rattle.sporc_play.specs.Stage.{AppendsLineOf, HasSameMembers, OpensBy, StandsFor};
 
 use crate::cast::{Cast, tree_of};
 use crate::made::{entry_at, push_no_entry};
@@ -101,10 +101,7 @@ impl PlayState {
         requires genesis { IsGenesis self.old.genesis }
         requires seated { (who : Device) → device_by line.now.command ≡ Some who
             → Contains (seated self.old.seats.items) who }
-        ensures stands { OnOk result ((script : List PlayLine) (i : ℕ) → i < length script
-            → line.now ≡ get_or script i line.now
-            → StandsFor script (scene_opened script i) self.old
-            → StandsFor script (scene_opened script (i + 1)) self.new) }
+        ensures stands { OnOk result (OpensBy line.now self.old self.new) }
         ensures genesis { self.new.genesis ≡ self.old.genesis }
     {
         match self.opener(&line.command) {
@@ -156,7 +153,7 @@ impl PlayState {
             Command::Change(edit) => self.change(alloc, edit, out),
             Command::Discard(device) => self.discard(*device, out),
             Command::Submit(device) => self.submit(*device, out),
-            Command::Give(give) => self.give(alloc, give, out),
+            Command::Give(give) => self.give(give, out),
             Command::Restart(restart) => self.restart(restart, out),
             Command::Join(join) => self.join(alloc, join, out),
             Command::Flip(flip) => self.flip(alloc, flip, out),
@@ -192,7 +189,7 @@ impl PlayState {
     }
 
     fn change(&mut self, alloc: Global, edit: &RosterEdit, out: &mut String) -> Result<(), Memory>
-        requires can { CanPerform self.old (Command.Change edit.now) }
+        requires seated { Contains (seated self.old.seats.items) edit.now.device }
         ensures state { OnOk result (Becomes self.old (Command.Change edit.now) self.new) }
         ensures line { OnOk result (AppendsLineOf self.old (Command.Change edit.now)
             (string_bytes out.old) (string_bytes out.new)) }
@@ -203,7 +200,7 @@ impl PlayState {
     }
 
     fn discard(&mut self, device: Device, out: &mut String) -> Result<(), Memory>
-        requires can { CanPerform self.old (Command.Discard device) }
+        requires seated { Contains (seated self.old.seats.items) device }
         ensures state { OnOk result (Becomes self.old (Command.Discard device) self.new) }
         ensures line { OnOk result (AppendsLineOf self.old (Command.Discard device)
             (string_bytes out.old) (string_bytes out.new)) }
@@ -224,19 +221,19 @@ impl PlayState {
         self.keep_made(made)
     }
 
-    fn give(&mut self, alloc: Global, give: &Give, out: &mut String) -> Result<(), Memory>
-        requires can { CanPerform self.old (Command.Give give.now) }
+    fn give(&mut self, give: &Give, out: &mut String) -> Result<(), Memory>
+        requires seated { Contains (seated self.old.seats.items) give.now.device }
         ensures state { OnOk result (Becomes self.old (Command.Give give.now) self.new) }
         ensures line { OnOk result (AppendsLineOf self.old (Command.Give give.now)
             (string_bytes out.old) (string_bytes out.new)) }
     {
         let i = seat_at(self.seats.as_slice(), give.device);
         let entry = entry_at(self.made.as_slice(), give.entry);
-        acting::give(alloc, &mut self.seats[i], give, entry, out)
+        acting::give(&mut self.seats[i], give, entry, out)
     }
 
     fn restart(&mut self, restart: &Restart, out: &mut String) -> Result<(), Memory>
-        requires can { CanPerform self.old (Command.Restart restart.now) }
+        requires seated { Contains (seated self.old.seats.items) restart.now.device }
         ensures state { OnOk result (Becomes self.old (Command.Restart restart.now) self.new) }
         ensures line { OnOk result (AppendsLineOf self.old (Command.Restart restart.now)
             (string_bytes out.old) (string_bytes out.new)) }

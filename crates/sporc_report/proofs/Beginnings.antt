@@ -1,6 +1,6 @@
 -- Texts that are appended one after another.
 use Rattle.std.proofs.Common.{◌≡◌, ℕ, List, ◌++◌, append_assoc, ap, ◌∙◌, Result, Ok, Err}
-use Rattle.std.specs.Prelude.{OnErr, OnOk}
+use Rattle.sporc_report.proofs.Common.{OnErr, OnOk}
 use Rattle.sporc_report.specs.Appending.{BeginsWith}
 
 pub begins_then : (old mid new text : List ℕ) → mid ≡ old ++ text → BeginsWith new mid → BeginsWith new old

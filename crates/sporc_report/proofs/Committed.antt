@@ -1,8 +1,8 @@
 -- The lines of entries, one after another, and the text that they tell.
 use Rattle.std.proofs.Common.{◌≡◌, ℕ, suc, zero, ◌-◌, ◌<◌, ◌≤◌, List, [], ◌∷◌, ◌++◌, length, take, drop, map, fold, get_or, Option, None, Some, Result, Ok, refl, sym, ap, ap₂, ◌∙◌, subst, arith, append_assoc}
+use Rattle.sporc_report.proofs.Common.{drop_all, length-map}
 use Rattle.std.specs.List.{slice_get}
 use Rattle.std.specs.Result.{IsOk}
-use Rattle.std.proofs.lemmas.List.{drop_all, length-map}
 use Rattle.sporc_hash.proofs.Lists.{from_end}
 use Rattle.sporc_delta.specs.Marks.{Mark, apply, keep_marks}
 use Rattle.sporc_entry.specs.declared.entry.Entry.{Entry}

@@ -1,17 +1,14 @@
 -- Worked examples: lines of a journal, and of what a client shows, as docs/FORMATS.md has them.
 use Rattle.std.proofs.Common.{◌≡◌, ℕ, [], ◌∷◌, codes, refl}
+use Rattle.sporc_report.proofs.Common.{Device, Roster, after_change, founded, compare_line, members_text, delta_text, event_text, journal_lines}
 use Rattle.std.specs.Fmt.{digits}
 use Rattle.hex.specs.Hex.{encode_with}
 use Rattle.sporc_delta.specs.Marks.{Remove, Insert, Keep}
 use Rattle.sporc_hash.specs.declared.verdict.Verdict.TheVariants.{ForkedAfter, Prefix}
 use Rattle.sporc_member.specs.declared.change.Change.TheVariants as changes
 use Rattle.sporc_member.specs.declared.change.ChangeFault.TheVariants as change_faults
-use Rattle.sporc_member.specs.declared.device.Device.{Device}
 use Rattle.sporc_member.specs.declared.role.Role.TheVariants.{Editor, Reader}
-use Rattle.sporc_member.specs.Roster.{Roster, after_change, founded}
 use Rattle.sporc_client.specs.declared.event.Event.TheVariants as events
-use Rattle.sporc_report.specs.ClientLines.{compare_line, members_text}
-use Rattle.sporc_report.specs.JournalLines.{delta_text, event_text, journal_lines}
 
 -- ---- a journal
 

@@ -3,3 +3,4 @@ mod Examples
 pub mod Parts
 pub mod Rosters
 pub mod Beginnings
+pub mod Common

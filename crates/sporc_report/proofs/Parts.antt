@@ -1,6 +1,6 @@
 -- Lines that are appended in parts.
 use Rattle.std.proofs.Common.{◌≡◌, ℕ, List, ◌++◌, append_assoc, ap, ◌∙◌, Result, Ok, Err}
-use Rattle.std.specs.Prelude.{is_ok, if◌then◌else◌}
+use Rattle.sporc_report.proofs.Common.{is_ok, if◌then◌else◌}
 use Rattle.std.specs.Result.{OnOk}
 
 pub told_by_last : {X F : Type 0} (r : Result X F) (old first second new m text name end : List ℕ) → first ≡ old ++ (m ++ text) → second ≡ first ++ name → OnOk r (new ≡ second ++ end) → OnOk r (new ≡ old ++ (m ++ (text ++ (name ++ end))))

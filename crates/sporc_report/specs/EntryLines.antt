@@ -10,6 +10,7 @@ use Rattle.sporc_entry.specs.declared.change.ChangeBody.{ChangeBody}
 use Rattle.sporc_entry.specs.declared.genesis.Genesis.{Genesis}
 use Rattle.sporc_entry.specs.Entry.{author_device, entry_of, change_of}
 use Rattle.sporc_line.specs.Kit.{Kit}
+use Rattle.sporc_line.specs.LineModel.{LineModel}
 use Rattle.sporc_line.specs.Operations.{Operation, What, Edited, Changed, Unread}
 use Rattle.sporc_line.specs.Document.{forms_of}
 use Rattle.sporc_script.specs.Spelling.{device_text}
@@ -76,6 +77,10 @@ lines_after n (o ∷ os) = entry_line (suc n) o ++ lines_after (suc n) os
 -- the lines behind the first so many operations
 abbrev pub lines_behind : ℕ → List Operation → List ℕ
 lines_behind n os = lines_after n (drop n os)
+
+-- those of a member's entries behind the first so many
+abbrev pub lines_left : ℕ → LineModel → List ℕ
+lines_left n line = lines_behind n (committed line.genesis line.kit line.entries)
 
 -- the lines of a history's entries from a position on
 abbrev pub entry_lines : ℕ → Genesis → Kit → List (List ℕ) → List ℕ

@@ -6,8 +6,8 @@ ghost use Rattle.std.specs.Option.{option_copied};
 ghost use Rattle.sporc_entry.specs.Entry.{author_device, entry_of};
 ghost use Rattle.sporc_line.specs.Good.{Good};
 ghost use Rattle.sporc_report.specs.Appending.{BeginsWith};
-ghost use Rattle.sporc_report.specs.EntryLines.{committed, committed_by, done_by, entry_line};
-ghost use Rattle.sporc_report.specs.EntryLines.{entry_lines, lines_behind, origin_text, what_text};
+ghost use Rattle.sporc_report.specs.EntryLines.{committed_by, done_by, entry_line, entry_lines};
+ghost use Rattle.sporc_report.specs.EntryLines.{lines_left, origin_text, what_text};
 
 use crate::appending::{push_counted, push_decimal, push_word};
 use crate::journal::{push_change, push_delta};
@@ -40,11 +40,8 @@ fn push_at(alloc: Global, out: &mut String, line: &Line, position: u32) -> Resul
     requires positive { 1 ≤ position }
     requires in_bounds { position ≤ length line.now.entries }
     requires good { Good line.now.genesis line.now.kit line.now.entries }
-    ensures ok { OnOk result (
-        string_bytes out.new
-        ++ lines_behind position (committed line.now.genesis line.now.kit line.now.entries)
-        ≡ string_bytes out.old
-        ++ lines_behind (position - 1) (committed line.now.genesis line.now.kit line.now.entries)) }
+    ensures ok { OnOk result (string_bytes out.new ++ lines_left position line.now
+        ≡ string_bytes out.old ++ lines_left (position - 1) line.now) }
     ensures grows { BeginsWith (string_bytes out.new) (string_bytes out.old) }
 {
     let entry = line.entries()[position as usize - 1].as_slice();

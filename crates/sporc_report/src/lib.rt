@@ -28,8 +28,8 @@ mod showing;
 pub use crate::entries::push_entries;
 pub use crate::journal::push_journal;
 pub use crate::names::{
-    edit_fault_name, open_fault_name, push_accept_fault, push_edit_fault, push_hint_fault,
-    push_open_fault, push_submit_fault,
+    edit_fault_name, hint_fault_parts, open_fault_name, push_accept_fault, push_edit_fault,
+    push_hint_fault, push_open_fault, push_submit_fault,
 };
 pub use crate::showing::{
     last_hash, push_device, push_digits, push_hash, push_members, push_number, push_show,

@@ -1,16 +1,18 @@
 //! The names of faults. A fault of memory has none.
 
-ghost use Rattle.std.specs.Prelude.{◌≡◌, ◌≢◌, ◌++◌, IfSome, OnErr, OnOk, string_bytes};
+ghost use Rattle.std.specs.Prelude.{◌≡◌, ◌≢◌, ◌++◌, OnErr, OnOk, string_bytes};
+ghost use Rattle.sporc_head.specs.Refusal.{name_of, number_text};
 ghost use Rattle.sporc_report.specs.Appending.{BeginsWith};
 ghost use Rattle.sporc_report.specs.Names.{accept_fault_name, edit_fault_name, hint_fault_name};
 ghost use Rattle.sporc_report.specs.Names.{open_fault_name, submit_fault_name};
 
-use crate::appending::{push_counted, push_word};
+use crate::appending::{push_decimal, push_word};
 use sporc_base::Memory;
 use sporc_client::{AcceptFault, EditFault, SubmitFault};
 use sporc_epoch::HintFault;
+use sporc_head::NameParts;
 use sporc_line::LineOpenFault;
-use std::alloc::{AllocError, Global};
+use std::alloc::AllocError;
 
 /// The name of why an edit, a change or a discard is refused: no text for a fault of memory.
 pub fn edit_fault_name(fault: EditFault) -> &'static str
@@ -48,44 +50,40 @@ pub fn push_submit_fault(out: &mut String, fault: SubmitFault) -> Result<(), Mem
     ensures named { OnOk result (fault ≢ SubmitFault.Memory) }
     ensures memory { OnErr result (BeginsWith (string_bytes out.new) (string_bytes out.old)) }
 {
-    if let Some(name) = submit_fault_name(fault) {
-        return push_word(out, name);
-    }
     match fault {
-        SubmitFault::HeadTooLong(len) => push_counted(out, "head-too-long ", len),
-        SubmitFault::NoPairKey(member) => { push_counted(out, "no-pair-key ", u64::from(member)) }
-        _ => Err(AllocError),
+        SubmitFault::Memory => Err(AllocError),
+        _ => push_name(out, submit_fault_parts(fault)),
     }
 }
 
-// The name of a fault, if it is a word alone.
-fn submit_fault_name(fault: SubmitFault) -> Option<&'static str>
-    ensures name { IfSome result (λ name. name.now ≡ submit_fault_name fault) }
-    ensures named { IfSome result (λ _. fault ≢ SubmitFault.Memory) }
+// The name of why a submission is refused, in parts: no text for a fault of memory.
+fn submit_fault_parts(fault: SubmitFault) -> NameParts
+    ensures { name_of result ≡ submit_fault_name fault }
 {
     match fault {
-        SubmitFault::Removed => Some("removed"),
-        SubmitFault::NoRight => Some("no-right"),
-        SubmitFault::HistoryFull => Some("history-full"),
-        SubmitFault::JournalFull => Some("journal-full"),
-        SubmitFault::Exhausted(_) => Some("exhausted"),
-        SubmitFault::LeafFault => Some("leaf-fault"),
-        _ => None,
+        SubmitFault::Removed => NameParts::of("removed"),
+        SubmitFault::NoRight => NameParts::of("no-right"),
+        SubmitFault::HistoryFull => NameParts::of("history-full"),
+        SubmitFault::JournalFull => NameParts::of("journal-full"),
+        SubmitFault::HeadTooLong(len) => NameParts::with_number("head-too-long ", len),
+        SubmitFault::NoPairKey(member) => {
+            NameParts::with_number("no-pair-key ", u64::from(member))
+        }
+        SubmitFault::Exhausted(_) => NameParts::of("exhausted"),
+        SubmitFault::LeafFault => NameParts::of("leaf-fault"),
+        SubmitFault::Memory => NameParts::of(""),
     }
 }
 
 /// Appends the name of why an entry is refused.
-pub fn push_accept_fault(alloc: Global, out: &mut String, fault: AcceptFault) -> Result<(), Memory>
+pub fn push_accept_fault(out: &mut String, fault: AcceptFault) -> Result<(), Memory>
     ensures name { OnOk result
         (string_bytes out.new ≡ string_bytes out.old ++ accept_fault_name fault) }
     ensures named { OnOk result (fault ≢ AcceptFault.Memory) }
     ensures memory { OnErr result (BeginsWith (string_bytes out.new) (string_bytes out.old)) }
 {
     match fault {
-        AcceptFault::Refused(refusal) => {
-            let name = refusal.name(alloc)?;
-            push_word(out, name.as_str())
-        }
+        AcceptFault::Refused(refusal) => push_name(out, refusal.parts()),
         AcceptFault::JournalFull => push_word(out, "journal-full"),
         AcceptFault::Memory => Err(AllocError),
     }
@@ -99,10 +97,20 @@ pub fn push_hint_fault(out: &mut String, fault: HintFault) -> Result<(), Memory>
     ensures memory { OnErr result (BeginsWith (string_bytes out.new) (string_bytes out.old)) }
 {
     match fault {
-        HintFault::NotAdded => push_word(out, "not-added"),
-        HintFault::NoPairKey(member) => push_counted(out, "no-pair-key ", u64::from(member)),
-        HintFault::WrongKey(_) => push_word(out, "wrong-key"),
         HintFault::Memory => Err(AllocError),
+        _ => push_name(out, hint_fault_parts(fault)),
+    }
+}
+
+/// The name of why entries give no hints, in parts: no text for a fault of memory.
+pub fn hint_fault_parts(fault: HintFault) -> NameParts
+    ensures name { name_of result ≡ hint_fault_name fault }
+{
+    match fault {
+        HintFault::NotAdded => NameParts::of("not-added"),
+        HintFault::NoPairKey(member) => NameParts::with_number("no-pair-key ", u64::from(member)),
+        HintFault::WrongKey(_) => NameParts::of("wrong-key"),
+        HintFault::Memory => NameParts::of(""),
     }
 }
 
@@ -127,5 +135,26 @@ pub fn push_open_fault(out: &mut String, fault: LineOpenFault) -> Result<(), Mem
     match fault {
         LineOpenFault::Memory => Err(AllocError),
         _ => push_word(out, open_fault_name(fault)),
+    }
+}
+
+// Appends a name of which these are the parts.
+fn push_name(out: &mut String, parts: NameParts) -> Result<(), Memory>
+    ensures ok { OnOk result (string_bytes out.new ≡ string_bytes out.old ++ name_of parts) }
+    ensures memory { OnErr result (BeginsWith (string_bytes out.new) (string_bytes out.old)) }
+{
+    push_word(out, parts.before)?;
+    push_optional(out, parts.number)?;
+    push_word(out, parts.behind)
+}
+
+// Appends a number, if there is one.
+fn push_optional(out: &mut String, number: Option<u64>) -> Result<(), Memory>
+    ensures ok { OnOk result (string_bytes out.new ≡ string_bytes out.old ++ number_text number) }
+    ensures memory { OnErr result (BeginsWith (string_bytes out.new) (string_bytes out.old)) }
+{
+    match number {
+        Some(number) => push_decimal(out, number),
+        None => Ok(()),
     }
 }

@@ -1,13 +1,8 @@
 -- Escaping the bytes of a text is escaping its characters.
 use Rattle.std.proofs.Common.{◌≡◌, ℕ, suc, ◌<◌, ◌≤◌, List, [], ◌∷◌, ◌++◌, length, get_or, flat_map, refl, sym, ap, ap₂, ◌∙◌, inl, inr, arith, append-nil}
-use Rattle.std.specs.Prelude.{◌==◌, if◌then◌else◌}
+use Rattle.sporc_script.proofs.Common.{◌==◌, if◌then◌else◌, encode_utf8_all, cases_lt, nat_tests, encode_ascii, inside_one, escape}
 use Rattle.std.specs.Char.{encode_utf8}
-use Rattle.std.specs.Str.{encode_utf8_all}
-use Rattle.std.proofs.lemmas.Bool.{cases_lt}
-use Rattle.std.proofs.lemmas.Bool.Decides.{nat_tests}
-use Rattle.std.proofs.lemmas.Str.{encode_ascii, inside_one}
 use Rattle.std.proofs.lemmas.Grind.{flat_map-append}
-use Rattle.sporc_script.specs.Quoted.{escape}
 
 -- a byte as it stands in a quoted text
 abbrev pub escape_byte : ℕ → List ℕ

@@ -1,21 +1,13 @@
 -- What a cut at the first space gives.
 use Rattle.std.proofs.Common.{◌≡◌, ◌≢◌, ℕ, ◌+◌, ◌<◌, ◌^◌, Bool, true, false, List, [], ◌∷◌, ◌++◌, length, take, drop, get_or, flat_map, Option, Some, None, option_map, refl, sym, ap, ◌∙◌, subst, inl, inr, add-one, drop-cons, append_assoc, append-nil, length-drop, arith, ◌-◌, ◌≤◌, not, ◌&&◌}
-use Rattle.std.specs.Prelude.{◌==◌, if◌then◌else◌}
+use Rattle.sporc_script.proofs.Common.{◌==◌, if◌then◌else◌, and_parts, eqb-true, nil_from_length, take_all, take_more, decimal, AllDigits, decimal_is_IsNumeral, eqb_tells, Lacks, cut, quoted}
+use Rattle.sporc_script.proofs.Common.{encode_utf8_all, same_Some}
 use Rattle.std.specs.List.{AllByRecursion, list_all}
-use Rattle.std.proofs.lemmas.Bool.{and_parts, eqb-true}
-use Rattle.std.proofs.lemmas.List.{nil_from_length, take_all, take_more}
-use Rattle.std.specs.Fmt.{decimal}
-use Rattle.std.specs.Str.Parse.{AllDigits}
 use Rattle.std.proofs.lemmas.Str.Parse.{digit_from_value}
-use Rattle.std.proofs.lemmas.Fmt.{decimal_is_IsNumeral}
-use Rattle.std.proofs.lemmas.Bool.Decides.{eqb_tells}
 use Rattle.sporc_script.specs.declared.words.Place.{Place}
 use Rattle.sporc_script.specs.declared.words.Place.TheVariants.{Outside, Quoted, Escaped}
-use Rattle.sporc_script.specs.Words.{Lacks, cut, cut_at, ends_word, place_after, split_at, with_first}
-use Rattle.sporc_script.specs.Quoted.{quoted}
+use Rattle.sporc_script.specs.Words.{cut_at, ends_word, place_after, split_at, with_first}
 use Rattle.sporc_script.proofs.CharEscapes.{escape_byte, flat_map-encode_all}
-use Rattle.std.specs.Str.{encode_utf8_all}
-use Rattle.std.proofs.lemmas.Option.{same_Some}
 
 -- bytes that end where no quoted text is open, with no end of a word among them
 abbrev pub IsWhole : Place → List ℕ → Type 0

@@ -1,15 +1,9 @@
 -- Words that are devices, and their numbers, read exactly.
 use Rattle.std.proofs.Common.{◌≡◌, ℕ, ◌<◌, List, ◌∷◌, ◌++◌, Option, Some, None, option_map, refl, sym, ap, ap₂, ◌∙◌, subst, inl, inr, arith}
-use Rattle.std.specs.Prelude.{◌^◌, nat_lt}
-use Rattle.std.specs.Fmt.{decimal}
-use Rattle.std.proofs.lemmas.Bool.{and_from, and_parts}
-use Rattle.std.proofs.lemmas.Bool.Decides.{Decides-ltb, eqb_tells}
-use Rattle.sporc_member.specs.Device.{IsMember, first_device}
-use Rattle.sporc_member.specs.declared.device.Device.{Device}
+use Rattle.sporc_script.proofs.Common.{◌^◌, nat_lt, decimal, and_from, and_parts, Decides-ltb, eqb_tells, IsMember, first_device, Device, device_with, fits_u8, is_further, member_of, then_read}
+use Rattle.sporc_script.proofs.Common.{with_more, DeviceInRange, IsDeviceNumber, IsFurtherNumber, device_text, Lacks, Splits, number_of, split_at}
 use Rattle.sporc_member.specs.declared.device.TheConstants.{FIRST_DEVICE}
-use Rattle.sporc_script.specs.Readers.{device_number_of, device_of, device_with, fits_u8, further_number_of, is_further, member_of, then_read, with_more}
-use Rattle.sporc_script.specs.Spelling.{DeviceInRange, IsDeviceNumber, IsFurtherNumber, device_text}
-use Rattle.sporc_script.specs.Words.{Lacks, Splits, number_of, split_at}
+use Rattle.sporc_script.specs.Readers.{device_number_of, device_of, further_number_of}
 use Rattle.sporc_script.proofs.Cuts.{bare_point, bare_word, decimal_bare, decimal_lacks, decimal_word, split_none, split_some, split_sound}
 use Rattle.sporc_script.proofs.Exact.{AreWords, IsExact, map_some, passing_exact, range_exact, then_some}
 use Rattle.sporc_script.proofs.TextWords.{member_exact, number_exact}

@@ -1,13 +1,11 @@
 -- The readers of edits are exact.
 use Rattle.std.proofs.Common.{◌≡◌, ◌⊎◌, inl, inr, ℕ, Bool, true, false, List, [], ◌∷◌, ◌++◌, Option, Some, None, option_map, refl, ap, ◌∙◌, subst}
-use Rattle.std.specs.Prelude.{codes, if◌then◌else◌}
-use Rattle.std.specs.Fmt.{decimal}
-use Rattle.std.specs.Str.{all_scalars, bytes_eq}
-use Rattle.std.proofs.lemmas.Slice.Eq.{bytes_eq-Decides}
-use Rattle.sporc_member.specs.declared.device.Device.{Device}
+use Rattle.sporc_script.proofs.Common.{codes, if◌then◌else◌, decimal, all_scalars, bytes_eq, bytes_eq-Decides, Device, MemberRole, member_device_of, member_role_of, quoted, device_of, keyed_of}
+use Rattle.sporc_script.proofs.Common.{member_of, pair_of, then_read, EditInRange, IsU64, RosterChangeInRange, RosterEditInRange, SeenInRange, TextEditInRange, edit_spelling, member_role_spelling}
+use Rattle.sporc_script.proofs.Common.{roster_change_spelling, roster_edit_spelling, roster_word_name, stated_spelling, text_edit_spelling, text_word_name, device_text, member_device_spelling, text_of}
+use Rattle.sporc_script.proofs.Common.{cut, number_of}
 use Rattle.sporc_script.specs.declared.command.Edit.{Edit}
 use Rattle.sporc_script.specs.declared.command.RosterEdit.{RosterEdit}
-use Rattle.sporc_script.specs.declared.member_role.MemberRole.{MemberRole}
 use Rattle.sporc_script.specs.declared.roster_change.RosterChange.{RosterChange}
 use Rattle.sporc_script.specs.declared.roster_change.RosterChange.TheVariants as changes
 use Rattle.sporc_script.specs.declared.roster_change.RosterWord.{RosterWord}
@@ -19,16 +17,10 @@ use Rattle.sporc_script.specs.declared.text_edit.TextEdit.TheVariants as edits
 use Rattle.sporc_script.specs.declared.text_edit.TextWord.{TextWord}
 use Rattle.sporc_script.specs.declared.text_edit.TextWord.TheVariants as text_words
 use Rattle.sporc_script.specs.Edits.{edit_of, insertion_of, removal_of, roster_change_of, roster_change_with, roster_edit_of, roster_word_of, stated_of, stated_with, text_edit_of, text_edit_with, text_word_of}
-use Rattle.sporc_script.specs.Plain.{member_device_of, member_role_of}
-use Rattle.sporc_script.specs.Quoted.{quoted}
-use Rattle.sporc_script.specs.Readers.{device_of, keyed_of, member_of, pair_of, then_read}
-use Rattle.sporc_script.specs.Spelling.{EditInRange, IsU64, RosterChangeInRange, RosterEditInRange, SeenInRange, TextEditInRange, edit_spelling, member_role_spelling, roster_change_spelling, roster_edit_spelling, roster_word_name, stated_spelling, text_edit_spelling, text_word_name, device_text, member_device_spelling}
-use Rattle.sporc_script.specs.Texts.{text_of}
-use Rattle.sporc_script.specs.Words.{cut, number_of}
 use Rattle.sporc_script.proofs.Cuts.{IsWord, cut_sound, cut_word, word_from_test}
 use Rattle.sporc_script.proofs.DeviceWords.{device_exact, device_words}
 use Rattle.sporc_script.proofs.Exact.{IsExact, map_exact, map_some, named_exact, pair_exact, range_exact, then_some}
-use Rattle.sporc_script.proofs.Keyed.{Begins, keyed_exact, lone_exact, variant_sound}
+use Rattle.sporc_script.proofs.Keyed.{Begins, IsMoreThan, keyed_exact, lone_exact, variant_sound}
 use Rattle.sporc_script.proofs.PlainReaders.{member_device_exact, member_role_exact, number_words}
 use Rattle.sporc_script.proofs.TextWords.{member_exact, number_exact, text_exact}
 
@@ -151,49 +143,36 @@ edit_exact = range_exact Edit _ _ edit_spelling _
 
 -- each but the one that is a word alone
 abbrev HasMore : RosterChange → Type 0
-HasMore (changes.Add m) = RosterChangeInRange (changes.Add m)
-HasMore (changes.Remove m) = RosterChangeInRange (changes.Remove m)
-HasMore (changes.SetRole m) = RosterChangeInRange (changes.SetRole m)
-HasMore (changes.AddDevice d) = RosterChangeInRange (changes.AddDevice d)
-HasMore (changes.DropDevice d) = RosterChangeInRange (changes.DropDevice d)
-HasMore changes.Upgrade = ⊥
+HasMore = IsMoreThan (codes "upgrade") RosterChangeInRange roster_change_spelling
 
 roster_change_sound : (w : RosterWord) (bytes : List ℕ) (c : RosterChange) → roster_change_with w bytes ≡ Some c → HasMore c × (roster_word_name w ++ 32 ∷ bytes ≡ roster_change_spelling c)
-roster_change_sound roster_words.Add bytes c is = variant_sound MemberRole RosterChange _ _ member_role_of member_role_exact HasMore roster_change_spelling (codes "add") changes.Add (λ a h. h) (λ a. refl) bytes c is
-roster_change_sound roster_words.Remove bytes c is = variant_sound ℕ RosterChange _ _ member_of member_exact HasMore roster_change_spelling (codes "remove") changes.Remove (λ a h. h) (λ a. refl) bytes c is
-roster_change_sound roster_words.Role bytes c is = variant_sound MemberRole RosterChange _ _ member_role_of member_role_exact HasMore roster_change_spelling (codes "role") changes.SetRole (λ a h. h) (λ a. refl) bytes c is
-roster_change_sound roster_words.Device bytes c is = variant_sound Device RosterChange _ _ member_device_of member_device_exact HasMore roster_change_spelling (codes "device") changes.AddDevice (λ a h. h) (λ a. refl) bytes c is
-roster_change_sound roster_words.DropDevice bytes c is = variant_sound Device RosterChange _ _ member_device_of member_device_exact HasMore roster_change_spelling (codes "drop-device") changes.DropDevice (λ a h. h) (λ a. refl) bytes c is
+roster_change_sound roster_words.Add bytes c is = variant_sound MemberRole RosterChange _ _ member_role_of member_role_exact HasMore roster_change_spelling (codes "add") changes.Add (λ a h. (h, refl)) (λ a. refl) bytes c is
+roster_change_sound roster_words.Remove bytes c is = variant_sound ℕ RosterChange _ _ member_of member_exact HasMore roster_change_spelling (codes "remove") changes.Remove (λ a h. (h, refl)) (λ a. refl) bytes c is
+roster_change_sound roster_words.Role bytes c is = variant_sound MemberRole RosterChange _ _ member_role_of member_role_exact HasMore roster_change_spelling (codes "role") changes.SetRole (λ a h. (h, refl)) (λ a. refl) bytes c is
+roster_change_sound roster_words.Device bytes c is = variant_sound Device RosterChange _ _ member_device_of member_device_exact HasMore roster_change_spelling (codes "device") changes.AddDevice (λ a h. (h, refl)) (λ a. refl) bytes c is
+roster_change_sound roster_words.DropDevice bytes c is = variant_sound Device RosterChange _ _ member_device_of member_device_exact HasMore roster_change_spelling (codes "drop-device") changes.DropDevice (λ a h. (h, refl)) (λ a. refl) bytes c is
 
 roster_change_begins : (c : RosterChange) → HasMore c → Begins RosterWord RosterChange roster_word_name roster_change_spelling roster_change_with c
-roster_change_begins (changes.Add m) range = record { word = roster_words.Add; rest = member_role_spelling m; spelled = refl; reads = ap (option_map changes.Add) (member_role_exact.complete m range) }
-roster_change_begins (changes.Remove m) range = record { word = roster_words.Remove; rest = decimal m; spelled = refl; reads = ap (option_map changes.Remove) (member_exact.complete m range) }
-roster_change_begins (changes.SetRole m) range = record { word = roster_words.Role; rest = member_role_spelling m; spelled = refl; reads = ap (option_map changes.SetRole) (member_role_exact.complete m range) }
-roster_change_begins (changes.AddDevice d) range = record { word = roster_words.Device; rest = member_device_spelling d; spelled = refl; reads = ap (option_map changes.AddDevice) (member_device_exact.complete d range) }
-roster_change_begins (changes.DropDevice d) range = record { word = roster_words.DropDevice; rest = member_device_spelling d; spelled = refl; reads = ap (option_map changes.DropDevice) (member_device_exact.complete d range) }
-roster_change_begins changes.Upgrade range = absurd range
-
-in_range : (c : RosterChange) → HasMore c → RosterChangeInRange c
-in_range (changes.Add m) range = range
-in_range (changes.Remove m) range = range
-in_range (changes.SetRole m) range = range
-in_range (changes.AddDevice d) range = range
-in_range (changes.DropDevice d) range = range
-in_range changes.Upgrade range = absurd range
+roster_change_begins (changes.Add m) range = record { word = roster_words.Add; rest = member_role_spelling m; spelled = refl; reads = ap (option_map changes.Add) (member_role_exact.complete m range.0) }
+roster_change_begins (changes.Remove m) range = record { word = roster_words.Remove; rest = decimal m; spelled = refl; reads = ap (option_map changes.Remove) (member_exact.complete m range.0) }
+roster_change_begins (changes.SetRole m) range = record { word = roster_words.Role; rest = member_role_spelling m; spelled = refl; reads = ap (option_map changes.SetRole) (member_role_exact.complete m range.0) }
+roster_change_begins (changes.AddDevice d) range = record { word = roster_words.Device; rest = member_device_spelling d; spelled = refl; reads = ap (option_map changes.AddDevice) (member_device_exact.complete d range.0) }
+roster_change_begins (changes.DropDevice d) range = record { word = roster_words.DropDevice; rest = member_device_spelling d; spelled = refl; reads = ap (option_map changes.DropDevice) (member_device_exact.complete d range.0) }
+roster_change_begins changes.Upgrade range = let no : true ≡ false = range.1 in absurd cc
 
 upgrade_or_more : (c : RosterChange) → RosterChangeInRange c → (c ≡ changes.Upgrade) ⊎ (HasMore c × (bytes_eq (roster_change_spelling c) (codes "upgrade") ≡ false))
-upgrade_or_more (changes.Add m) range = inr (range, refl)
-upgrade_or_more (changes.Remove m) range = inr (range, refl)
-upgrade_or_more (changes.SetRole m) range = inr (range, refl)
-upgrade_or_more (changes.AddDevice d) range = inr (range, refl)
-upgrade_or_more (changes.DropDevice d) range = inr (range, refl)
+upgrade_or_more (changes.Add m) range = inr ((range, refl), refl)
+upgrade_or_more (changes.Remove m) range = inr ((range, refl), refl)
+upgrade_or_more (changes.SetRole m) range = inr ((range, refl), refl)
+upgrade_or_more (changes.AddDevice d) range = inr ((range, refl), refl)
+upgrade_or_more (changes.DropDevice d) range = inr ((range, refl), refl)
 upgrade_or_more changes.Upgrade range = inl refl
 
 pub roster_change_exact : IsExact RosterChange RosterChangeInRange roster_change_spelling roster_change_of
 unfolding roster_change_of
 roster_change_exact = lone_exact RosterChange (codes "upgrade") changes.Upgrade RosterChangeInRange HasMore roster_change_spelling (keyed_of roster_word_of roster_change_with)
     (keyed_exact RosterWord RosterChange roster_word_name roster_word_of roster_word_exact roster_word_words HasMore roster_change_spelling roster_change_with roster_change_sound roster_change_begins)
-    tt refl in_range upgrade_or_more
+    tt refl (λ c more. more.0) upgrade_or_more
 
 pub roster_edit_exact : IsExact RosterEdit RosterEditInRange roster_edit_spelling roster_edit_of
 unfolding roster_edit_of

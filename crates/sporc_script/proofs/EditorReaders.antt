@@ -1,42 +1,24 @@
 -- A line of an editor script is read as the one command that it spells.
 use Rattle.std.proofs.Common.{◌≡◌, ◌⊎◌, inl, inr, ℕ, true, false, List, [], ◌∷◌, ◌++◌, length, Option, Some, None, option_map, refl, sym, ap, ◌∙◌, arith}
-use Rattle.std.specs.Prelude.{codes}
-use Rattle.std.specs.Fmt.{decimal}
-use Rattle.std.specs.Str.{bytes_eq}
-use Rattle.std.proofs.lemmas.Bool.{eqb-true}
-use Rattle.std.proofs.lemmas.Bool.Decides.{Decides-eqb}
-use Rattle.hex.specs.Hex.{encode_lower}
-use Rattle.sporc_member.specs.declared.device.Device.{Device}
+use Rattle.sporc_script.proofs.Common.{codes, decimal, bytes_eq, eqb-true, Decides-eqb, encode_lower, Device, Role, EditorCommand, EditorLine, MemberRole, insertion_of, removal_of, editor_line, hex_of}
+use Rattle.sporc_script.proofs.Common.{IsSkipped, member_device_of, member_role_of, role_of, quoted, device_number_of, keyed_of, member_of, pair_of, IsPayload, IsMember, DeviceInRange}
+use Rattle.sporc_script.proofs.Common.{member_device_spelling, member_role_spelling, role_name}
 use Rattle.sporc_member.specs.declared.device.LiveDevice.{LiveDevice}
 use Rattle.sporc_member.specs.declared.founder.Founder.{Founder}
-use Rattle.sporc_member.specs.declared.role.Role.{Role}
-use Rattle.sporc_script.specs.declared.editor_line.EditorCommand.{EditorCommand}
 use Rattle.sporc_script.specs.declared.editor_line.EditorCommand.TheVariants as commands
-use Rattle.sporc_script.specs.declared.editor_line.EditorLine.{EditorLine}
 use Rattle.sporc_script.specs.declared.editor_line.EditorWord.{EditorWord}
 use Rattle.sporc_script.specs.declared.editor_line.EditorWord.TheVariants as editor_words
 use Rattle.sporc_script.specs.declared.editor_line.TheConstants.{KEY_BYTES}
-use Rattle.sporc_script.specs.declared.member_role.MemberRole.{MemberRole}
 use Rattle.sporc_script.specs.declared.text_edit.Insertion.{Insertion}
 use Rattle.sporc_script.specs.declared.text_edit.Removal.{Removal}
 use Rattle.sporc_script.specs.EditorLines.{EditorInRange, IsKey, SpellsEditor, editor_of, editor_spelling, editor_with, editor_word_name, editor_word_of, is_key, key_of_word, new_device_of, new_device_spelling, newcomer_of, newcomer_spelling}
-use Rattle.sporc_script.specs.Edits.{insertion_of, removal_of}
-use Rattle.sporc_script.specs.Grammar.{editor_line}
-use Rattle.sporc_script.specs.Hex.{hex_of}
-use Rattle.sporc_script.specs.Lines.{IsSkipped}
-use Rattle.sporc_script.specs.Plain.{member_device_of, member_role_of, role_of}
-use Rattle.sporc_script.specs.Quoted.{quoted}
-use Rattle.sporc_script.specs.Readers.{device_number_of, keyed_of, member_of, pair_of}
 use Rattle.sporc_script.specs.Reading.{ReadsEditorLine}
-use Rattle.sporc_script.specs.Signs.{IsPayload}
-use Rattle.sporc_member.specs.Device.{IsMember}
-use Rattle.sporc_script.specs.Spelling.{DeviceInRange, member_device_spelling, member_role_spelling, role_name}
 use Rattle.sporc_script.proofs.Cuts.{IsWord, is_bare, word_from_test}
 use Rattle.sporc_script.proofs.DeviceWords.{device_number_exact}
 use Rattle.sporc_script.proofs.EditReaders.{insertion_exact, removal_exact}
 use Rattle.sporc_script.proofs.Exact.{IsExact, map_exact, named_exact, pair_exact, passing_exact, range_exact, read_is}
 use Rattle.sporc_script.proofs.HexWords.{hex_exact}
-use Rattle.sporc_script.proofs.Keyed.{Begins, keyed_exact, lone_exact, variant_sound}
+use Rattle.sporc_script.proofs.Keyed.{Begins, IsMoreThan, keyed_exact, lone_exact, variant_sound}
 use Rattle.sporc_script.proofs.PlainReaders.{device_number_words, member_device_exact, member_role_exact, member_words, role_exact, role_words}
 use Rattle.sporc_script.proofs.ScriptLines.{Found, ReadsPart, is_named, not_skipped, one_spelled, spelled_or_not}
 use Rattle.sporc_script.proofs.TextWords.{member_exact}
@@ -75,59 +57,42 @@ new_device_exact = range_exact LiveDevice _ _ new_device_spelling _
 
 -- each but the one that is a word alone
 abbrev HasMore : EditorCommand → Type 0
-HasMore (commands.Insert x) = EditorInRange (commands.Insert x)
-HasMore (commands.Remove x) = EditorInRange (commands.Remove x)
-HasMore (commands.Add x) = EditorInRange (commands.Add x)
-HasMore (commands.Drop x) = EditorInRange (commands.Drop x)
-HasMore (commands.SetRole x) = EditorInRange (commands.SetRole x)
-HasMore (commands.AddDevice x) = EditorInRange (commands.AddDevice x)
-HasMore (commands.DropDevice x) = EditorInRange (commands.DropDevice x)
-HasMore commands.Upgrade = ⊥
+HasMore = IsMoreThan (codes "upgrade") EditorInRange editor_spelling
 
 editor_sound : (w : EditorWord) (bytes : List ℕ) (c : EditorCommand) → editor_with w bytes ≡ Some c → HasMore c × (editor_word_name w ++ 32 ∷ bytes ≡ editor_spelling c)
-editor_sound editor_words.Insert bytes c is = variant_sound Insertion EditorCommand _ _ insertion_of insertion_exact HasMore editor_spelling (codes "insert") commands.Insert (λ a h. h) (λ a. refl) bytes c is
-editor_sound editor_words.Remove bytes c is = variant_sound Removal EditorCommand _ _ removal_of removal_exact HasMore editor_spelling (codes "remove") commands.Remove (λ a h. h) (λ a. refl) bytes c is
-editor_sound editor_words.Add bytes c is = variant_sound Founder EditorCommand _ _ newcomer_of newcomer_exact HasMore editor_spelling (codes "add") commands.Add (λ a h. h) (λ a. refl) bytes c is
-editor_sound editor_words.Drop bytes c is = variant_sound ℕ EditorCommand _ _ member_of member_exact HasMore editor_spelling (codes "drop") commands.Drop (λ a h. h) (λ a. refl) bytes c is
-editor_sound editor_words.Role bytes c is = variant_sound MemberRole EditorCommand _ _ member_role_of member_role_exact HasMore editor_spelling (codes "role") commands.SetRole (λ a h. h) (λ a. refl) bytes c is
-editor_sound editor_words.Device bytes c is = variant_sound LiveDevice EditorCommand _ _ new_device_of new_device_exact HasMore editor_spelling (codes "device") commands.AddDevice (λ a h. h) (λ a. refl) bytes c is
-editor_sound editor_words.DropDevice bytes c is = variant_sound Device EditorCommand _ _ member_device_of member_device_exact HasMore editor_spelling (codes "drop-device") commands.DropDevice (λ a h. h) (λ a. refl) bytes c is
+editor_sound editor_words.Insert bytes c is = variant_sound Insertion EditorCommand _ _ insertion_of insertion_exact HasMore editor_spelling (codes "insert") commands.Insert (λ a h. (h, refl)) (λ a. refl) bytes c is
+editor_sound editor_words.Remove bytes c is = variant_sound Removal EditorCommand _ _ removal_of removal_exact HasMore editor_spelling (codes "remove") commands.Remove (λ a h. (h, refl)) (λ a. refl) bytes c is
+editor_sound editor_words.Add bytes c is = variant_sound Founder EditorCommand _ _ newcomer_of newcomer_exact HasMore editor_spelling (codes "add") commands.Add (λ a h. (h, refl)) (λ a. refl) bytes c is
+editor_sound editor_words.Drop bytes c is = variant_sound ℕ EditorCommand _ _ member_of member_exact HasMore editor_spelling (codes "drop") commands.Drop (λ a h. (h, refl)) (λ a. refl) bytes c is
+editor_sound editor_words.Role bytes c is = variant_sound MemberRole EditorCommand _ _ member_role_of member_role_exact HasMore editor_spelling (codes "role") commands.SetRole (λ a h. (h, refl)) (λ a. refl) bytes c is
+editor_sound editor_words.Device bytes c is = variant_sound LiveDevice EditorCommand _ _ new_device_of new_device_exact HasMore editor_spelling (codes "device") commands.AddDevice (λ a h. (h, refl)) (λ a. refl) bytes c is
+editor_sound editor_words.DropDevice bytes c is = variant_sound Device EditorCommand _ _ member_device_of member_device_exact HasMore editor_spelling (codes "drop-device") commands.DropDevice (λ a h. (h, refl)) (λ a. refl) bytes c is
 
 editor_begins : (c : EditorCommand) → HasMore c → Begins EditorWord EditorCommand editor_word_name editor_spelling editor_with c
-editor_begins (commands.Insert x) range = record { word = editor_words.Insert; rest = decimal x.at ++ 32 ∷ quoted x.text; spelled = refl; reads = ap (option_map commands.Insert) (insertion_exact.complete x range) }
-editor_begins (commands.Remove x) range = record { word = editor_words.Remove; rest = decimal x.at ++ 32 ∷ decimal x.count; spelled = refl; reads = ap (option_map commands.Remove) (removal_exact.complete x range) }
-editor_begins (commands.Add x) range = record { word = editor_words.Add; rest = newcomer_spelling x; spelled = refl; reads = ap (option_map commands.Add) (newcomer_exact.complete x range) }
-editor_begins (commands.Drop x) range = record { word = editor_words.Drop; rest = decimal x; spelled = refl; reads = ap (option_map commands.Drop) (member_exact.complete x range) }
-editor_begins (commands.SetRole x) range = record { word = editor_words.Role; rest = member_role_spelling x; spelled = refl; reads = ap (option_map commands.SetRole) (member_role_exact.complete x range) }
-editor_begins (commands.AddDevice x) range = record { word = editor_words.Device; rest = new_device_spelling x; spelled = refl; reads = ap (option_map commands.AddDevice) (new_device_exact.complete x range) }
-editor_begins (commands.DropDevice x) range = record { word = editor_words.DropDevice; rest = member_device_spelling x; spelled = refl; reads = ap (option_map commands.DropDevice) (member_device_exact.complete x range) }
-editor_begins commands.Upgrade range = absurd range
-
-in_range : (c : EditorCommand) → HasMore c → EditorInRange c
-in_range (commands.Insert x) range = range
-in_range (commands.Remove x) range = range
-in_range (commands.Add x) range = range
-in_range (commands.Drop x) range = range
-in_range (commands.SetRole x) range = range
-in_range (commands.AddDevice x) range = range
-in_range (commands.DropDevice x) range = range
-in_range commands.Upgrade range = absurd range
+editor_begins (commands.Insert x) range = record { word = editor_words.Insert; rest = decimal x.at ++ 32 ∷ quoted x.text; spelled = refl; reads = ap (option_map commands.Insert) (insertion_exact.complete x range.0) }
+editor_begins (commands.Remove x) range = record { word = editor_words.Remove; rest = decimal x.at ++ 32 ∷ decimal x.count; spelled = refl; reads = ap (option_map commands.Remove) (removal_exact.complete x range.0) }
+editor_begins (commands.Add x) range = record { word = editor_words.Add; rest = newcomer_spelling x; spelled = refl; reads = ap (option_map commands.Add) (newcomer_exact.complete x range.0) }
+editor_begins (commands.Drop x) range = record { word = editor_words.Drop; rest = decimal x; spelled = refl; reads = ap (option_map commands.Drop) (member_exact.complete x range.0) }
+editor_begins (commands.SetRole x) range = record { word = editor_words.Role; rest = member_role_spelling x; spelled = refl; reads = ap (option_map commands.SetRole) (member_role_exact.complete x range.0) }
+editor_begins (commands.AddDevice x) range = record { word = editor_words.Device; rest = new_device_spelling x; spelled = refl; reads = ap (option_map commands.AddDevice) (new_device_exact.complete x range.0) }
+editor_begins (commands.DropDevice x) range = record { word = editor_words.DropDevice; rest = member_device_spelling x; spelled = refl; reads = ap (option_map commands.DropDevice) (member_device_exact.complete x range.0) }
+editor_begins commands.Upgrade range = let no : true ≡ false = range.1 in absurd cc
 
 upgrade_or_more : (c : EditorCommand) → EditorInRange c → (c ≡ commands.Upgrade) ⊎ (HasMore c × (bytes_eq (editor_spelling c) (codes "upgrade") ≡ false))
-upgrade_or_more (commands.Insert x) range = inr (range, refl)
-upgrade_or_more (commands.Remove x) range = inr (range, refl)
-upgrade_or_more (commands.Add x) range = inr (range, refl)
-upgrade_or_more (commands.Drop x) range = inr (range, refl)
-upgrade_or_more (commands.SetRole x) range = inr (range, refl)
-upgrade_or_more (commands.AddDevice x) range = inr (range, refl)
-upgrade_or_more (commands.DropDevice x) range = inr (range, refl)
+upgrade_or_more (commands.Insert x) range = inr ((range, refl), refl)
+upgrade_or_more (commands.Remove x) range = inr ((range, refl), refl)
+upgrade_or_more (commands.Add x) range = inr ((range, refl), refl)
+upgrade_or_more (commands.Drop x) range = inr ((range, refl), refl)
+upgrade_or_more (commands.SetRole x) range = inr ((range, refl), refl)
+upgrade_or_more (commands.AddDevice x) range = inr ((range, refl), refl)
+upgrade_or_more (commands.DropDevice x) range = inr ((range, refl), refl)
 upgrade_or_more commands.Upgrade range = inl refl
 
 pub editor_exact : IsExact EditorCommand EditorInRange editor_spelling editor_of
 unfolding editor_of
 editor_exact = lone_exact EditorCommand (codes "upgrade") commands.Upgrade EditorInRange HasMore editor_spelling (keyed_of editor_word_of editor_with)
     (keyed_exact EditorWord EditorCommand editor_word_name editor_word_of editor_word_exact editor_word_words HasMore editor_spelling editor_with editor_sound editor_begins)
-    tt refl in_range upgrade_or_more
+    tt refl (λ c more. more.0) upgrade_or_more
 
 -- ---- one line
 

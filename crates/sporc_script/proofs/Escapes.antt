@@ -1,14 +1,9 @@
 -- Escapes, read byte by byte, and the two laws of reading and writing them.
 use Rattle.std.proofs.Common.{◌≡◌, ℕ, ◌+◌, ◌<◌, ◌≤◌, Bool, true, false, List, [], ◌∷◌, ◌++◌, length, drop, get_or, flat_map, Option, Some, None, option_map, refl, sym, ap, ◌∙◌, subst, inl, inr, add-one, drop-cons, append_assoc}
-use Rattle.std.proofs.lemmas.Bool.Decides.{eqb_tells}
-use Rattle.std.proofs.lemmas.List.{append-nil, append_cancel_right, drop_all}
+use Rattle.sporc_script.proofs.Common.{eqb_tells, append-nil, append_cancel_right, drop_all, step_of, resume, unescape, escape, quoted, IsUtf8, chars, encode_utf8_all, encodes-chars}
 use Rattle.sporc_script.specs.declared.quoted.Step.{Step}
 use Rattle.sporc_script.specs.declared.quoted.Step.TheVariants.{Refused, Backslash, Byte}
-use Rattle.sporc_script.specs.Unescape.{step_of, resume, unescape}
-use Rattle.sporc_script.specs.Quoted.{escape, quoted}
 use Rattle.sporc_script.proofs.CharEscapes.{escape_byte, flat_map-encode_all}
-use Rattle.std.specs.Str.{IsUtf8, chars, encode_utf8_all}
-use Rattle.std.proofs.lemmas.Str.{encodes-chars}
 
 unescape_cons : (e : Bool) (b : ℕ) (bs : List ℕ) → unescape e (b ∷ bs) ≡ resume (step_of e b) (unescape true bs) (unescape false bs)
 unescape_cons true b bs = refl

@@ -1,11 +1,6 @@
 -- Readers that are exact: they give a value where its spelling is what is read, and nothing elsewhere.
 use Rattle.std.proofs.Common.{◌≡◌, ℕ, Bool, true, false, List, [], ◌∷◌, ◌++◌, Option, Some, None, option_map, refl, sym, ap, ◌∙◌, subst}
-use Rattle.std.specs.Prelude.{find, if◌then◌else◌}
-use Rattle.std.specs.Str.{bytes_eq}
-use Rattle.std.proofs.lemmas.Slice.Eq.{bytes_eq-Decides}
-use Rattle.std.proofs.lemmas.Option.{cond_some, same_Some}
-use Rattle.sporc_script.specs.Words.{cut}
-use Rattle.sporc_script.specs.Readers.{pair_of, passing, then_read, with_more, named_of}
+use Rattle.sporc_script.proofs.Common.{find, if◌then◌else◌, bytes_eq, bytes_eq-Decides, cond_some, same_Some, cut, pair_of, passing, then_read, with_more, named_of}
 use Rattle.sporc_script.proofs.Cuts.{IsWord, cut_word, cut_end, cut_sound}
 
 pub none_unless : {A : Type 0} (o : Option A) → ((a : A) → o ≡ Some a → ⊥) → o ≡ None

@@ -1,16 +1,10 @@
 -- Words that are hexadecimal digits, read exactly.
 use Rattle.std.proofs.Common.{◌≡◌, ◌≢◌, ℕ, zero, suc, Bool, true, List, [], ◌∷◌, length, Some, None, Result, Ok, Err, refl, sym, ap, ◌∙◌, subst, arith}
-use Rattle.std.specs.Prelude.{◌/◌, ◌%◌, nat_lt, slice_index, if◌then◌else◌}
-use Rattle.std.specs.Str.{bytes_eq}
-use Rattle.std.proofs.lemmas.Bool.{and_from, and_parts}
-use Rattle.std.proofs.lemmas.Bool.Decides.{Decides-ltb}
-use Rattle.std.proofs.lemmas.Slice.Eq.{bytes_eq-Decides}
-use Rattle.std.proofs.lemmas.Option.{cond_some}
-use Rattle.hex.specs.Hex.{decode_of, encode_lower, encode_with, lower_digits}
+use Rattle.sporc_script.proofs.Common.{◌/◌, ◌%◌, nat_lt, slice_index, if◌then◌else◌, bytes_eq, and_from, and_parts, Decides-ltb, bytes_eq-Decides, cond_some, encode_lower, hex_kept, is_hex, IsPayload}
+use Rattle.hex.specs.Hex.{decode_of, encode_with, lower_digits}
 use Rattle.hex.specs.declared.error.FromHexError.{FromHexError}
 use Rattle.hex.proofs.HexLemmas.{decode_of-encode_lower, decode_of-ok}
-use Rattle.sporc_script.specs.Hex.{hex_kept, hex_of, is_hex}
-use Rattle.sporc_script.specs.Signs.{IsPayload}
+use Rattle.sporc_script.specs.Hex.{hex_of}
 use Rattle.sporc_script.proofs.Cuts.{IsBare, bare_from_test, bare_word}
 use Rattle.sporc_script.proofs.Exact.{AreWords, IsExact}
 

@@ -1,11 +1,6 @@
 -- Readers of what a first word begins.
 use Rattle.std.proofs.Common.{◌≡◌, ◌⊎◌, inl, inr, ℕ, Bool, true, false, List, ◌∷◌, ◌++◌, Option, Some, None, option_map, refl, sym, ap, ◌∙◌, subst}
-use Rattle.std.specs.Prelude.{IsSomeAnd, MatchOption, ◌≢◌, if◌then◌else◌}
-use Rattle.std.specs.Str.{bytes_eq}
-use Rattle.std.proofs.lemmas.Option.{same_Some}
-use Rattle.std.proofs.lemmas.Slice.Eq.{bytes_eq-Decides}
-use Rattle.sporc_script.specs.Words.{cut}
-use Rattle.sporc_script.specs.Readers.{behind_of, keyed_of, lone_or, then_read}
+use Rattle.sporc_script.proofs.Common.{IsSomeAnd, MatchOption, ◌≢◌, if◌then◌else◌, bytes_eq, same_Some, bytes_eq-Decides, cut, behind_of, keyed_of, lone_or, then_read}
 use Rattle.sporc_script.proofs.Cuts.{IsWord, cut_sound, cut_word}
 use Rattle.sporc_script.proofs.Exact.{IsExact, map_some, read_is, read_none, then_some}
 
@@ -50,6 +45,10 @@ keyed_exact K A name word_of exact words In spell read sound complete = record {
       ∙ ap (λ (o : Option K). then_read o (λ k. read k b.rest)) (exact.complete b.word tt)
       ∙ b.reads;
 }
+
+-- those in range whose spelling is not this word alone
+abbrev pub IsMoreThan : {A : Type 0} → List ℕ → (A → Type 0) → (A → List ℕ) → A → Type 0
+IsMoreThan name In spell a = In a × (bytes_eq (spell a) name ≡ false)
 
 -- a word that stands alone for a value, or what others are
 lone_sound : (A : Type 0) (name : List ℕ) (value : A) (In In' : A → Type 0) (spell : A → List ℕ) (read : List ℕ → Option A) → IsExact A In' spell read

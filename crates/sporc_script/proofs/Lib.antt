@@ -17,3 +17,4 @@ pub mod ScriptLines
 pub mod SignReaders
 pub mod TextLines
 pub mod TextWords
+pub mod Common

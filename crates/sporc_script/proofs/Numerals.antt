@@ -1,12 +1,8 @@
 -- Words that are numbers.
 use Rattle.std.proofs.Common.{◌≡◌, ℕ, zero, suc, ◌^◌, ◌<◌, List, [], ◌∷◌, length, Result, Ok, Err, refl, sym, ap, ◌∙◌, subst, arith}
-use Rattle.std.specs.Fmt.{decimal}
-use Rattle.std.specs.Str.Parse.{AllDigits, digits_value, ParsesUnsigned}
+use Rattle.sporc_script.proofs.Common.{decimal, AllDigits, digits_value, ParsesUnsigned, decimal-digits_value, first_decimal, decimal_nonempty, decimal_digit, parse-decimal, IsAscii-decimal, IsUtf8}
+use Rattle.sporc_script.proofs.Common.{IsUtf8-from_ascii, IsPlain}
 use Rattle.std.proofs.lemmas.Str.Parse.{IsNumeralModel, numerals_by_value, tells_digits, parse_plain}
-use Rattle.std.proofs.lemmas.Fmt.{decimal-digits_value, first_decimal, decimal_nonempty, decimal_digit, parse-decimal, IsAscii-decimal}
-use Rattle.std.specs.Str.{IsUtf8}
-use Rattle.std.proofs.lemmas.Str.{IsUtf8-from_ascii}
-use Rattle.sporc_script.specs.Words.{IsPlain}
 
 pub own : IsNumeralModel (AllDigits 10) (digits_value 10)
 own = numerals_by_value (AllDigits 10) tells_digits

@@ -1,14 +1,8 @@
 -- Lines that read as a script: there is one such script, or one first line outside the grammar.
-use Rattle.std.proofs.Common.{◌≡◌, ◌⊎◌, ℕ, ◌+◌, ◌<◌, ◌≤◌, Bool, true, false, List, [], ◌∷◌, ◌++◌, length, Option, Some, None, refl, sym, ap, ◌∙◌, subst, inl, inr, arith, append-nil, length-append}
-use Rattle.std.specs.Prelude.{nat_lt}
+use Rattle.std.proofs.Common.{◌≡◌, ◌⊎◌, ℕ, ◌+◌, ◌<◌, ◌≤◌, Bool, true, false, List, [], ◌∷◌, ◌++◌, length, Option, Some, None, refl, sym, ap, ◌∙◌, subst, inl, inr, arith, append-nil, append_assoc, length-append}
+use Rattle.sporc_script.proofs.Common.{◌==◌, nat_lt, IsUtf8, all_scalars, chars, encode_utf8_all, eqb-true, Decides-ltb, eqb_tells, nil_from_length, bytes_eq-Decides, encodes-chars, scalars-chars}
+use Rattle.sporc_script.proofs.Common.{bytes_eq, same_Some, IsFirstBad, IsSkipped, ReadsAs, lines_of}
 use Rattle.std.specs.Option.{option_to_list}
-use Rattle.std.specs.Str.{IsUtf8, all_scalars, chars, encode_utf8_all}
-use Rattle.std.proofs.lemmas.Bool.Decides.{Decides-ltb, eqb_tells}
-use Rattle.std.proofs.lemmas.Slice.Eq.{bytes_eq-Decides}
-use Rattle.std.proofs.lemmas.Str.{encodes-chars, scalars-chars}
-use Rattle.std.specs.Str.{bytes_eq}
-use Rattle.std.proofs.lemmas.Option.{same_Some}
-use Rattle.sporc_script.specs.Lines.{IsFirstBad, IsSkipped, ReadsAs}
 use Rattle.sporc_script.proofs.Exact.{IsExact, read_is}
 
 -- one of which this holds, or none
@@ -160,3 +154,38 @@ module _ (A L : Type 0) (numbered : ℕ → A → L) (IsNext : List L → List �
             | inr none ↦ inr (n, inl (refl, other, none))
           ]
         ]
+
+-- ---- a text, read line by line
+
+-- a text is read up to here: what the rest reads as follows what was read, and the first line outside
+-- in the rest is the first of all
+pub record IsReadTo {A L : Type 0} (numbered : ℕ → A → L) (IsNext : List L → List ℕ → A → Type 0) (text : List ℕ) (before : List L) (n : ℕ) (rest : List ℕ) : Type 0 where
+  pub reads : (more : List L) → ReadsAs numbered IsNext before n (lines_of rest) more → ReadsAs numbered IsNext [] 1 (lines_of text) (before ++ more)
+  pub outside : (k : ℕ) → IsFirstBad numbered IsNext before n (lines_of rest) k → IsFirstBad numbered IsNext [] 1 (lines_of text) k
+  pub number : n + length rest ≤ length text + 1
+  pub count : length before + length rest ≤ length text
+
+pub none_read : {A L : Type 0} (numbered : ℕ → A → L) (IsNext : List L → List ℕ → A → Type 0) (text : List ℕ) → IsReadTo numbered IsNext text [] 1 text
+none_read numbered IsNext text = record { reads = λ more h. h; outside = λ k h. h; number = omega arith; count = omega arith }
+
+pub line_read : {A L : Type 0} {numbered : ℕ → A → L} {IsNext : List L → List ℕ → A → Type 0} {text : List ℕ} {before : List L} {n : ℕ} {rest : List ℕ} (line after : List ℕ) (read : Option L) (now : List L)
+    → lines_of rest ≡ line ∷ lines_of after → length after < length rest → now ≡ before ++ option_to_list read → ReadsPart A L numbered IsNext before n line read
+    → IsReadTo numbered IsNext text before n rest → IsReadTo numbered IsNext text now (n + 1) after
+line_read {A} {L} {numbered} {IsNext} {text} {before} {n} {rest} line after read now lines shorter kept part so_far = record {
+  reads = λ more later.
+      let next : ReadsAs numbered IsNext before n (line ∷ lines_of after) (option_to_list read ++ more) =
+      reads_more A L numbered IsNext before n line (lines_of after) read more part (subst (λ (b : List L). ReadsAs numbered IsNext b (n + 1) (lines_of after) more) kept later) in
+      rw (kept, append_assoc) (so_far.reads (option_to_list read ++ more) (rw lines next));
+  outside = λ k later.
+      let next : IsFirstBad numbered IsNext before n (line ∷ lines_of after) k =
+      bad_later A L numbered IsNext before n line (lines_of after) read k part (subst (λ (b : List L). IsFirstBad numbered IsNext b (n + 1) (lines_of after) k) kept later) in
+      so_far.outside k (rw lines next);
+  number = omega (arith, shorter, so_far.number);
+  count = omega (arith, ap length kept, counted before read, shorter, so_far.count);
+}
+
+pub all_read : {A L : Type 0} {numbered : ℕ → A → L} {IsNext : List L → List ℕ → A → Type 0} {text : List ℕ} {before : List L} {n : ℕ} {rest : List ℕ}
+    → (length rest == 0) ≡ true → IsReadTo numbered IsNext text before n rest → ReadsAs numbered IsNext [] 1 (lines_of text) before
+all_read {A} {L} {numbered} {IsNext} {text} {before} {n} {rest} empty so_far =
+    let none : rest ≡ [] = nil_from_length rest (eqb-true (length rest) 0 empty) in
+    subst (λ (zs : List L). ReadsAs numbered IsNext [] 1 (lines_of text) zs) (append-nil before) (so_far.reads [] (rw none refl))

@@ -1,13 +1,8 @@
 -- The reader of what a script signs is exact.
 use Rattle.std.proofs.Common.{◌≡◌, ◌⊎◌, inl, inr, ℕ, true, false, List, [], ◌∷◌, ◌++◌, Option, Some, None, option_map, refl, sym, ap, ◌∙◌, subst, arith}
-use Rattle.std.specs.Prelude.{codes, nat_lt}
-use Rattle.std.specs.Fmt.{decimal}
-use Rattle.std.specs.Str.{all_scalars, bytes_eq}
-use Rattle.std.proofs.lemmas.Bool.{and_from, and_parts}
-use Rattle.std.proofs.lemmas.Bool.Decides.{Decides-ltb}
-use Rattle.hex.specs.Hex.{encode_lower}
-use Rattle.sporc_member.specs.declared.device.Device.{Device}
-use Rattle.sporc_member.specs.declared.role.Role.{Role}
+use Rattle.sporc_script.proofs.Common.{codes, nat_lt, decimal, all_scalars, bytes_eq, and_from, and_parts, Decides-ltb, encode_lower, Device, Role, hex_of, role_of, quoted, behind_of, device_number_of}
+use Rattle.sporc_script.proofs.Common.{device_of, keyed_of, member_of, pair_of, then_read, u32_of, IsPayload, forgery_spelling, IsMember, DeviceInRange, IsDeviceNumber, IsU64, device_text, role_name}
+use Rattle.sporc_script.proofs.Common.{text_of, cut, number_of}
 use Rattle.sporc_script.specs.declared.roster_change.RosterChange.TheVariants as changes
 use Rattle.sporc_script.specs.declared.sign.Forgery.{Forgery}
 use Rattle.sporc_script.specs.declared.sign.LoneWord.{LoneWord}
@@ -21,15 +16,7 @@ use Rattle.sporc_script.specs.declared.sign.What.{What}
 use Rattle.sporc_script.specs.declared.sign.What.TheVariants as whats
 use Rattle.sporc_script.specs.declared.sign.WhatWord.{WhatWord}
 use Rattle.sporc_script.specs.declared.sign.WhatWord.TheVariants as what_words
-use Rattle.sporc_script.specs.Hex.{hex_of}
-use Rattle.sporc_script.specs.Plain.{role_of}
-use Rattle.sporc_script.specs.Quoted.{quoted}
-use Rattle.sporc_script.specs.Readers.{behind_of, device_number_of, device_of, keyed_of, member_of, pair_of, then_read, u32_of}
-use Rattle.sporc_script.specs.Signs.{ForgeryInRange, IsPayload, IsVersion, MaySuffixInRange, SignedInRange, SuffixInRange, WhatInRange, forgery_of, forgery_spelling, is_version, last_of, lone_suffix, lone_word_name, lone_word_of, signed_of, signed_spelling, signed_upgrade, signed_with, stated_of, suffix_cut, suffix_fits, suffix_of, suffix_spelling, suffix_with, suffix_word_name, suffix_word_of, version_of, what_word_name, what_word_of, with_suffix}
-use Rattle.sporc_member.specs.Device.{IsMember}
-use Rattle.sporc_script.specs.Spelling.{DeviceInRange, IsDeviceNumber, IsU64, device_text, role_name}
-use Rattle.sporc_script.specs.Texts.{text_of}
-use Rattle.sporc_script.specs.Words.{cut, number_of}
+use Rattle.sporc_script.specs.Signs.{ForgeryInRange, IsVersion, MaySuffixInRange, SignedInRange, SuffixInRange, WhatInRange, forgery_of, is_version, last_of, lone_suffix, lone_word_name, lone_word_of, signed_of, signed_spelling, signed_upgrade, signed_with, stated_of, suffix_cut, suffix_fits, suffix_of, suffix_spelling, suffix_with, suffix_word_name, suffix_word_of, version_of, what_word_name, what_word_of, with_suffix}
 use Rattle.sporc_script.proofs.Cuts.{IsWord, cut_end, cut_sound, cut_word, quoted_word, is_bare, word_from_test}
 use Rattle.sporc_script.proofs.DeviceWords.{device_exact, device_number_exact, device_words}
 use Rattle.sporc_script.proofs.Exact.{AreWords, IfIn, IsExact, map_exact, map_some, named_exact, pair_exact, passing_exact, range_exact, then_some, with_exact, with_spelling}

@@ -1,8 +1,6 @@
 -- The lines of a text.
 use Rattle.std.proofs.Common.{◌≡◌, ℕ, ◌<◌, List, [], ◌∷◌, ◌++◌, length, refl, inl, inr, arith}
-use Rattle.std.proofs.lemmas.Bool.Decides.{eqb_tells}
-use Rattle.sporc_script.specs.Words.{Lacks}
-use Rattle.sporc_script.specs.Lines.{lines_of}
+use Rattle.sporc_script.proofs.Common.{eqb_tells, Lacks, lines_of}
 
 lines_of-more : (b : ℕ) (bs line : List ℕ) (rest : List (List ℕ)) → ¬ (b ≡ 10) → lines_of bs ≡ line ∷ rest → lines_of (b ∷ bs) ≡ (b ∷ line) ∷ rest
 lines_of-more b bs line rest other e =

@@ -1,21 +1,11 @@
 -- Words that are numbers, members and texts, read exactly.
 use Rattle.std.proofs.Common.{◌≡◌, ℕ, ◌+◌, ◌-◌, ◌<◌, ◌^◌, Bool, true, false, List, [], ◌∷◌, ◌++◌, length, take, flat_map, Option, Some, None, refl, sym, ap, ◌∙◌, subst, arith, length-append}
-use Rattle.std.specs.Prelude.{nat_lt, if◌then◌else◌}
-use Rattle.std.specs.Fmt.{decimal}
-use Rattle.std.specs.Str.{all_scalars, bytes_eq, chars, encode_utf8_all}
-use Rattle.std.specs.Str.Parse.{digits_value}
-use Rattle.std.proofs.lemmas.Fmt.{decimal_is_IsNumeral}
-use Rattle.std.proofs.lemmas.Slice.Eq.{bytes_eq-Decides}
-use Rattle.std.proofs.lemmas.Bool.Decides.{Decides-ltb}
-use Rattle.std.proofs.lemmas.Str.{chars-encodes}
+use Rattle.sporc_script.proofs.Common.{nat_lt, if◌then◌else◌, decimal, all_scalars, bytes_eq, chars, encode_utf8_all, digits_value, decimal_is_IsNumeral, bytes_eq-Decides, Decides-ltb, chars-encodes}
+use Rattle.sporc_script.proofs.Common.{and_from, and_parts, cond_some, escape, quoted, fits_u32, is_member, then_read, inner, is_text, unescape, is_number}
 use Rattle.std.proofs.Math.Seq.{take-append_seam}
-use Rattle.std.proofs.lemmas.Bool.{and_from, and_parts}
-use Rattle.std.proofs.lemmas.Option.{cond_some}
-use Rattle.sporc_script.specs.Quoted.{escape, quoted}
-use Rattle.sporc_script.specs.Readers.{fits_u32, is_member, member_of, then_read, u32_of}
-use Rattle.sporc_script.specs.Texts.{inner, is_text, text_of}
-use Rattle.sporc_script.specs.Unescape.{unescape}
-use Rattle.sporc_script.specs.Words.{is_number, number_of}
+use Rattle.sporc_script.specs.Readers.{member_of, u32_of}
+use Rattle.sporc_script.specs.Texts.{text_of}
+use Rattle.sporc_script.specs.Words.{number_of}
 use Rattle.sporc_script.proofs.CharEscapes.{flat_map-encode_all}
 use Rattle.sporc_script.proofs.Escapes.{complete}
 use Rattle.sporc_script.proofs.Exact.{IsExact, passing_exact, range_exact, then_some}

@@ -1,7 +1,6 @@
 //! Editor scripts.
 
-ghost use Rattle.std.specs.Prelude.{◌≡◌, ◌≤◌, ◌++◌, ℕ, IfOk, OnOk, length};
-ghost use Rattle.std.specs.Option.{option_to_list};
+ghost use Rattle.std.specs.Prelude.{◌≡◌, ◌≤◌, ℕ, IfOk, length};
 ghost use Rattle.sporc_script.specs.declared.limits.TheConstants.{MAX_SCRIPT_BYTES};
 ghost use Rattle.sporc_script.specs.declared.lines.LineFault.TheVariants as faults;
 ghost use Rattle.sporc_script.specs.Grammar.{IsEditorFault, IsEditorScript};
@@ -9,8 +8,7 @@ ghost use Rattle.sporc_script.specs.Reading.{IsBadEditorLine, ReadsEditorLine};
 
 use crate::editor_commands::read_editor_command;
 use crate::editor_line::EditorLine;
-use crate::lines::{LineFault, is_skipped, next_line};
-use sporc_base::Memory;
+use crate::lines::{LineFault, is_skipped, keep, next_line};
 use std::alloc::Global;
 use std::marker::Model;
 
@@ -70,13 +68,4 @@ fn read_numbered(alloc: Global, number: u32, line: &[u8]) -> Result<Option<Edito
         Some(command) => Ok(Some(EditorLine { number, command })),
         None => Err(LineFault::Line { line: number }),
     }
-}
-
-fn keep(lines: &mut Vec<EditorLine>, read: Option<EditorLine>) -> Result<(), Memory>
-    ensures { OnOk result (lines.new.items ≡ lines.old.items ++ option_to_list read) }
-{
-    if let Some(line) = read {
-        lines.push(line)?;
-    }
-    Ok(())
 }

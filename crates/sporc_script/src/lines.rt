@@ -1,10 +1,12 @@
 //! The lines of a text.
 
-ghost use Rattle.std.specs.Prelude.{◌≡◌, ◌<◌, ◌≤◌, ◌↔◌, ◌∷◌, IsTrue, length};
+ghost use Rattle.std.specs.Prelude.{◌≡◌, ◌<◌, ◌≤◌, ◌↔◌, ◌∷◌, ◌++◌, IsTrue, OnOk, length};
+ghost use Rattle.std.specs.Option.{option_to_list};
 ghost use Rattle.sporc_script.specs.declared.lines.LineFault.TheVariants as faults;
 ghost use Rattle.sporc_script.specs.Lines.{IsSkipped, lines_of};
 
 use crate::words::split_once;
+use sporc_base::Memory;
 use std::alloc::{AllocError, AllocFailed};
 use thiserror::Error;
 
@@ -56,4 +58,14 @@ pub fn is_skipped(line: &[u8]) -> bool
         [b'#', ..] => str::from_utf8(line).is_ok(),
         _ => false,
     }
+}
+
+// Keeps what was read of a line, if it is not skipped.
+pub fn keep<T: Drop>(lines: &mut Vec<T>, read: Option<T>) -> Result<(), Memory>
+    ensures { OnOk result (lines.new.items ≡ lines.old.items ++ option_to_list read) }
+{
+    if let Some(line) = read {
+        lines.push(line)?;
+    }
+    Ok(())
 }

@@ -1,7 +1,6 @@
 //! Play scripts.
 
-ghost use Rattle.std.specs.Prelude.{◌≡◌, ◌≤◌, ◌++◌, ℕ, IfOk, OnOk, MatchOption, length, true};
-ghost use Rattle.std.specs.Option.{option_to_list};
+ghost use Rattle.std.specs.Prelude.{◌≡◌, ◌≤◌, ℕ, IfOk, OnOk, MatchOption, length, true};
 ghost use Rattle.sporc_script.specs.declared.command.Command.{Command};
 ghost use Rattle.sporc_script.specs.declared.limits.TheConstants.{MAX_SCRIPT_BYTES};
 ghost use Rattle.sporc_script.specs.declared.lines.LineFault.TheVariants as faults;
@@ -13,7 +12,7 @@ ghost use Rattle.sporc_script.specs.Reading.{IsBadLine, ReadsLine, declared_with
 use crate::command::Command;
 use crate::commands::read_command;
 use crate::declared::Declared;
-use crate::lines::{LineFault, is_skipped, next_line};
+use crate::lines::{LineFault, is_skipped, keep, next_line};
 use crate::play_line::PlayLine;
 use sporc_base::Memory;
 use std::alloc::Global;
@@ -108,13 +107,4 @@ fn declare(declared: &mut Declared, read: &Option<PlayLine>) -> Result<(), Memor
         Some(line) => declared.declare(&line.command),
         None => Ok(()),
     }
-}
-
-fn keep(lines: &mut Vec<PlayLine>, read: Option<PlayLine>) -> Result<(), Memory>
-    ensures { OnOk result (lines.new.items ≡ lines.old.items ++ option_to_list read) }
-{
-    if let Some(line) = read {
-        lines.push(line)?;
-    }
-    Ok(())
 }

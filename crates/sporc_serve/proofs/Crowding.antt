@@ -1,25 +1,12 @@
 -- Sessions beside one another.
 use Rattle.std.proofs.Common.{◌≡◌, ◌≢◌, ℕ, max, false, suc, ◌≤◌, List, [], ◌∷◌, ◌++◌, Option, Some, None, Result, Ok, Err, refl, ap, sym, subst, ◌∙◌, append_assoc, append-nil, arith, inl, inr, ⊎_elim}
+use Rattle.sporc_serve.proofs.Common.{NetTold, Shuts, StreamTold, Genesis, Known, MAX_TICKETS, StartsWith, Agrees, splitting, copied, joined_with, stream_of, SessionEnd, Closed, LinkEnded, LinkFault}
+use Rattle.sporc_serve.proofs.Common.{BadFrame, Worn, Memory, Unkept, Item, by_of, IsLogOf, OfDocument, ServerStand, stand_at, IsEnd, HasReadLast, Visit, visit, IsServedSession, came, handed_back}
+use Rattle.sporc_serve.proofs.Common.{AreFrom, AreBehind, NoneUnkept, TellsOf, with_end, IsCrowd}
 use Rattle.sporc_outside.specs.Counts.{Rose}
 use Rattle.sporc_outside.specs.Told.{AppendsItem, TakesItem, IsFalseIfTold}
-use Rattle.sporc_outside.specs.Nets.{NetTold}
-use Rattle.sporc_outside.specs.Streams.{Shuts, StreamTold}
-use Rattle.sporc_entry.specs.declared.genesis.Genesis.{Genesis}
-use Rattle.sporc_turn.specs.declared.known.Known.{Known}
-use Rattle.sporc_turn.specs.declared.limits.TheConstants.{MAX_TICKETS}
-use Rattle.sporc_turn.specs.Log.{StartsWith, Agrees}
-use Rattle.sporc_turn.specs.Knowing.{splitting, copied, joined_with}
-use Rattle.sporc_wire.specs.Messages.{stream_of}
-use Rattle.sporc_serve.specs.declared.end.SessionEnd.{SessionEnd}
-use Rattle.sporc_serve.specs.declared.end.SessionEnd.TheVariants.{Closed, LinkEnded, LinkFault, BadFrame, Worn, Memory, Unkept}
 use Rattle.sporc_serve.specs.declared.fault.ServeFault.{ServeFault}
 use Rattle.sporc_serve.specs.declared.fault.ServeFault.TheVariants as faults
-use Rattle.sporc_serve.specs.declared.item.Item.{Item}
-use Rattle.sporc_serve.specs.Logs.{by_of, IsLogOf, OfDocument}
-use Rattle.sporc_serve.specs.Traces.{ServerStand, stand_at, IsEnd}
-use Rattle.sporc_serve.specs.Turns.{HasReadLast}
-use Rattle.sporc_serve.specs.Visits.{Visit, visit, IsServedSession, came, handed_back, AreFrom, AreBehind, NoneUnkept, TellsOf, with_end}
-use Rattle.sporc_serve.specs.Crowds.{IsCrowd}
 use Rattle.sporc_serve.proofs.Going.{rose_before}
 
 -- a session that ended for want of a ticket did so for want of the last

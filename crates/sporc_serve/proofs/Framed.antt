@@ -1,18 +1,14 @@
 -- A message that a stream gives fits an order's frame.
 use Rattle.std.proofs.Common.{◌≡◌, ℕ, ◌≤◌, Bool, true, false, cond, List, length, take, drop, Option, Some, None, Result, Ok, Err, refl, subst, arith, nat_lt}
+use Rattle.sporc_serve.proofs.Common.{length-take, length-drop, FrameFault, ToServer, Hello, Submit, Pull, Unread, next_unless, next_frame, next_read, IsFramed}
 use Rattle.std.proofs.lemmas.Bool.{ltb-false}
-use Rattle.std.proofs.lemmas.List.{length-take, length-drop}
 use Rattle.std.specs.Int.{Width, w8, w16, w32, byte_len, from_be_bytes}
 use Rattle.sporc_bytes.specs.Fields.{Reading, ◌>>=◌, bytes_at, number_at, end_at, past}
 use Rattle.sporc_bytes.proofs.Fields.{bind_ok, ok_is}
 use Rattle.sporc_wire.specs.declared.cutter.TheConstants.{MAX_BODY}
-use Rattle.sporc_wire.specs.declared.fault.FrameFault.{FrameFault}
-use Rattle.sporc_wire.specs.declared.to_server.ToServer.{ToServer}
-use Rattle.sporc_wire.specs.declared.to_server.ToServer.TheVariants.{Hello, Submit, Pull}
 use Rattle.sporc_wire.specs.Stream.{FirstFrame, partial, too_long, whole, frame_of_len, first_frame}
-use Rattle.sporc_wire.specs.Messages.{Unread, next, next_unless, next_frame, next_read}
+use Rattle.sporc_wire.specs.Messages.{next}
 use Rattle.sporc_wire.specs.ToServer.{hello_at, pull_at, to_server_of_kind, to_server_of}
-use Rattle.sporc_order.specs.Sessions.{IsFramed}
 
 -- ---- the body of a frame
 

@@ -1,24 +1,11 @@
 -- A session goes on, or ends.
 use Rattle.std.proofs.Common.{◌≡◌, ◌≢◌, ℕ, ◌≤◌, Bool, false, List, [], ◌∷◌, ◌++◌, length, take, Option, Some, None, Result, Ok, Err, refl, ap, sym, subst, ◌∙◌, append-nil, arith, IfNone, IfSome, inl, inr}
-use Rattle.std.specs.Io.KnownBytes.{Consumes, Appends}
-use Rattle.std.proofs.KnownBytes.{Consumes-trans, Appends-trans}
+use Rattle.sporc_serve.proofs.Common.{Consumes, Appends, Consumes-trans, Appends-trans, Genesis, Known, FrameFault, ToServer, Unread, fed, next_unless, next_frame, next_read, to_server_of, Answer}
+use Rattle.sporc_serve.proofs.Common.{Close, SessionEnd, Closed, LinkEnded, LinkFault, BadFrame, Worn, Memory, Unkept, Item, bytes_of, sent_of, IsAnswered, TakesTurn, IsSendEnd, Inlet, inlet}
+use Rattle.sporc_serve.proofs.Common.{IsNextEnd, IsNext, Exchange, ServerStand, answers_of, NoneCloses, Did, ServerTrace, Broken, IsEnd, GoesOn}
 use Rattle.sporc_outside.specs.Counts.{Rose}
-use Rattle.sporc_entry.specs.declared.genesis.Genesis.{Genesis}
-use Rattle.sporc_turn.specs.declared.known.Known.{Known}
-use Rattle.sporc_wire.specs.declared.fault.FrameFault.{FrameFault}
-use Rattle.sporc_wire.specs.declared.to_server.ToServer.{ToServer}
 use Rattle.sporc_wire.specs.Stream.{FirstFrame, partial, too_long, whole, first_frame}
-use Rattle.sporc_wire.specs.Messages.{Unread, fed, next, next_unless, next_frame, next_read}
-use Rattle.sporc_wire.specs.ToServer.{to_server_of}
-use Rattle.sporc_order.specs.declared.session.Answer.{Answer}
-use Rattle.sporc_order.specs.declared.session.Answer.TheVariants.{Close}
-use Rattle.sporc_serve.specs.declared.end.SessionEnd.{SessionEnd}
-use Rattle.sporc_serve.specs.declared.end.SessionEnd.TheVariants.{Closed, LinkEnded, LinkFault, BadFrame, Worn, Memory, Unkept}
-use Rattle.sporc_serve.specs.declared.item.Item.{Item}
-use Rattle.sporc_serve.specs.Sending.{bytes_of, sent_of}
-use Rattle.sporc_serve.specs.Turns.{IsAnswered, TakesTurn}
-use Rattle.sporc_serve.specs.Endings.{IsSendEnd, Inlet, inlet, IsNextEnd, IsNext}
-use Rattle.sporc_serve.specs.Traces.{Exchange, ServerStand, answers_of, NoneCloses, Did, ServerTrace, Broken, IsEnd, GoesOn}
+use Rattle.sporc_wire.specs.Messages.{next}
 use Rattle.sporc_serve.proofs.Tracing.{did_more, answer_more, trace_fed, trace_unanswered, sent_of-append, none_closes_more}
 
 -- a stream that waits for more stays as it is

@@ -9,3 +9,4 @@ pub mod Stepping
 pub mod Waiting
 pub mod Crowding
 pub mod Serving
+pub mod Common

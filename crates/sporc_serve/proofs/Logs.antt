@@ -1,16 +1,9 @@
 -- Logs of a server, and what a message adds to one.
 use Rattle.std.proofs.Common.{◌≡◌, ℕ, suc, ◌+◌, ◌<◌, ◌≤◌, Bool, true, false, List, [], ◌∷◌, ◌++◌, length, Option, Some, None, refl, ap, sym, ◌∙◌, inl, inr, ◌⊎◌, arith, append-nil, length-append, if◌then◌else◌, bytes_eq}
-use Rattle.sporc_entry.specs.declared.genesis.Genesis.{Genesis}
+use Rattle.sporc_serve.proofs.Common.{Genesis, ToServer, Hello, Submit, Pull, OrderModel, Silent, Close, step_of, submitted, only, Item, Opened, Placed, entries_in, placed, log_of, placed_by}
+use Rattle.sporc_serve.proofs.Common.{unless_refused, added_of, IsLogOf}
 use Rattle.sporc_head.specs.declared.refusal.Refusal.{Refusal}
 use Rattle.sporc_head.specs.HeadChecks.{head_fault}
-use Rattle.sporc_wire.specs.declared.to_server.ToServer.{ToServer}
-use Rattle.sporc_wire.specs.declared.to_server.ToServer.TheVariants.{Hello, Submit, Pull}
-use Rattle.sporc_order.specs.OrderModel.{OrderModel}
-use Rattle.sporc_order.specs.declared.session.Answer.TheVariants.{Silent, Close}
-use Rattle.sporc_order.specs.Sessions.{step_of, submitted, only}
-use Rattle.sporc_serve.specs.declared.item.Item.{Item}
-use Rattle.sporc_serve.specs.declared.item.Item.TheVariants.{Opened, Placed}
-use Rattle.sporc_serve.specs.Logs.{entries_in, placed, log_of, placed_by, unless_refused, added_of, IsLogOf}
 
 pub placed_length : (ns : List ℕ) (es : List (List ℕ)) → length ns ≡ length es → length (placed ns es) ≡ length es
 placed_length [] [] same = refl

@@ -1,14 +1,6 @@
 -- A turn after one that was taken to look at the log.
 use Rattle.std.proofs.Common.{ℕ, Bool, List, [], ◌++◌, Result, Ok, Err, ap, subst, ◌∙◌, append-nil}
-use Rattle.sporc_entry.specs.declared.genesis.Genesis.{Genesis}
-use Rattle.sporc_wire.specs.declared.to_server.ToServer.{ToServer}
-use Rattle.sporc_order.specs.declared.reply.Reply.{Reply}
-use Rattle.sporc_turn.specs.declared.known.Known.{Known}
-use Rattle.sporc_turn.specs.Log.{StartsWith}
-use Rattle.sporc_serve.specs.declared.end.SessionEnd.{SessionEnd}
-use Rattle.sporc_serve.specs.declared.item.Item.{Item}
-use Rattle.sporc_serve.specs.Logs.{order_at, placed_by, added_of, IsLogOf, OfDocument}
-use Rattle.sporc_serve.specs.Turns.{SeesAndAdds, Looks, TakesTurn}
+use Rattle.sporc_serve.proofs.Common.{Genesis, ToServer, Reply, Known, StartsWith, SessionEnd, Item, order_at, placed_by, added_of, IsLogOf, OfDocument, SeesAndAdds, Looks, TakesTurn}
 use Rattle.sporc_serve.proofs.Turning.{starts_log}
 use Rattle.sporc_serve.proofs.Tracing.{starts_then}
 

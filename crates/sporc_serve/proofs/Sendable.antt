@@ -1,7 +1,8 @@
 -- What an order answers is within the limits of a message, and what a stream gives fits an order's frame.
 use Rattle.std.proofs.Common.{◌≡◌, ◌≢◌, ℕ, zero, suc, ◌+◌, ◌<◌, ◌≤◌, ◌^◌, ◌==◌, Bool, true, false, ltb, nat_lt, nat_le, List, [], ◌∷◌, ◌++◌, length, take, drop, Option, Some, None, Result, Ok, Err, is_some, refl, ap, sym, subst, ◌∙◌, arith, if◌then◌else◌, bytes_eq, flat_map, length-append}
+use Rattle.sporc_serve.proofs.Common.{drop_all, Genesis, ToServer, Hello, Submit, Pull, Answer, Send, Silent, Close, Reply, Says, OrderModel, step_of, submitted, only, entries_after, IsSendable}
+use Rattle.sporc_serve.proofs.Common.{IsFramed, CanBeSent}
 use Rattle.std.proofs.lemmas.Bool.{ltb-true, ltb-false}
-use Rattle.std.proofs.lemmas.List.{drop_all}
 use Rattle.sporc_base.specs.FirstFault.{unless, first_of}
 use Rattle.sporc_bytes.specs.Fields.{counted}
 use Rattle.sporc_member.specs.declared.device.Device.{Device}
@@ -11,7 +12,6 @@ use Rattle.sporc_member.specs.declared.change.ChangeFault.TheVariants.{NumberUse
 use Rattle.sporc_member.specs.Roster.{Roster, member_at, key_of, change_fault_of, numbers_of, after_change}
 use Rattle.sporc_entry.specs.declared.change.ChangeBody.{ChangeBody}
 use Rattle.sporc_entry.specs.declared.entry.Entry.{Entry}
-use Rattle.sporc_entry.specs.declared.genesis.Genesis.{Genesis}
 use Rattle.sporc_entry.specs.declared.header.Header.{Header}
 use Rattle.sporc_entry.specs.Entry.{author_device, entry_of, change_of, signed_string}
 use Rattle.sporc_entry.specs.Version.{version_of}
@@ -25,20 +25,11 @@ use Rattle.sporc_wire.specs.Refusals.{refusal_detail_of}
 use Rattle.sporc_wire.specs.declared.cutter.TheConstants.{MAX_BODY}
 use Rattle.sporc_wire.specs.declared.to_client.TheConstants.{MAX_PULLED}
 use Rattle.sporc_wire.specs.declared.to_client.ToClient.{ToClient}
-use Rattle.sporc_wire.specs.declared.to_server.ToServer.{ToServer}
-use Rattle.sporc_wire.specs.declared.to_server.ToServer.TheVariants.{Hello, Submit, Pull}
 use Rattle.sporc_order.specs.declared.order.TheConstants.{MAX_PULLED_BYTES}
-use Rattle.sporc_order.specs.declared.session.Answer.{Answer}
-use Rattle.sporc_order.specs.declared.session.Answer.TheVariants.{Send, Silent, Close}
-use Rattle.sporc_order.specs.declared.reply.Reply.{Reply}
 use Rattle.sporc_order.specs.declared.reply.Reply.TheVariants as replies
 use Rattle.sporc_order.specs.declared.reply.Reply.TheVariants.{Message, Frame}
-use Rattle.sporc_order.specs.Replies.{Says}
-use Rattle.sporc_order.specs.OrderModel.{OrderModel}
 use Rattle.sporc_order.specs.Batches.{longest_batch, batch_after}
 use Rattle.sporc_order.proofs.Sizes.{batch_len, batch_bytes, entries_fit}
-use Rattle.sporc_order.specs.Sessions.{step_of, submitted, only, entries_after, IsSendable, IsFramed}
-use Rattle.sporc_serve.specs.Sending.{CanBeSent}
 
 -- ---- refusals
 

@@ -1,24 +1,12 @@
 -- What a server did, from what number 0 knew at last.
 use Rattle.std.proofs.Common.{◌≡◌, ◌≢◌, ℕ, zero, suc, ◌+◌, ◌≤◌, ◌<◌, ◌==◌, Bool, true, false, List, [], ◌∷◌, ◌-◌, length, drop, replicate, filter, All, Option, Result, Ok, Err, refl, ap, sym, subst, ◌∙◌, arith, inl, inr, get_or}
-use Rattle.std.proofs.lemmas.List.{drop_all, length-replicate}
+use Rattle.sporc_serve.proofs.Common.{drop_all, length-replicate, NetTold, StreamTold, Genesis, Known, MAX_TICKETS, known_of, IsWorn, StartsWith, Agrees, own, first_known, splitting, copied}
+use Rattle.sporc_serve.proofs.Common.{OrderModel, Item, by_of, order_at, placed, IsLogOf, OfDocument, Visit, Visits, came, handed_back, AreFrom, AreBehind, TellsOf, IsCrowd}
 use Rattle.std.proofs.lemmas.List.Elements.{All-head, All-tail, All-nil, All-cons}
-use Rattle.sporc_outside.specs.Nets.{NetTold}
-use Rattle.sporc_outside.specs.Streams.{StreamTold}
-use Rattle.sporc_entry.specs.declared.genesis.Genesis.{Genesis}
-use Rattle.sporc_turn.specs.declared.known.Known.{Known}
 use Rattle.sporc_turn.specs.declared.known.Joined.{Joined}
-use Rattle.sporc_turn.specs.declared.limits.TheConstants.{MAX_TICKETS}
 use Rattle.sporc_turn.specs.declared.pass.Pass.{Pass}
-use Rattle.sporc_turn.specs.Passes.{known_of, IsWorn}
-use Rattle.sporc_turn.specs.Log.{StartsWith, Agrees, own}
-use Rattle.sporc_turn.specs.Knowing.{first_known, splitting, copied}
-use Rattle.sporc_order.specs.OrderModel.{OrderModel}
-use Rattle.sporc_serve.specs.declared.item.Item.{Item}
-use Rattle.sporc_serve.specs.Logs.{by_of, order_at, placed, IsLogOf, OfDocument}
 use Rattle.sporc_serve.specs.declared.fault.ServeFault.{ServeFault}
 use Rattle.sporc_serve.specs.declared.fault.ServeFault.TheVariants as faults'
-use Rattle.sporc_serve.specs.Visits.{Visit, Visits, came, handed_back, AreFrom, AreBehind, TellsOf}
-use Rattle.sporc_serve.specs.Crowds.{IsCrowd}
 use Rattle.sporc_serve.specs.Served.{log_at_first, Attended, Served, IsServed}
 use Rattle.sporc_serve.proofs.Logs.{order_is}
 use Rattle.sporc_serve.proofs.Turning.{starts_log}

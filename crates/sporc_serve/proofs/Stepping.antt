@@ -1,32 +1,14 @@
 -- A step of a session: a message that is answered, or a piece more of its stream.
 use Rattle.std.proofs.Common.{◌≡◌, ◌≢◌, ◌∙◌, ℕ, ◌≤◌, Bool, false, List, [], Option, Some, None, Result, Ok, Err, IfOk, IfErr, IfNone, IfSome, MatchOption, IsOkUnless, refl, sym, subst}
-use Rattle.std.specs.Io.KnownBytes.{Consumes, Appends}
-use Rattle.std.proofs.KnownBytes.{Consumes-nil}
-use Rattle.sporc_outside.specs.Streams.{Shuts, StreamTold}
-use Rattle.sporc_entry.specs.declared.genesis.Genesis.{Genesis}
-use Rattle.sporc_turn.specs.declared.known.Known.{Known}
+use Rattle.sporc_serve.proofs.Common.{Consumes, Appends, Consumes-nil, Shuts, StreamTold, Genesis, Known, FrameFault, ToServer, Unread, stream_of, next_unless, to_server_of, Answer, Reply, Says}
+use Rattle.sporc_serve.proofs.Common.{IsFramed, SessionEnd, Closed, LinkEnded, LinkFault, BadFrame, Worn, Memory, Unkept, Item, IsLogOf, OfDocument, bytes_of, CanBeSent, HasReadLast, TakesTurn}
+use Rattle.sporc_serve.proofs.Common.{end_of, IsSendEnd, Inlet, inlet, TakesMessage, IsNextEnd, IsNext, ServerStand, stand, stand_at, GoesOn, Carries, Leads, visit, IsServedSession}
 use Rattle.sporc_base.specs.Outcome.{GivesUnless}
-use Rattle.sporc_wire.specs.declared.fault.FrameFault.{FrameFault}
 use Rattle.sporc_wire.specs.declared.fault.FrameFault.TheVariants as faults
-use Rattle.sporc_wire.specs.declared.to_server.ToServer.{ToServer}
-use Rattle.sporc_wire.specs.Messages.{Unread, stream_of, next, next_unless}
-use Rattle.sporc_wire.specs.ToServer.{to_server_of}
-use Rattle.sporc_order.specs.declared.session.Answer.{Answer}
+use Rattle.sporc_wire.specs.Messages.{next}
 use Rattle.sporc_order.specs.declared.session.Answer.TheVariants as answers
-use Rattle.sporc_order.specs.declared.reply.Reply.{Reply}
 use Rattle.sporc_order.specs.declared.reply.Reply.TheVariants.{Message, Frame, Silent, Close}
-use Rattle.sporc_order.specs.Replies.{Says}
 use Rattle.sporc_order.specs.declared.tail.Unanswered.{Unanswered}
-use Rattle.sporc_order.specs.Sessions.{IsFramed}
-use Rattle.sporc_serve.specs.declared.end.SessionEnd.{SessionEnd}
-use Rattle.sporc_serve.specs.declared.end.SessionEnd.TheVariants.{Closed, LinkEnded, LinkFault, BadFrame, Worn, Memory, Unkept}
-use Rattle.sporc_serve.specs.declared.item.Item.{Item}
-use Rattle.sporc_serve.specs.Logs.{IsLogOf, OfDocument}
-use Rattle.sporc_serve.specs.Sending.{bytes_of, CanBeSent}
-use Rattle.sporc_serve.specs.Turns.{HasReadLast, TakesTurn, end_of}
-use Rattle.sporc_serve.specs.Endings.{IsSendEnd, Inlet, inlet, TakesMessage, IsNextEnd, IsNext}
-use Rattle.sporc_serve.specs.Traces.{ServerStand, stand, stand_at, GoesOn, Carries, Leads}
-use Rattle.sporc_serve.specs.Visits.{visit, IsServedSession}
 use Rattle.sporc_serve.proofs.Turning.{starts_log}
 use Rattle.sporc_serve.proofs.Tracing.{grows_starts, trace_begins}
 use Rattle.sporc_serve.proofs.Framed.{next_framed}

@@ -1,23 +1,9 @@
 -- A session, one message or one piece of its stream after another.
 use Rattle.std.proofs.Common.{◌≡◌, ◌≢◌, ℕ, ◌≤◌, Bool, false, List, [], ◌∷◌, ◌++◌, Option, Some, Ok, refl, ap, ap₂, sym, subst, ◌∙◌, append_assoc, append-nil, arith}
-use Rattle.std.specs.Io.KnownBytes.{Consumes}
-use Rattle.std.proofs.KnownBytes.{Consumes-nil, Consumes-trans, Appends-nil}
-use Rattle.std.proofs.lemmas.List.{map-append}
-use Rattle.sporc_entry.specs.declared.genesis.Genesis.{Genesis}
-use Rattle.sporc_turn.specs.declared.known.Known.{Known}
-use Rattle.sporc_turn.specs.Log.{StartsWith}
-use Rattle.sporc_wire.specs.declared.to_server.ToServer.{ToServer}
-use Rattle.sporc_wire.specs.Messages.{Unread, HandsOut, stream_of, fed, next}
-use Rattle.sporc_wire.specs.ToServer.{to_server_of}
+use Rattle.sporc_serve.proofs.Common.{Consumes, Consumes-nil, Consumes-trans, Appends-nil, map-append, Genesis, Known, StartsWith, ToServer, Unread, HandsOut, stream_of, fed, next, to_server_of}
+use Rattle.sporc_serve.proofs.Common.{Answer, Close, Item, Placed, order_at, added_of, placed_by, bytes_of, sent_of, IsAnswered, LeavesUnanswered, Exchange, ServerStand, stand, messages_of, step_at}
+use Rattle.sporc_serve.proofs.Common.{greeted_after, answers_of, entries_of, Grows, NoneCloses, Did, ServerTrace}
 use Rattle.sporc_wire.proofs.Readings.{HandsOut-fed, HandsOut-next}
-use Rattle.sporc_order.specs.declared.session.Answer.{Answer}
-use Rattle.sporc_order.specs.declared.session.Answer.TheVariants.{Close}
-use Rattle.sporc_serve.specs.declared.item.Item.{Item}
-use Rattle.sporc_serve.specs.declared.item.Item.TheVariants.{Placed}
-use Rattle.sporc_serve.specs.Logs.{order_at, added_of, placed_by}
-use Rattle.sporc_serve.specs.Sending.{bytes_of, sent_of}
-use Rattle.sporc_serve.specs.Turns.{IsAnswered, LeavesUnanswered}
-use Rattle.sporc_serve.specs.Traces.{Exchange, ServerStand, stand, messages_of, step_at, greeted_after, answers_of, entries_of, Grows, NoneCloses, Did, ServerTrace}
 
 -- ---- lists that begin with others
 

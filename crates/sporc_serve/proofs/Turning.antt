@@ -1,28 +1,12 @@
 -- One turn of a session.
 use Rattle.std.proofs.Common.{◌≡◌, ℕ, Bool, List, [], ◌∷◌, ◌++◌, length, drop, Result, Ok, Err, OnOk, OnErr, IfOk, IfErr, refl, ap, sym, subst, ◌∙◌, append-nil, All}
-use Rattle.std.proofs.lemmas.List.{drop_at}
+use Rattle.sporc_serve.proofs.Common.{drop_at, Genesis, ToServer, OrderModel, step_of, Reply, Says, Known, MAX_TICKETS, known_held, IsSameTurn, StartsWith, Agrees, Extends, adding, seeing, SessionEnd}
+use Rattle.sporc_serve.proofs.Common.{Worn, Item, Placed, by_of, log_of, order_at, placed_by, added_of, if_answered, IsLogOf, IsTurnEnd, SeesAndAdds, TakesTurn, end_of}
 use Rattle.std.proofs.lemmas.List.Elements.{All-nil, All-cons}
-use Rattle.sporc_entry.specs.declared.genesis.Genesis.{Genesis}
-use Rattle.sporc_wire.specs.declared.to_server.ToServer.{ToServer}
-use Rattle.sporc_order.specs.OrderModel.{OrderModel}
-use Rattle.sporc_order.specs.Sessions.{step_of}
-use Rattle.sporc_order.specs.declared.reply.Reply.{Reply}
-use Rattle.sporc_order.specs.Replies.{Says}
 use Rattle.sporc_order.specs.declared.tail.Unanswered.{Unanswered}
 use Rattle.sporc_order.specs.declared.tail.Unanswered.TheVariants as unanswered
-use Rattle.sporc_turn.specs.declared.known.Known.{Known}
-use Rattle.sporc_turn.specs.declared.limits.TheConstants.{MAX_TICKETS}
 use Rattle.sporc_turn.specs.declared.kept.Kept.{Ghosts}
 use Rattle.sporc_turn.specs.declared.held.Held.{Held}
-use Rattle.sporc_turn.specs.Passes.{known_held, IsSameTurn}
-use Rattle.sporc_turn.specs.Log.{StartsWith, Agrees, Extends}
-use Rattle.sporc_turn.specs.Knowing.{adding, seeing}
-use Rattle.sporc_serve.specs.declared.end.SessionEnd.{SessionEnd}
-use Rattle.sporc_serve.specs.declared.end.SessionEnd.TheVariants.{Worn}
-use Rattle.sporc_serve.specs.declared.item.Item.{Item}
-use Rattle.sporc_serve.specs.declared.item.Item.TheVariants.{Placed}
-use Rattle.sporc_serve.specs.Logs.{by_of, log_of, order_at, placed_by, added_of, if_answered, IsLogOf}
-use Rattle.sporc_serve.specs.Turns.{IsTurnEnd, SeesAndAdds, TakesTurn, end_of}
 use Rattle.sporc_serve.proofs.Logs.{order_is}
 
 pub starts_log : (g : Genesis) (log seen : List Item) → StartsWith log seen → IsLogOf g seen → IsLogOf g log

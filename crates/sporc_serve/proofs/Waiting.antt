@@ -1,17 +1,8 @@
 -- The first message of a session.
 use Rattle.std.proofs.Common.{◌≡◌, ℕ, ◌≤◌, List, [], ◌++◌, Option, Some, None, Result, Ok, Err, false, refl, sym, subst, append-nil, arith}
-use Rattle.std.specs.Io.KnownBytes.{Consumes}
-use Rattle.std.proofs.KnownBytes.{Consumes-nil, Consumes-trans, Appends-nil}
-use Rattle.sporc_entry.specs.declared.genesis.Genesis.{Genesis}
-use Rattle.sporc_turn.specs.declared.known.Known.{Known}
-use Rattle.sporc_wire.specs.declared.to_server.ToServer.{ToServer}
-use Rattle.sporc_wire.specs.Messages.{Unread, HandsOut, stream_of, fed}
-use Rattle.sporc_wire.specs.ToServer.{to_server_of}
+use Rattle.sporc_serve.proofs.Common.{Consumes, Consumes-nil, Consumes-trans, Appends-nil, Genesis, Known, ToServer, Unread, HandsOut, stream_of, fed, to_server_of, SessionEnd, Item, Inlet, inlet}
+use Rattle.sporc_serve.proofs.Common.{IsNext, Waits, IsFirst, stand, ServerTrace}
 use Rattle.sporc_wire.proofs.Readings.{HandsOut-fed}
-use Rattle.sporc_serve.specs.declared.end.SessionEnd.{SessionEnd}
-use Rattle.sporc_serve.specs.declared.item.Item.{Item}
-use Rattle.sporc_serve.specs.Endings.{Inlet, inlet, IsNext, Waits, IsFirst}
-use Rattle.sporc_serve.specs.Traces.{stand, ServerTrace}
 use Rattle.sporc_serve.proofs.Tracing.{starts_same}
 
 -- nothing was taken yet

@@ -164,3 +164,20 @@ Leads b b' end = (genesis : Genesis) (a : ServerStand) (bytes : List ℕ) (xs : 
 -- by what the link tells
 abbrev pub stand_at : Known Item → StreamTold → Unread → Bool → ServerStand
 stand_at known link unread greeted = stand known link.left link.written link.faults unread greeted
+
+-- the next message of some bytes is this one, and is answered: a session that went on to these
+-- bytes goes on to those behind the message, or ends
+abbrev pub CarriesPast : ToServer → (Unread → ServerStand) → (Unread → ServerStand)
+    → Option SessionEnd → Type 0
+CarriesPast message before after end =
+    (unread : Unread) → (next to_server_of unread).answer ≡ Ok (Some message)
+    → Carries (before unread) (after (next to_server_of unread).after) end
+
+-- a session ends whose first message is this one, with these bytes behind it, over a link that told
+-- `old` and then `new`, by a pass that knew `known` and then `known'`
+abbrev pub LeadsFrom : ToServer → Unread → StreamTold → StreamTold → SessionEnd → Known Item
+    → Known Item → Type 0
+LeadsFrom first behind old new end known known' =
+    (unread : Unread) → (next to_server_of unread).answer ≡ Ok (Some first)
+    → behind ≡ (next to_server_of unread).after
+    → Leads (stand_at known old unread false) (stand_at known' new (stream_of []) false) (Some end)

@@ -2,15 +2,13 @@
 
 ghost use Rattle.std.specs.Prelude.{◌≡◌, ◌≢◌, ◌+◌, ◌-◌, ◌^◌, ◌<◌, ◌≤◌, Err, max, IfSome};
 ghost use Rattle.std.specs.Thread.{IsSync, IsSend};
-ghost use Rattle.sporc_outside.specs.Told.{IsTrueIfTold};
 ghost use Rattle.sporc_outside.specs.Nets.{AreShutBehind};
 ghost use Rattle.sporc_turn.specs.Knowing.{joined_with};
 ghost use Rattle.sporc_turn.specs.Log.{StartsWith, Agrees};
 ghost use Rattle.sporc_turn.specs.Passes.{known_of, read_of, IsPassOf};
 ghost use Rattle.sporc_serve.specs.Logs.{by_of, OfDocument};
-ghost use Rattle.sporc_serve.specs.Crowds.{IsCrowd, IsFirst, IsOther};
-ghost use Rattle.sporc_serve.specs.Turns.{HasReadLast};
-ghost use Rattle.sporc_serve.specs.Visits.{visit, IsServedSession, with_end};
+ghost use Rattle.sporc_serve.specs.Crowds.{IsCrowd, IsFirst, IsOther, ServesOne, ServesOthers};
+ghost use Rattle.sporc_serve.specs.Visits.{visit, with_end};
 
 use crate::desk::Desk;
 use crate::end::SessionEnd;
@@ -128,24 +126,13 @@ where
         &mut || -> (Result<(), ServeFault>, Pass<Item>)
             requires { IsSync R.row × IsSync G.row × IsSend N.row × IsSend N.Link.row × IsSend T.row
                 × IsFirst turn.now first others }
-            ensures { IfSome first.entry (λ p. IsPassOf turn.entry.now result.1
-                × ((known_of result.1).number ≡ 0) × OfDocument (known_of p).seen
-                (λ genesis. IsCrowd genesis (known_of p) (known_of result.1) (read_of result.1)
-                (N.told net.entry.now) (N.told net.exit.now) others result.0)
-                × AreShutBehind (N.told net.entry.now).returned (N.told net.exit.now).returned
-                × ((N.told net.exit.now).asked ≡ (N.told net.entry.now).asked)
-                × ((N.told net.exit.now).out ≡ (N.told net.entry.now).out)
-                × ((N.told net.entry.now).faults ≤ (N.told net.exit.now).faults)
-                × (result.0 ≡ Err ServeFault.Unkept → T.may_fail)) }
+            ensures { IfSome first.entry (ServesOthers turn.entry.now (N.told net.entry.now)
+                (N.told net.exit.now) others result.0 result.1) }
         { crowd(rt, alloc, net, turn, gate, first.take().unwrap(), others) },
         &mut || -> (SessionEnd, Pass<Item>)
             requires { IsSync R.row × IsSync G.row × IsSend T.row × IsOther turn.now second }
-            ensures { IfSome second.entry (λ p. IsPassOf turn.entry.now result.1
-                × ((known_of result.1).number ≡ (known_of p).number) × OfDocument (known_of p).seen
-                (λ genesis. IsServedSession genesis (known_of p) (known_of result.1)
-                (visit (N.Link.told link.entry) (N.Link.told link.exit) result.0))
-                × IsTrueIfTold (N.Link.told link.exit).is_shut × HasReadLast
-                (read_of result.1) result.0 × (result.0 ≡ SessionEnd.Unkept → T.may_fail)) }
+            ensures { IfSome second.entry (ServesOne turn.entry.now
+                (visit (N.Link.told link.entry) (N.Link.told link.exit) result.0) result.1) }
         { serve_link(rt, alloc, turn, gate, &mut link, second.take().unwrap()) },
     );
     net.take_back(link);

@@ -11,6 +11,7 @@ ghost use Rattle.sporc_serve.specs.Logs.{log_of, added_of, placed_by};
 ghost use Rattle.sporc_serve.specs.Sending.{CanBeSent};
 
 use crate::item::Item;
+use crate::kept_order::KeptOrder;
 use sporc_head::Verdict;
 use sporc_order::{Order, Reply, Session, Tail, Unanswered};
 use sporc_turn::Kept;
@@ -53,20 +54,20 @@ impl<T: Tail> Kept for Desk<T> {
 
 impl<T: Tail> Desk<T> {
     // The order, whose entries have number 0.
-    pub(crate) fn new(alloc: Global, order: Order, tail: T) -> Result<Desk<T>, (Order, T)>
-        requires tail { ∥ T.keeps tail order.entries ∥₁ }
-        ensures order { IfOk result (λ desk. desk.order ≡ order) }
+    pub(crate) fn new(alloc: Global, kept: KeptOrder<T>) -> Result<Desk<T>, KeptOrder<T>>
+        requires tail { ∥ T.keeps kept.tail kept.order.entries ∥₁ }
+        ensures order { IfOk result (λ desk. desk.order ≡ kept.order) }
         ensures numbers { IfOk result
-            (λ desk. desk.numbers.items ≡ replicate (length order.entries) 0) }
-        ensures err { IfErr result (λ e. (e.0 ≡ order) × (e.1 ≡ tail)) }
+            (λ desk. desk.numbers.items ≡ replicate (length kept.order.entries) 0) }
+        ensures returned { IfErr result (λ e. e ≡ kept) }
     {
-        match vec![in alloc; 0; order.len() as usize] {
+        match vec![in alloc; 0; kept.order.len() as usize] {
             Ok(numbers) => Ok(Desk {
-                order,
+                order: kept.order,
                 numbers,
-                tail,
+                tail: kept.tail,
             }),
-            Err(_) => Err((order, tail)),
+            Err(_) => Err(kept),
         }
     }
 
@@ -115,11 +116,14 @@ impl<T: Tail> Desk<T> {
     }
 
     // The order, and what keeps its entries.
-    pub(crate) fn into_parts(self) -> (Order, T)
-        ensures order { result.0 ≡ self.order }
-        ensures tail { result.1 ≡ self.tail }
-        ensures keeps { ∥ T.keeps result.1 result.0.entries ∥₁ }
+    pub(crate) fn into_kept(self) -> KeptOrder<T>
+        ensures order { result.order ≡ self.order }
+        ensures tail { result.tail ≡ self.tail }
+        ensures keeps { ∥ T.keeps result.tail result.order.entries ∥₁ }
     {
-        (self.order, self.tail)
+        KeptOrder {
+            order: self.order,
+            tail: self.tail,
+        }
     }
 }

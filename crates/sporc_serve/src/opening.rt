@@ -10,7 +10,8 @@ ghost use Rattle.sporc_serve.specs.Served.{log_at_first};
 
 use crate::desk::Desk;
 use crate::item::Item;
-use sporc_order::{Order, Tail};
+use crate::kept_order::KeptOrder;
+use sporc_order::Tail;
 use sporc_turn::{Away, Pass, Turn};
 use std::alloc::Global;
 
@@ -18,22 +19,21 @@ use std::alloc::Global;
 /// if memory runs out.
 pub fn open_kept<T: Tail>(
     alloc: Global,
-    order: Order,
-    tail: T,
-) -> Result<(Turn<Desk<T>>, Pass<Item>), (Order, T)>
-    requires tail { ∥ T.keeps tail order.entries ∥₁ }
+    kept: KeptOrder<T>,
+) -> Result<(Turn<Desk<T>>, Pass<Item>), KeptOrder<T>>
+    requires tail { ∥ T.keeps kept.tail kept.order.entries ∥₁ }
     ensures lock { IfOk result (λ t. IsPassOf t.0 t.1) }
-    ensures first { IfOk result (λ t. known_of t.1 ≡ first_known (log_at_first order)) }
-    ensures returned { IfErr result (λ e. e.0 ≡ order) }
-    ensures returned_tail { IfErr result (λ e. ∥ T.keeps e.1 e.0.entries ∥₁) }
+    ensures first { IfOk result (λ t. known_of t.1 ≡ first_known (log_at_first kept.order)) }
+    ensures returned { IfErr result (λ e. e.order ≡ kept.order) }
+    ensures returned_tail { IfErr result (λ e. ∥ T.keeps e.tail e.order.entries ∥₁) }
 {
-    let desk = match Desk::new(alloc, order, tail) {
+    let desk = match Desk::new(alloc, kept) {
         Ok(desk) => desk,
         Err(refused) => return Err(refused),
     };
     match Turn::open(alloc, desk) {
         Ok(both) => Ok(both),
-        Err((desk, _)) => Err(desk.into_parts()),
+        Err((desk, _)) => Err(desk.into_kept()),
     }
 }
 
@@ -42,18 +42,18 @@ pub fn open_kept<T: Tail>(
 pub fn close_kept<T: Tail>(
     turn: Turn<Desk<T>>,
     first: Pass<Item>,
-) -> Result<(Order, T), (Turn<Desk<T>>, Pass<Item>, Away)>
+) -> Result<KeptOrder<T>, (Turn<Desk<T>>, Pass<Item>, Away)>
     requires lock { IsPassOf turn first }
     requires first { (known_of first).number ≡ 0 }
     ensures all { OnOk result (out_of first ≡ 0) }
-    ensures order { IfOk result (λ both. (genesis : Genesis) → IsLogOf genesis (known_of first).seen
-        → both.0 ≡ order_at genesis (known_of first).seen) }
-    ensures tail { IfOk result (λ both. ∥ T.keeps both.1 both.0.entries ∥₁) }
+    ensures order { IfOk result (λ kept. (genesis : Genesis) → IsLogOf genesis (known_of first).seen
+        → kept.order ≡ order_at genesis (known_of first).seen) }
+    ensures tail { IfOk result (λ kept. ∥ T.keeps kept.tail kept.order.entries ∥₁) }
     ensures agrees { OnOk result (Agrees by_of (known_of first) (known_of first).seen) }
     ensures away { IfErr result (λ e. (e.2.out ≡ out_of first) × (e.2.out ≢ 0)) }
 {
     match turn.close(first) {
-        Ok(desk) => Ok(desk.into_parts()),
+        Ok(desk) => Ok(desk.into_kept()),
         Err(out) => Err(out),
     }
 }

@@ -8,6 +8,7 @@ ghost use Rattle.sporc_serve.specs.Served.{IsServed};
 
 use crate::crowd::crowd;
 use crate::fault::ServeFault;
+use crate::kept_order::KeptOrder;
 use crate::opening::{close_kept, open_kept};
 use sporc_order::{NoTail, Order, Tail};
 use sporc_outside::{Gate, Listen};
@@ -52,8 +53,12 @@ where
     ensures kept { (N.told net.old).faults ≤ (N.told net.new).faults }
     ensures none_unkept { result.1 ≢ Err ServeFault.Unkept }
 {
-    let (order, _, answer) = serve_kept(rt, alloc, net, address, order, NoTail, sessions, gate);
-    (order, answer)
+    let kept = KeptOrder {
+        order,
+        tail: NoTail,
+    };
+    let (kept, answer) = serve_kept(rt, alloc, net, address, kept, sessions, gate);
+    (kept.order, answer)
 }
 
 /// Serves as [`serve`] does, with a tail that keeps each entry before the order takes it, and so
@@ -64,21 +69,21 @@ pub fn serve_kept<R: Threads + Wait + Sync, N: Listen, G: Gate + Sync, T: Tail +
     alloc: Global,
     net: &mut N,
     address: &str,
-    order: Order,
-    tail: T,
+    kept: KeptOrder<T>,
     sessions: u32,
     gate: &G,
-) -> (Order, T, Result<(), ServeFault>)
+) -> (KeptOrder<T>, Result<(), ServeFault>)
 where
     N: Send,
     N::Link: Send,
     requires positive { 1 ≤ sessions }
     requires limit { sessions ≤ MAX_SESSIONS }
-    requires tail { ∥ T.keeps tail order.entries ∥₁ }
-    ensures served { IsServed order result.0 (N.told net.old) (N.told net.new) sessions result.2 }
-    ensures tail { ∥ T.keeps result.1 result.0.entries ∥₁ }
-    ensures unkept { result.2 ≡ Err ServeFault.Unkept → T.may_fail }
-    ensures asked { result.2 ≢ Err ServeFault.ListenFault
+    requires tail { ∥ T.keeps kept.tail kept.order.entries ∥₁ }
+    ensures served { IsServed kept.order result.0.order (N.told net.old) (N.told net.new) sessions
+        result.1 }
+    ensures tail { ∥ T.keeps result.0.tail result.0.order.entries ∥₁ }
+    ensures unkept { result.1 ≡ Err ServeFault.Unkept → T.may_fail }
+    ensures asked { result.1 ≢ Err ServeFault.ListenFault
         → AppendsItem (N.told net.old).asked (N.told net.new).asked address.now }
     ensures may_ask { MayAppend (N.told net.old).asked (N.told net.new).asked address.now }
     ensures shut { AreShutBehind (N.told net.old).returned (N.told net.new).returned }
@@ -86,15 +91,15 @@ where
     ensures kept { (N.told net.old).faults ≤ (N.told net.new).faults }
 {
     let Ok(()) = net.listen(address) else {
-        return (order, tail, Err(ServeFault::ListenFault));
+        return (kept, Err(ServeFault::ListenFault));
     };
-    let (turn, first) = match open_kept(alloc, order, tail) {
+    let (turn, first) = match open_kept(alloc, kept) {
         Ok(both) => both,
-        Err((order, tail)) => return (order, tail, Err(ServeFault::Memory)),
+        Err(kept) => return (kept, Err(ServeFault::Memory)),
     };
     let (answer, first) = crowd(rt, alloc, net, &turn, gate, first, sessions);
     match close_kept(turn, first) {
-        Ok((order, tail)) => (order, tail, answer),
+        Ok(kept) => (kept, answer),
         Err(_) => unreachable!(),
     }
 }

@@ -4,11 +4,11 @@ ghost use Rattle.std.specs.Prelude.{◌≡◌, ◌≢◌, ◌≤◌, [], false, 
 ghost use Rattle.std.specs.Prelude.{OnOk};
 ghost use Rattle.sporc_outside.specs.Told.{IsTrueIfTold};
 ghost use Rattle.sporc_turn.specs.Passes.{known_of, read_of, IsPassOf};
-ghost use Rattle.sporc_wire.specs.Messages.{Unread, next, stream_of};
+ghost use Rattle.sporc_wire.specs.Messages.{next, stream_of};
 ghost use Rattle.sporc_wire.specs.ToServer.{to_server_of};
 ghost use Rattle.sporc_order.specs.Sessions.{IsFramed};
 ghost use Rattle.sporc_serve.specs.Logs.{OfDocument};
-ghost use Rattle.sporc_serve.specs.Traces.{stand_at, Carries, Leads};
+ghost use Rattle.sporc_serve.specs.Traces.{stand_at, Carries, CarriesPast, Leads, LeadsFrom};
 ghost use Rattle.sporc_serve.specs.Endings.{inlet_at, IsNext};
 ghost use Rattle.sporc_serve.specs.Turns.{HasReadLast};
 ghost use Rattle.sporc_serve.specs.Visits.{visit, IsServedSession};
@@ -18,6 +18,7 @@ use crate::end::SessionEnd;
 use crate::item::Item;
 use crate::replying::reply_to;
 use crate::sending::send;
+use crate::service::Service;
 use sporc_order::{Session, Tail};
 use sporc_outside::{Gate, Link};
 use sporc_turn::{Pass, Turn};
@@ -91,47 +92,43 @@ pub(crate) fn next_message<L: Link>(
 
 // Answers a message, and says why the session ends, if it does.
 fn answer<R: Wait, L: Link, G: Gate, T: Tail>(
-    rt: &R,
-    alloc: Global,
-    turn: &Turn<Desk<T>>,
-    gate: &G,
+    service: &Service<'_, R, G, T>,
     link: &mut L,
     session: &mut Session,
     pass: Pass<Item>,
     message: &ToServer,
 ) -> (Option<SessionEnd>, Pass<Item>)
-    requires lock { IsPassOf turn.now pass }
+    requires lock { IsPassOf service.now.turn.now pass }
     requires framed { IsFramed message.now }
-    ensures lock { IsPassOf turn.now result.1 }
+    ensures lock { IsPassOf service.now.turn.now result.1 }
     ensures number { (known_of result.1).number ≡ (known_of pass).number }
     ensures as_shut { (L.told link.new).is_shut ≡ (L.told link.old).is_shut }
     ensures worn { IfSome result.0 (HasReadLast (read_of result.1)) }
     ensures unkept { result.0 ≡ Some SessionEnd.Unkept → T.may_fail }
-    ensures goes { (unread : Unread) → (next to_server_of unread).answer ≡ Ok (Some message.now)
-        → Carries (stand_at (known_of pass) (L.told link.old) unread session.old)
-        (stand_at (known_of result.1) (L.told link.new)
-        (next to_server_of unread).after session.new) result.0 }
+    ensures goes { CarriesPast message.now
+        (λ unread. stand_at (known_of pass) (L.told link.old) unread session.old)
+        (λ unread. stand_at (known_of result.1) (L.told link.new) unread session.new) result.0 }
 {
-    let (reply, pass) = reply_to(rt, alloc, turn, gate, pass, session, message);
+    let (reply, pass) = reply_to(service, pass, session, message);
     match reply {
-        Ok(reply) => (send(rt, alloc, gate, link, &reply), pass),
+        Ok(reply) => (
+            send(service.rt, service.alloc, service.gate, link, &reply),
+            pass,
+        ),
         Err(end) => (Some(end), pass),
     }
 }
 
 // Takes the next message and answers it, or takes a piece more of the link's bytes.
 fn step<R: Wait, L: Link, G: Gate, T: Tail>(
-    rt: &R,
-    alloc: Global,
-    turn: &Turn<Desk<T>>,
-    gate: &G,
+    service: &Service<'_, R, G, T>,
     link: &mut L,
     frames: &mut Frames,
     session: &mut Session,
     pass: Pass<Item>,
 ) -> (Option<SessionEnd>, Pass<Item>)
-    requires lock { IsPassOf turn.now pass }
-    ensures lock { IsPassOf turn.now result.1 }
+    requires lock { IsPassOf service.now.turn.now pass }
+    ensures lock { IsPassOf service.now.turn.now result.1 }
     ensures number { (known_of result.1).number ≡ (known_of pass).number }
     ensures as_shut { (L.told link.new).is_shut ≡ (L.told link.old).is_shut }
     ensures worn { IfSome result.0 (HasReadLast (read_of result.1)) }
@@ -146,22 +143,19 @@ fn step<R: Wait, L: Link, G: Gate, T: Tail>(
     let Some(message) = found else {
         return (None, pass);
     };
-    answer(rt, alloc, turn, gate, link, session, pass, &message)
+    answer(service, link, session, pass, &message)
 }
 
 // Answers the messages that are to come, up to the session's end.
 fn go_on<R: Wait, L: Link, G: Gate, T: Tail>(
-    rt: &R,
-    alloc: Global,
-    turn: &Turn<Desk<T>>,
-    gate: &G,
+    service: &Service<'_, R, G, T>,
     link: &mut L,
     frames: &mut Frames,
     session: &mut Session,
     pass: Pass<Item>,
 ) -> (SessionEnd, Pass<Item>)
-    requires lock { IsPassOf turn.now pass }
-    ensures lock { IsPassOf turn.now result.1 }
+    requires lock { IsPassOf service.now.turn.now pass }
+    ensures lock { IsPassOf service.now.turn.now result.1 }
     ensures number { (known_of result.1).number ≡ (known_of pass).number }
     ensures as_shut { (L.told link.new).is_shut ≡ (L.told link.old).is_shut }
     ensures worn { HasReadLast (read_of result.1) result.0 }
@@ -170,8 +164,9 @@ fn go_on<R: Wait, L: Link, G: Gate, T: Tail>(
         (stand_at (known_of result.1) (L.told link.new) (stream_of []) false) (Some result.0) }
 {
     let mut pass = pass;
+    let rt = service.rt;
     for _ in rt.forever() {
-        let (end, after) = step(rt, alloc, turn, gate, link, frames, session, pass);
+        let (end, after) = step(service, link, frames, session, pass);
         pass = after;
         if let Some(end) = end {
             return (end, pass);
@@ -183,32 +178,27 @@ fn go_on<R: Wait, L: Link, G: Gate, T: Tail>(
 /// The session over a link from its first message on, at the order under this lock. The message is
 /// the first that was taken of the frames. The link is left open.
 pub fn serve_from<R: Wait, L: Link, G: Gate, T: Tail>(
-    rt: &R,
-    alloc: Global,
-    turn: &Turn<Desk<T>>,
-    gate: &G,
+    service: &Service<'_, R, G, T>,
     link: &mut L,
     frames: &mut Frames,
     first: &ToServer,
     pass: Pass<Item>,
 ) -> (SessionEnd, Pass<Item>)
-    requires lock { IsPassOf turn.now pass }
+    requires lock { IsPassOf service.now.turn.now pass }
     requires framed { IsFramed first.now }
-    ensures lock { IsPassOf turn.now result.1 }
+    ensures lock { IsPassOf service.now.turn.now result.1 }
     ensures number { (known_of result.1).number ≡ (known_of pass).number }
     ensures as_shut { (L.told link.new).is_shut ≡ (L.told link.old).is_shut }
     ensures worn { HasReadLast (read_of result.1) result.0 }
     ensures unkept { result.0 ≡ SessionEnd.Unkept → T.may_fail }
-    ensures goes { (unread : Unread) → (next to_server_of unread).answer ≡ Ok (Some first.now)
-        → frames.old ≡ (next to_server_of unread).after
-        → Leads (stand_at (known_of pass) (L.told link.old) unread false)
-        (stand_at (known_of result.1) (L.told link.new) (stream_of []) false) (Some result.0) }
+    ensures goes { LeadsFrom first.now frames.old (L.told link.old) (L.told link.new) result.0
+        (known_of pass) (known_of result.1) }
 {
     let mut session = Session::new();
-    let (end, pass) = answer(rt, alloc, turn, gate, link, &mut session, pass, first);
+    let (end, pass) = answer(service, link, &mut session, pass, first);
     match end {
         Some(end) => (end, pass),
-        None => go_on(rt, alloc, turn, gate, link, frames, &mut session, pass),
+        None => go_on(service, link, frames, &mut session, pass),
     }
 }
 
@@ -232,7 +222,13 @@ pub(crate) fn serve_link<R: Wait, L: Link, G: Gate, T: Tail>(
 {
     let mut frames = Frames::new(alloc);
     let mut session = Session::new();
-    let (end, pass) = go_on(rt, alloc, turn, gate, link, &mut frames, &mut session, pass);
+    let service = Service {
+        rt,
+        alloc,
+        turn,
+        gate,
+    };
+    let (end, pass) = go_on(&service, link, &mut frames, &mut session, pass);
     link.shut();
     (end, pass)
 }

@@ -12,9 +12,10 @@ ghost use Rattle.sporc_serve.specs.Turns.{HasReadLast, Looks, TakesTurn, end_of}
 use crate::desk::{Desk, Sought};
 use crate::end::SessionEnd;
 use crate::item::Item;
+use crate::service::Service;
 use sporc_head::Verdict;
 use sporc_order::{Reply, Session, Tail, Unanswered};
-use sporc_turn::{Held, Pass, Turn};
+use sporc_turn::{Held, Pass};
 use sporc_wire::ToServer;
 use std::alloc::Global;
 use std::sync::Wait;
@@ -56,42 +57,39 @@ fn seek_held<T: Tail>(held: &mut Held<Desk<T>>, entry: &[u8]) -> Sought
 }
 
 // Takes a turn, and finds in it what the examination of an entry asks.
-pub(crate) fn take_look<R: Wait, T: Tail>(
-    rt: &R,
-    turn: &Turn<Desk<T>>,
+pub(crate) fn take_look<R: Wait, G, T: Tail>(
+    service: &Service<'_, R, G, T>,
     pass: Pass<Item>,
     entry: &[u8],
 ) -> (Result<Sought, SessionEnd>, Pass<Item>)
-    requires lock { IsPassOf turn.now pass }
-    ensures lock { IsPassOf turn.now result.1 }
+    requires lock { IsPassOf service.now.turn.now pass }
+    ensures lock { IsPassOf service.now.turn.now result.1 }
     ensures number { (known_of result.1).number ≡ (known_of pass).number }
     ensures worn { IfErr result.0 (HasReadLast (read_of result.1)) }
     ensures looks { Looks (known_of pass) (known_of result.1) result.0 }
     ensures unkept { IfErr result.0 (λ end. end ≢ SessionEnd.Unkept) }
 {
-    match turn.take(rt, pass) {
+    match service.turn.take(service.rt, pass) {
         Ok(mut held) => {
             let sought = seek_held(&mut held, entry);
-            (Ok(sought), turn.give(held))
+            (Ok(sought), service.turn.give(held))
         }
         Err((pass, worn)) => (Err(SessionEnd::Worn(worn.0)), pass),
     }
 }
 
 // Takes a turn, and answers a message in it, where a verdict of its entry may be known.
-pub(crate) fn take_turn<R: Wait, T: Tail>(
-    rt: &R,
-    alloc: Global,
-    turn: &Turn<Desk<T>>,
+pub(crate) fn take_turn<R: Wait, G, T: Tail>(
+    service: &Service<'_, R, G, T>,
     pass: Pass<Item>,
     session: &mut Session,
     message: &ToServer,
     known: Option<&Verdict>,
 ) -> (Result<Reply, SessionEnd>, Pass<Item>)
-    requires lock { IsPassOf turn.now pass }
+    requires lock { IsPassOf service.now.turn.now pass }
     requires exact { IfSome known (λ v. IsExactFor v.now message.now) }
     requires framed { IsFramed message.now }
-    ensures lock { IsPassOf turn.now result.1 }
+    ensures lock { IsPassOf service.now.turn.now result.1 }
     ensures sendable { IfOk result.0 CanBeSent }
     ensures number { (known_of result.1).number ≡ (known_of pass).number }
     ensures worn { IfErr result.0 (HasReadLast (read_of result.1)) }
@@ -100,10 +98,10 @@ pub(crate) fn take_turn<R: Wait, T: Tail>(
     ensures unkept { result.0 ≡ Err SessionEnd.Unkept → T.may_fail }
 {
     let number = pass.number();
-    match turn.take(rt, pass) {
+    match service.turn.take(service.rt, pass) {
         Ok(mut held) => {
-            let reply = step_held(&mut held, alloc, number, session, message, known);
-            (answered(reply), turn.give(held))
+            let reply = step_held(&mut held, service.alloc, number, session, message, known);
+            (answered(reply), service.turn.give(held))
         }
         Err((pass, worn)) => (Err(SessionEnd::Worn(worn.0)), pass),
     }

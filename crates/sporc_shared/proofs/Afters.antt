@@ -1,15 +1,11 @@
 -- The past of a client after a call.
 use Rattle.std.proofs.Common.{◌≡◌, ℕ, List, [], ◌++◌, None, refl, ap, Result, Ok, Err}
-use Rattle.sporc_client.specs.Answers.{added}
-use Rattle.sporc_client.specs.ClientModel.{ClientModel, first_leaf_of, leaf_in, leaves_of}
+use Rattle.sporc_shared.proofs.Common.{added, ClientModel, first_leaf_of, leaf_in, leaves_of, Logged, submission_added, past_of, with_events}
 use Rattle.sporc_client.specs.Drawing.{gives_entry, kept_after}
 use Rattle.sporc_client.specs.LeafUses.{IsUse, leaf_given, supply_of}
-use Rattle.sporc_client.specs.Log.{Logged}
-use Rattle.sporc_client.specs.Submissions.{submission_added}
 use Rattle.sporc_client.specs.declared.fault.SubmitFault.{SubmitFault}
 use Rattle.sporc_client.specs.declared.submitted.Submitted.{Submitted}
 use Rattle.sporc_client.proofs.FirstLeaf.{first_leaf-same, first_leaf-submitted}
-use Rattle.sporc_shared.specs.Items.{past_of, with_events}
 
 no_leaves : {X F : Type 0} (answer : Result X F) (event : Logged) → leaf_in event ≡ None → leaves_of (added answer event) ≡ []
 no_leaves (Ok x) event none = rw none refl

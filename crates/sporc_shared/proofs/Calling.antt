@@ -1,22 +1,18 @@
 -- What a call of a shared client comes to, by what the lock and the client tell.
 use Rattle.std.proofs.Common.{◌≡◌, ℕ, ◌+◌, ◌≤◌, ◌==◌, List, [], ◌∷◌, ◌++◌, length, map, drop, sym, ap, ◌∙◌, subst, arith, Result, Ok, Err}
+use Rattle.sporc_shared.proofs.Common.{append-nil, length-map, map-append, adding, first_known, seeing, added, Logged, maker_of, submission_added, Item, Opened, Happened, Past, IsAllowed, by_of}
+use Rattle.sporc_shared.proofs.Common.{items_of, with_events}
 use Rattle.std.specs.List.{filter}
 use Rattle.std.specs.Prelude.{All}
-use Rattle.std.proofs.lemmas.List.{append-nil, length-map, map-append}
 use Rattle.std.proofs.lemmas.List.Elements.{All-cons, All-nil}
 use Rattle.sporc_turn.specs.declared.known.Joined.{Joined}
 use Rattle.sporc_turn.specs.declared.known.Known.{Known}
-use Rattle.sporc_turn.specs.Knowing.{adding, first_known, seeing}
 use Rattle.sporc_turn.specs.Log.{Agrees, Extends, StartsWith, own}
 use Rattle.sporc_turn.proofs.Lists.{drop_length, drop_seen, starts_more, starts_self}
 use Rattle.sporc_client.specs.declared.fault.SubmitFault.{SubmitFault}
 use Rattle.sporc_client.specs.declared.submitted.Submitted.{Submitted}
 use Rattle.sporc_client.specs.declared.submitted.Submitted.TheVariants as submitted
-use Rattle.sporc_client.specs.Answers.{added}
-use Rattle.sporc_client.specs.Log.{Logged, by_of as maker_of}
-use Rattle.sporc_client.specs.Submissions.{submission_added}
 use Rattle.sporc_shared.specs.Calls.{IsCall}
-use Rattle.sporc_shared.specs.Items.{Item, Opened, Happened, Past, IsAllowed, by_of, items_of, with_events}
 
 pub items_more : (past : Past) (events : List Logged) → items_of (with_events past events) ≡ items_of past ++ map Happened events
 items_more past events = ap (λ (items : List Item). Opened past.opening past.first_leaf ∷ items) (map-append Happened past.log events)
@@ -79,6 +75,15 @@ call_is k held k' before after events is became found known agrees allowed =
 
 pub call_front : (held k' : Known Item) (after : Past) (events : ℕ) → k' ≡ adding held (items_of after) → events ≡ length after.log → events + 1 ≡ length k'.seen
 call_front held k' after events known is = omega (arith, ap (λ (h : Known Item). length h.seen) known, length_items after)
+
+-- ---- a call that leaves the client as it is
+
+pub left_extends : (k held : Known Item) (now : Past) → held ≡ seeing k (items_of now) → Extends by_of held (items_of now)
+left_extends k held now is = call_extends k held now now [] is (with_none now) (all_none k.number)
+
+pub left_is : (k held k' : Known Item) (now : Past) → held ≡ seeing k (items_of now) → Agrees by_of k (items_of now) → k' ≡ adding held (items_of now) → Agrees by_of k' (items_of now) → IsAllowed now
+    → IsCall k k' now []
+left_is k held k' now is found known agrees allowed = call_is k held k' now now [] is (with_none now) found known agrees allowed
 
 -- what the first pass knows
 pub agrees_first : (k : Known Item) (log : List Item) → k ≡ first_known log → Agrees by_of k k.seen

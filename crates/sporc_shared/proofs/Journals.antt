@@ -1,12 +1,10 @@
 -- How long a client's journal is, and what it has shown.
 use Rattle.std.proofs.Common.{◌≡◌, ℕ, ◌+◌, ◌≤◌, Bool, true, false, cond, List, [], ◌∷◌, ◌++◌, length, refl, ap, ◌∙◌, arith, length-append}
+use Rattle.sporc_shared.proofs.Common.{take_all, change_in, Logged, Edit, Change, Submit, Dropped, Accept, Discard, entries_by, journal_from, journal_of, Opening, PlainClient, opened, shown_after}
+use Rattle.sporc_shared.proofs.Common.{shown_of}
 use Rattle.std.specs.Option.{is_some}
-use Rattle.std.proofs.lemmas.List.{take_all}
 use Rattle.sporc_delta.specs.Marks.{Mark}
-use Rattle.sporc_head.specs.History.{change_in}
 use Rattle.sporc_line.specs.Document.{text_after}
-use Rattle.sporc_client.specs.Log.{Logged, Edit, Change, Submit, Dropped, Accept, Discard, entries_by, journal_from, journal_of}
-use Rattle.sporc_client.specs.PlainClient.{Opening, PlainClient, opened, shown_after, shown_of}
 use Rattle.sporc_client.specs.Soundness.{IsSound}
 use Rattle.sporc_client.specs.Step.{accepted, change_comes, edit_comes, is_flight, own_comes, replay, replay_from, step}
 

@@ -1,17 +1,15 @@
 -- The shown text of a client is short, since each of its edits is.
 use Rattle.std.proofs.Common.{◌≡◌, ℕ, ◌*◌, ◌^◌, ◌≤◌, Bool, true, false, cond, List, [], ◌∷◌, length, drop, Option, None, Some, refl, arith}
+use Rattle.sporc_shared.proofs.Common.{change_in, Logged, Edit, Change, Submit, Dropped, Accept, Discard, Opening, PlainClient, committed_of, opened, shown_of}
 use Rattle.std.proofs.lemmas.Bool.{and_parts}
 use Rattle.std.proofs.Math.Nat.{mul-le-mul_left}
 use Rattle.std.specs.Option.{is_some}
 use Rattle.std.specs.Prelude.{is_none}
 use Rattle.sporc_base.specs.FirstFault.{first_of}
-use Rattle.sporc_head.specs.History.{change_in}
 use Rattle.sporc_line.proofs.FormLengths.{inserted_len-over}
 use Rattle.sporc_client.specs.declared.limits.TheConstants.{MAX_EDIT_BYTES, MAX_PENDING}
 use Rattle.sporc_client.specs.Allowed.{can_log, can_log_all, is_allowed}
 use Rattle.sporc_client.specs.Answers.{edit_checks, edit_fault}
-use Rattle.sporc_client.specs.Log.{Logged, Edit, Change, Submit, Dropped, Accept, Discard}
-use Rattle.sporc_client.specs.PlainClient.{Opening, PlainClient, committed_of, opened, shown_of}
 use Rattle.sporc_client.specs.Small.{AreShort}
 use Rattle.sporc_client.specs.Soundness.{IsSound}
 use Rattle.sporc_client.specs.Step.{accepted, change_comes, edit_comes, form_coming, is_flight, own_comes, replay, replay_from, restated, step}

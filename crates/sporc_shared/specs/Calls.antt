@@ -1,5 +1,6 @@
 -- One call of a shared client.
-use Rattle.std.specs.Prelude.{◌≡◌, ℕ, List, ◌++◌, map, Result}
+use Rattle.std.specs.Prelude.{◌≡◌, ℕ, List, [], ◌++◌, map, Option, Result}
+use Rattle.sporc_base.specs.FirstFault.{AnswersUnless}
 use Rattle.sporc_base.specs.Outcome.{GivesUnless}
 use Rattle.lms_leaf.specs.declared.faults.LeafFault.{LeafFault}
 use Rattle.sporc_turn.specs.declared.known.Known.{Known}
@@ -7,8 +8,10 @@ use Rattle.sporc_turn.specs.Log.{StartsWith, Agrees, own}
 use Rattle.sporc_client.specs.declared.fault.SubmitFault.{SubmitFault}
 use Rattle.sporc_client.specs.declared.fault.SubmitFault.TheVariants.{Memory}
 use Rattle.sporc_client.specs.declared.submitted.Submitted.{Submitted}
+use Rattle.sporc_client.specs.Answers.{added}
 use Rattle.sporc_client.specs.Drawing.{MayDraw}
 use Rattle.sporc_client.specs.Log.{Logged}
+use Rattle.sporc_client.specs.PlainClient.{PlainClient}
 use Rattle.sporc_client.specs.Submissions.{submission}
 use Rattle.sporc_shared.specs.Items.{Item, Happened, Past, IsAllowed, by_of, client_of, items_of}
 use Rattle.sporc_shared.specs.Items.{with_events}
@@ -30,6 +33,17 @@ pub record IsCall (k k' : Known Item) (before : Past) (added : List Logged) : Ty
       (k.mine ++ map Happened added)
   pub found : Agrees by_of k (items_of before)
   pub agrees : Agrees by_of k' (items_of (with_events before added))
+
+-- A call answered as a definition says of the client that it found, unless memory ran out. If it is
+-- Ok it added this event
+abbrev pub CallGives : {F : Type 0} → Known Item → Known Item → Logged → F
+    → (PlainClient → Option F) → Result ℕ F → Type 0
+CallGives k k' event memory fault answer = (before : Past) × IsCall k k' before (added answer event)
+    × AnswersUnless memory answer (fault (client_of before))
+
+-- a call added nothing, and this is so of the client that it found
+abbrev pub CallTells : Known Item → Known Item → (Past → Type 0) → Type 0
+CallTells k k' Is = (before : Past) × IsCall k k' before [] × Is before
 
 -- a submission's answer, by what the drawing of the leaf may have answered, if one was due
 pub record SubmitsAt (before : Past) (random : List ℕ)

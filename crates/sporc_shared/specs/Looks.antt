@@ -1,4 +1,4 @@
--- A client at a glance, and the key for an entry.
+-- A client at a glance, whose it is, and the key for an entry.
 use Rattle.std.specs.Prelude.{◌≡◌, ◌≤◌, ◌^◌, ℕ, List, Option, length}
 use Rattle.sporc_head.specs.declared.limits.TheConstants.{MAX_ENTRIES}
 use Rattle.sporc_head.specs.Examined.{key_for}
@@ -6,6 +6,7 @@ use Rattle.sporc_head.specs.History.{hash_of, roster_of}
 use Rattle.sporc_client.specs.Answers.{is_out}
 use Rattle.sporc_client.specs.PlainClient.{shown_after, shown_of}
 use Rattle.sporc_shared.specs.declared.look.Look.{Look}
+use Rattle.sporc_shared.specs.declared.membership.Membership.{Membership}
 use Rattle.sporc_shared.specs.Items.{Past, client_of}
 
 -- what is seen of a client with this past
@@ -19,6 +20,11 @@ pub record IsLookAt (past : Past) (look : Look) : Type 0 where
   pub short : look.len ≤ 2 ^ 36
   pub hash : look.hash ≡ hash_of past.opening.genesis (client_of past).entries
   pub removed : look.removed ≡ is_out (client_of past)
+
+-- whose a client with this past is
+abbrev pub membership_of : Past → Membership
+membership_of past =
+    record { document = past.opening.genesis.document; member = past.opening.kit.me.member }
 
 -- the key that the check of an entry's signature uses at a client with this past
 abbrev pub key_at : Past → List ℕ → Option (List ℕ)

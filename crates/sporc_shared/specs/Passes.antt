@@ -1,12 +1,10 @@
 -- What contracts say of a shared client, its passes and its replies.
-use Rattle.std.specs.Prelude.{◌≡◌, ◌+◌, length, Result, MatchResult, IfErr, IfOk, ⊤}
+use Rattle.std.specs.Prelude.{◌≡◌, ◌+◌, length, Result, MatchResult, IfErr, IfOk}
 use Rattle.sporc_turn.specs.declared.limits.TheConstants.{MAX_TICKETS}
 use Rattle.sporc_turn.specs.declared.pass.Pass.{Pass}
 use Rattle.sporc_turn.specs.declared.turn.Worn.{Worn}
-use Rattle.sporc_turn.specs.Passes.{known_of, read_of, IsWorn, IsPassOf as IsPassOfTurn}
+use Rattle.sporc_turn.specs.Passes.{known_of, read_of, IsPassOf as IsPassOfTurn}
 use Rattle.sporc_shared.specs.declared.answered.Answered.{Answered}
-use Rattle.sporc_shared.specs.declared.fault.SessionFault.{SessionFault}
-use Rattle.sporc_shared.specs.declared.fault.SessionFault.TheVariants as faults
 use Rattle.sporc_shared.specs.declared.shared_client.SharedClient.{SharedClient}
 use Rattle.sporc_shared.specs.Items.{Item}
 
@@ -28,8 +26,3 @@ HasFront reply = IfOk reply (λ r. r.front.events + 1 ≡ length (known_of r.pas
 abbrev pub IsWornOnErr : {A : Type 0} → Pass Item → Result (Answered A) (Pass Item × Worn) → Type 0
 IsWornOnErr pass reply = IfErr reply
     (λ e. (e.1.0 ≡ MAX_TICKETS) × (read_of e.0 ≡ e.1.0) × (known_of e.0 ≡ known_of pass))
-
--- if a session ended since no ticket was left, its pass has read that
-abbrev pub IsWornFor : Pass Item → SessionFault → Type 0
-IsWornFor pass (faults.Worn ticket) = IsWorn pass
-IsWornFor pass _ = ⊤

@@ -1,22 +1,21 @@
 //! What calls do to the client while it is out with a pass. Each answers, beside the call's answer,
 //! how many events the journal then has.
 
-ghost use Rattle.std.specs.Prelude.{◌≡◌, ◌≤◌, length, IfOk};
+ghost use Rattle.std.specs.Prelude.{◌≡◌, length, IfOk};
 ghost use Rattle.sporc_base.specs.FirstFault.{AnswersUnless};
 ghost use Rattle.sporc_client.specs.Answers.{accept_fault, added, change_fault, edit_fault};
 ghost use Rattle.sporc_client.specs.Log.{Accept as Accepted, Change as Changed, Edit as Edited};
 ghost use Rattle.sporc_client.specs.Submissions.{submission_added};
 ghost use Rattle.sporc_client.specs.Step.{is_flight};
 ghost use Rattle.sporc_turn.specs.Passes.{IsSameTurn, value_of};
-ghost use Rattle.sporc_wire.specs.declared.cutter.TheConstants.{MAX_BODY};
-ghost use Rattle.sporc_wire.specs.ToServer.{to_server_bytes};
 ghost use Rattle.sporc_shared.specs.Calls.{SubmitsAt};
 ghost use Rattle.sporc_shared.specs.Items.{IsAllowed, client_of, past_of, with_events};
-ghost use Rattle.sporc_shared.specs.Looks.{IsLookAt, key_at};
+ghost use Rattle.sporc_shared.specs.Looks.{IsLookAt, key_at, membership_of};
 
 use crate::desk::Desk;
 use crate::journal::count_events;
 use crate::look::{Look, look_at};
+use crate::membership::Membership;
 use sporc_base::is_same;
 use sporc_client::{AcceptFault, Client, EditFault, SubmitFault, Submitted};
 use sporc_delta::Delta;
@@ -24,7 +23,6 @@ use sporc_head::Examined;
 use sporc_member::Change;
 use sporc_outside::LeafDisk;
 use sporc_turn::Held;
-use sporc_wire::ToServer;
 
 // An edit of the text that was shown after so many events.
 #[tactic(auto, using(crate::proofs::Afters::past_added))]
@@ -190,27 +188,16 @@ fn has_on_its_way<D: LeafDisk>(client: &Client<D>, entry: &[u8]) -> bool
     }
 }
 
-// The Hello of the client's member, for its document.
-pub(crate) fn hello<D: LeafDisk>(held: &mut Held<Desk<D>>) -> (ToServer, u64)
+// Whose the client is.
+pub(crate) fn membership<D: LeafDisk>(held: &mut Held<Desk<D>>) -> (Membership, u64)
     ensures unchanged { held.new ≡ held.old }
-    ensures hello { let opening = (past_of (value_of held.old).client.value).opening in
-        result.0 ≡ ToServer.Hello opening.genesis.document opening.kit.me.member }
-    ensures within { length (to_server_bytes result.0) ≤ MAX_BODY }
+    ensures membership { result.0 ≡ membership_of (past_of (value_of held.old).client.value) }
     ensures allowed { IsAllowed (past_of (value_of held.old).client.value) }
     ensures events { result.1 ≡ length (past_of (value_of held.old).client.value).log }
 {
     let desk = held.value();
-    let greeting = hello_of(desk.client.document(), desk.client.me());
+    let document = *desk.client.document();
+    let member = desk.client.me();
     let events = count_events(&desk.client);
-    (greeting, events)
-}
-
-pub(crate) fn hello_of(document: &[u8; 16], member: u16) -> ToServer
-    ensures value { result ≡ ToServer.Hello document.now member }
-    ensures within { length (to_server_bytes result) ≤ MAX_BODY }
-{
-    ToServer::Hello {
-        document: *document,
-        member,
-    }
+    (Membership { document, member }, events)
 }

@@ -1,4 +1,4 @@
-//! A client that threads share, and its session with a server.
+//! A client that threads share.
 //!
 //! A [`SharedClient`] is a client under a lock whose holders take turns (`sporc_turn`). Who wants
 //! the client has a [`Pass`]; a call takes a turn, makes one event of the client or none, and gives
@@ -24,64 +24,30 @@
 //! let Answered { answer, front, pass } = shared.accept_examined(&rt, pass, 1, &examined)?;
 //! ```
 //!
-//! [`session`] has the client work with a server over a link: up to eight editors, each in a thread
-//! of its own, do the lines of their scripts, while a receiver pulls, accepts and submits in
-//! rounds; then the receiver goes on alone until nothing is pending and the history is long enough.
-//!
-//! ```text
-//! let (result, first) = session(&rt, alloc, &shared, first, &mut link, &mut chance, &scripts, 64, 0, &OpenGate);
-//! ```
-//!
-//! [`fetch`] needs no client: it takes all entries that a server has, unchecked, for a member who
-//! joins and reads its keys off them.
-//!
-//! ```text
-//! let entries = fetch(alloc, &mut link, &document, member)?;
-//! ```
-//!
 //! Proved, whatever the threads do between: each call answers what the plain client answers at one
 //! moment of one journal, which begins with all that the pass had seen and has the pass's own
 //! events, in order, and no others with its number; the call's event, if it made one, ends that
 //! journal, and the pass has seen it all. What `close` gives back is the client with the journal
 //! that its pass has seen, whose entries were signed by leaves from the opening's next one on, each
-//! once. Of a session, over any link, chance and editors: the messages, random words and events of
-//! the receiver, in the order of the table of its modes (`specs/Protocol.antt`); that each editor's
-//! events are its lines, in order, each once; why it ended; that its events are moves of a run of
-//! all clients of the document ([`laws`]). Of a fetch: its messages, that it gives all entries that
-//! came, and why it ended (`specs/Fetches.antt`). Only tested: that calls of two passes, sessions
-//! and fetches succeed with ample memory (`sporc_thread_tests`). Neither: that a turn comes, and
-//! whose turn comes first.
+//! once. Only tested: that calls of two passes succeed with ample memory (`sporc_thread_tests`).
+//! Neither: that a turn comes, and whose turn comes first.
 #![tactic(auto)]
 
 mod answered;
-mod crowd;
 mod desk;
-mod editor;
-mod entries;
-mod exchange;
-mod fault;
-mod fetches;
 mod front;
 mod held;
-mod inbox;
 mod item;
 mod journal;
-pub mod laws;
 mod look;
-mod phase;
-mod receiver;
-mod round;
-mod sessions;
+mod membership;
 mod shared_client;
 
 pub use crate::answered::{Answered, Reply};
-pub use crate::entries::Entries;
-pub use crate::fault::SessionFault;
-pub use crate::fetches::fetch;
 pub use crate::front::Front;
 pub use crate::item::{Item, Pass};
 pub use crate::look::Look;
-pub use crate::sessions::session;
+pub use crate::membership::Membership;
 pub use crate::shared_client::SharedClient;
 pub use sporc_base::Memory;
 pub use sporc_turn::{Away, Worn};

@@ -1,8 +1,7 @@
 //! Clients that threads share.
 
-ghost use Rattle.std.specs.Prelude.{◌≡◌, ◌≢◌, ◌+◌, ◌<◌, ◌≤◌, ◌^◌, max, [], length, IfErr, IfOk};
-ghost use Rattle.sporc_base.specs.FirstFault.{AnswersUnless};
-ghost use Rattle.sporc_client.specs.Answers.{accept_fault, added, change_fault, edit_fault};
+ghost use Rattle.std.specs.Prelude.{◌≡◌, ◌≢◌, ◌+◌, ◌<◌, ◌^◌, max, [], IfErr, IfOk};
+ghost use Rattle.sporc_client.specs.Answers.{accept_fault, change_fault, edit_fault};
 ghost use Rattle.sporc_client.specs.ClientModel.{Rise, leaves_of};
 ghost use Rattle.sporc_client.specs.Log.{Accept as Accepted, Change as Changed, Edit as Edited};
 ghost use Rattle.sporc_client.specs.Step.{is_flight};
@@ -11,11 +10,9 @@ ghost use Rattle.sporc_turn.specs.Knowing.{adding, copied, first_known, joined_w
 ghost use Rattle.sporc_turn.specs.Log.{Agrees, Extends, StartsWith};
 ghost use Rattle.sporc_turn.specs.Passes.{known_held, known_of, out_of, read_of, value_of};
 ghost use Rattle.sporc_turn.specs.Passes.{IsHeldOf};
-ghost use Rattle.sporc_wire.specs.declared.cutter.TheConstants.{MAX_BODY};
-ghost use Rattle.sporc_wire.specs.ToServer.{to_server_bytes};
-ghost use Rattle.sporc_shared.specs.Calls.{IsCall, SubmitsAt};
+ghost use Rattle.sporc_shared.specs.Calls.{CallGives, CallTells, IsCall, SubmitsAt};
 ghost use Rattle.sporc_shared.specs.Items.{IsAllowed, Past, by_of, client_of, items_of, past_of};
-ghost use Rattle.sporc_shared.specs.Looks.{IsLookAt, key_at};
+ghost use Rattle.sporc_shared.specs.Looks.{IsLookAt, key_at, membership_of};
 ghost use Rattle.sporc_shared.specs.Passes.{HasFront, IsPassOf, IsReplyOf, IsWornOnErr};
 
 use crate::answered::{Answered, Reply};
@@ -25,6 +22,7 @@ use crate::held;
 use crate::item::Pass;
 use crate::journal::count_events;
 use crate::look::Look;
+use crate::membership::Membership;
 use sporc_base::Memory;
 use sporc_client::{AcceptFault, Client, EditFault, SubmitFault, Submitted};
 use sporc_delta::Delta;
@@ -32,7 +30,6 @@ use sporc_head::Examined;
 use sporc_member::Change;
 use sporc_outside::LeafDisk;
 use sporc_turn::{Away, Held, Turn};
-use sporc_wire::ToServer;
 use std::alloc::{AllocError, AllocFailed, Global};
 use std::sync::Wait;
 
@@ -82,10 +79,9 @@ impl<D: LeafDisk> SharedClient<D> {
     ) -> Reply<Result<u64, EditFault>>
         requires lock { IsPassOf self.now pass }
         ensures lock { IsReplyOf self.now result }
-        ensures call { IfOk result (λ r. (before : Past) × IsCall (known_of pass) (known_of r.pass)
-            before (added r.answer (Edited (known_of pass).number seen.events delta.now))
-            × AnswersUnless EditFault.Memory r.answer
-            (edit_fault (client_of before) seen.events delta.now)) }
+        ensures call { IfOk result (λ r. CallGives (known_of pass) (known_of r.pass)
+            (Edited (known_of pass).number seen.events delta.now) EditFault.Memory
+            (λ client. edit_fault client seen.events delta.now) r.answer) }
         ensures ok { IfOk result (λ r. IfOk r.answer (λ n. n ≡ r.front.events)) }
         ensures front { HasFront result }
         ensures worn { IsWornOnErr pass result }
@@ -105,9 +101,8 @@ impl<D: LeafDisk> SharedClient<D> {
     ) -> Reply<Result<u64, EditFault>>
         requires lock { IsPassOf self.now pass }
         ensures lock { IsReplyOf self.now result }
-        ensures call { IfOk result (λ r. (before : Past) × IsCall (known_of pass)
-            (known_of r.pass) before (added r.answer (Changed (known_of pass).number change))
-            × AnswersUnless EditFault.Memory r.answer (change_fault (client_of before))) }
+        ensures call { IfOk result (λ r. CallGives (known_of pass) (known_of r.pass)
+            (Changed (known_of pass).number change) EditFault.Memory change_fault r.answer) }
         ensures ok { IfOk result (λ r. IfOk r.answer (λ n. n ≡ r.front.events)) }
         ensures front { HasFront result }
         ensures worn { IsWornOnErr pass result }
@@ -150,10 +145,9 @@ impl<D: LeafDisk> SharedClient<D> {
     ) -> Reply<Result<u64, AcceptFault>>
         requires lock { IsPassOf self.now pass }
         ensures lock { IsReplyOf self.now result }
-        ensures call { IfOk result (λ r. (before : Past) × IsCall (known_of pass)
-            (known_of r.pass) before (added r.answer (Accepted (known_of pass).number bytes.now))
-            × AnswersUnless AcceptFault.Memory r.answer
-            (accept_fault (client_of before) pos bytes.now)) }
+        ensures call { IfOk result (λ r. CallGives (known_of pass) (known_of r.pass)
+            (Accepted (known_of pass).number bytes.now) AcceptFault.Memory
+            (λ client. accept_fault client pos bytes.now) r.answer) }
         ensures ok { IfOk result (λ r. IfOk r.answer (λ n. n ≡ r.front.events)) }
         ensures front { HasFront result }
         ensures worn { IsWornOnErr pass result }
@@ -176,10 +170,9 @@ impl<D: LeafDisk> SharedClient<D> {
     ) -> Reply<Result<u64, AcceptFault>>
         requires lock { IsPassOf self.now pass }
         ensures lock { IsReplyOf self.now result }
-        ensures call { IfOk result (λ r. (before : Past) × IsCall (known_of pass) (known_of r.pass)
-            before (added r.answer (Accepted (known_of pass).number examined.now.entry))
-            × AnswersUnless AcceptFault.Memory r.answer
-            (accept_fault (client_of before) pos examined.now.entry)) }
+        ensures call { IfOk result (λ r. CallGives (known_of pass) (known_of r.pass)
+            (Accepted (known_of pass).number examined.now.entry) AcceptFault.Memory
+            (λ client. accept_fault client pos examined.now.entry) r.answer) }
         ensures ok { IfOk result (λ r. IfOk r.answer (λ n. n ≡ r.front.events)) }
         ensures front { HasFront result }
         ensures worn { IsWornOnErr pass result }
@@ -196,9 +189,8 @@ impl<D: LeafDisk> SharedClient<D> {
     pub fn key_for<R: Wait>(&self, rt: &R, pass: Pass, entry: &[u8]) -> Reply<Option<[u8; 56]>>
         requires lock { IsPassOf self.now pass }
         ensures lock { IsReplyOf self.now result }
-        ensures call { IfOk result (λ r. (before : Past)
-            × IsCall (known_of pass) (known_of r.pass) before []
-            × (r.answer ≡ key_at before entry.now)) }
+        ensures call { IfOk result (λ r. CallTells (known_of pass) (known_of r.pass)
+            (λ before. r.answer ≡ key_at before entry.now)) }
         ensures front { HasFront result }
         ensures worn { IsWornOnErr pass result }
     {
@@ -211,9 +203,8 @@ impl<D: LeafDisk> SharedClient<D> {
     pub fn look<R: Wait>(&self, rt: &R, pass: Pass) -> Reply<Look>
         requires lock { IsPassOf self.now pass }
         ensures lock { IsReplyOf self.now result }
-        ensures call { IfOk result (λ r. (before : Past)
-            × IsCall (known_of pass) (known_of r.pass) before []
-            × IsLookAt before r.answer) }
+        ensures call { IfOk result (λ r. CallTells (known_of pass) (known_of r.pass)
+            (λ before. IsLookAt before r.answer)) }
         ensures front { HasFront result }
         ensures worn { IsWornOnErr pass result }
     {
@@ -222,13 +213,13 @@ impl<D: LeafDisk> SharedClient<D> {
         Ok(self.give(seen, events, held))
     }
 
-    // Whether an entry is the one on its way.
-    pub(crate) fn is_flight<R: Wait>(&self, rt: &R, pass: Pass, entry: &[u8]) -> Reply<bool>
+    /// Whether an entry is the one on its way.
+    pub fn is_flight<R: Wait>(&self, rt: &R, pass: Pass, entry: &[u8]) -> Reply<bool>
         requires lock { IsPassOf self.now pass }
         ensures lock { IsReplyOf self.now result }
-        ensures call { IfOk result (λ r. (before : Past)
-            × IsCall (known_of pass) (known_of r.pass) before []
-            × (r.answer ≡ is_flight (client_of before) entry.now)) }
+        ensures call { IfOk result (λ r. CallTells (known_of pass) (known_of r.pass)
+            (λ before. r.answer ≡ is_flight (client_of before) entry.now)) }
+        ensures front { HasFront result }
         ensures worn { IsWornOnErr pass result }
     {
         let mut held = self.turn.take(rt, pass)?;
@@ -236,19 +227,18 @@ impl<D: LeafDisk> SharedClient<D> {
         Ok(self.give(is, events, held))
     }
 
-    // The Hello of the client's member, for its document.
-    pub(crate) fn hello<R: Wait>(&self, rt: &R, pass: Pass) -> Reply<ToServer>
+    /// Whose the client is.
+    pub fn membership<R: Wait>(&self, rt: &R, pass: Pass) -> Reply<Membership>
         requires lock { IsPassOf self.now pass }
         ensures lock { IsReplyOf self.now result }
-        ensures call { IfOk result
-            (λ r. (before : Past) × IsCall (known_of pass) (known_of r.pass) before [] × (r.answer
-            ≡ ToServer.Hello before.opening.genesis.document before.opening.kit.me.member)) }
-        ensures within { IfOk result (λ r. length (to_server_bytes r.answer) ≤ MAX_BODY) }
+        ensures call { IfOk result (λ r. CallTells (known_of pass) (known_of r.pass)
+            (λ before. r.answer ≡ membership_of before)) }
+        ensures front { HasFront result }
         ensures worn { IsWornOnErr pass result }
     {
         let mut held = self.turn.take(rt, pass)?;
-        let (greeting, events) = held::hello(&mut held);
-        Ok(self.give(greeting, events, held))
+        let (whose, events) = held::membership(&mut held);
+        Ok(self.give(whose, events, held))
     }
 
     // Gives the client back after a call.

@@ -1,10 +1,7 @@
 -- Verdicts on entries, one after another.
 use Rattle.std.proofs.Common.{◌≡◌, ℕ, zero, suc, ◌+◌, ◌<◌, ◌≤◌, List, [], ◌∷◌, ◌++◌, length, take, get_or, Option, refl, sym, ap, ◌∙◌, subst, arith}
-use Rattle.std.specs.Prelude.{IfSome}
-use Rattle.std.proofs.lemmas.List.{get_or-take, length-take-le, take_all, take_more}
-use Rattle.sporc_head.specs.declared.examined.Verdict.{Verdict}
+use Rattle.sporc_store.proofs.Common.{IfSome, get_or-take, length-take-le, take_all, take_more, Verdict, AreExact}
 use Rattle.sporc_head.specs.Examined.{IsExact}
-use Rattle.sporc_store.specs.Verdicts.{AreExact}
 
 -- those on some entries, and those on others behind them
 pub exact_both : (vs ws : List (Option Verdict)) (es fs : List (List ℕ)) → AreExact vs es → AreExact ws fs → AreExact (vs ++ ws) (es ++ fs)

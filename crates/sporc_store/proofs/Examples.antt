@@ -1,13 +1,12 @@
 -- Worked examples of the definitions.
 use Rattle.std.proofs.Common.{◌≡◌, ℕ, List, [], ◌∷◌, ◌++◌, take, refl}
+use Rattle.sporc_store.proofs.Common.{Genesis, End, Foreign, Cut, Refused, read_to, an_order, loaded}
 use Rattle.sporc_bytes.specs.Fields.{bytes_at, number_at, counted_at, number_within}
-use Rattle.sporc_entry.specs.declared.genesis.Genesis.{Genesis}
 use Rattle.sporc_entry.specs.Entry.{entry_of, header_at}
 use Rattle.sporc_head.specs.declared.refusal.Refusal.TheVariants.{Malformed}
 use Rattle.sporc_head.specs.HeadChecks.{head_fault}
-use Rattle.sporc_store.specs.declared.stop.Stop.TheVariants.{End, Foreign, Cut, Refused}
-use Rattle.sporc_store.specs.SavedFile.{read_to, entries_at, count_at, opened, saved_in, saved_bytes}
-use Rattle.sporc_store.specs.Loading.{an_order, fault_behind, accepted_behind, loaded}
+use Rattle.sporc_store.specs.SavedFile.{entries_at, count_at, opened, saved_in, saved_bytes}
+use Rattle.sporc_store.specs.Loading.{fault_behind, accepted_behind}
 
 -- a document, and two entries: "ab" and "c"
 abbrev pub document : List ℕ

@@ -14,3 +14,4 @@ pub mod TailRunning
 pub mod TailSettles
 pub mod TailSteps
 pub mod TailWrites
+pub mod Common

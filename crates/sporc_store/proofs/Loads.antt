@@ -1,21 +1,16 @@
 -- A history that was accepted and saved is loaded whole.
 use Rattle.std.proofs.Common.{◌≡◌, ℕ, zero, suc, ◌+◌, ◌<◌, ◌≤◌, ◌^◌, ◌⊎◌, inl, inr, List, [], ◌∷◌, ◌++◌, length, take, None, Some, refl, sym, ap, ◌∙◌, subst, arith, length-append}
-use Rattle.std.specs.List.{All, slice_get}
-use Rattle.std.proofs.lemmas.List.{length-take-le, take-append-le}
-use Rattle.std.proofs.Math.Seq.{take-append-add}
+use Rattle.sporc_store.proofs.Common.{All, slice_get, length-take-le, take-append-le, take-append-add, Genesis, MAX_ENTRIES, End, Taken, read_to, saved_bytes, AreAccepted, Checker, an_order, accepted}
+use Rattle.sporc_store.proofs.Common.{accepted_from, loaded}
 use Rattle.std.proofs.lemmas.Option.{slice_get_within}
-use Rattle.sporc_entry.specs.declared.genesis.Genesis.{Genesis}
 use Rattle.sporc_entry.specs.declared.limits.TheConstants.{MAX_ENTRY}
 use Rattle.sporc_entry.specs.Genesis.{IsGenesis}
-use Rattle.sporc_head.specs.declared.limits.TheConstants.{MAX_ENTRIES}
 use Rattle.sporc_head.specs.HeadChecks.{head_fault}
 use Rattle.sporc_line.proofs.Lists.{slice_get_push, take_front}
 use Rattle.sporc_line.specs.Kit.{Kit}
 use Rattle.sporc_line.specs.Good.{Good}
 use Rattle.sporc_line.specs.LineChecks.{first_fault}
-use Rattle.sporc_store.specs.declared.stop.Stop.TheVariants.{End}
-use Rattle.sporc_store.specs.SavedFile.{Taken, read_to, saved_bytes}
-use Rattle.sporc_store.specs.Loading.{AreAccepted, Checker, an_order, a_member, fault_behind, accepted, accepted_from, loaded}
+use Rattle.sporc_store.specs.Loading.{a_member, fault_behind}
 use Rattle.sporc_store.proofs.Prefixes.{all_accepted}
 use Rattle.sporc_store.proofs.SavedLaws.{read_again}
 

@@ -1,13 +1,8 @@
 -- What is loaded is the longest prefix that is accepted.
 use Rattle.std.proofs.Common.{◌≡◌, ℕ, zero, suc, ◌+◌, List, [], ◌∷◌, ◌++◌, length, take, Option, None, Some, refl, sym, ap, ◌∙◌, subst, append_assoc, arith, length-append}
-use Rattle.std.specs.Prelude.{IsSomeAnd}
-use Rattle.std.specs.List.{slice_get}
-use Rattle.std.proofs.lemmas.List.{append-nil}
+use Rattle.sporc_store.proofs.Common.{IsSomeAnd, slice_get, append-nil, Stop, Refused, Taken, read_to, first_and, IsPrefix, Checker}
 use Rattle.sporc_head.specs.declared.refusal.Refusal.{Refusal}
-use Rattle.sporc_store.specs.declared.stop.Stop.{Stop}
-use Rattle.sporc_store.specs.declared.stop.Stop.TheVariants.{Refused}
-use Rattle.sporc_store.specs.SavedFile.{Taken, read_to, first_and, IsPrefix}
-use Rattle.sporc_store.specs.Loading.{Checker, fault_behind, accepted_behind, unless_refused}
+use Rattle.sporc_store.specs.Loading.{fault_behind, accepted_behind, unless_refused}
 
 -- behind these entries, these of those that follow are taken
 pub record IsLongest (checker : Checker) (before es : List (List ℕ)) (stop : Stop) (taken : Taken) : Type 0 where

@@ -1,16 +1,11 @@
 -- How many bytes the file of a history has.
 use Rattle.std.proofs.Common.{◌≡◌, ℕ, ◌+◌, ◌<◌, ◌≤◌, List, ◌++◌, length, map, Ok, Err, refl, sym, ap, ◌∙◌, append_assoc, arith, length-append}
-use Rattle.std.proofs.lemmas.Bool.{lt-ltb, le-ltb}
-use Rattle.std.proofs.lemmas.List.{length-map}
+use Rattle.sporc_store.proofs.Common.{lt-ltb, le-ltb, length-map, flat_map, w32, to_be_bytes, MAX_FILE, counted, head_bytes, saved_file}
 use Rattle.std.proofs.lemmas.List.Folds.{flat_map-map}
 use Rattle.std.specs.Global.{Vec}
-use Rattle.std.specs.List.{flat_map}
-use Rattle.std.specs.Int.{w32, to_be_bytes}
-use Rattle.sporc_outside.specs.declared.file_fault.TheConstants.{MAX_FILE}
-use Rattle.sporc_bytes.specs.Fields.{counted}
 use Rattle.sporc_wire.specs.Messages.{counted_to_end}
 use Rattle.sporc_store.specs.declared.fault.SaveFault.TheVariants.{TooLong}
-use Rattle.sporc_store.specs.SavedFile.{head_bytes, saved_bytes, saved_file}
+use Rattle.sporc_store.specs.SavedFile.{saved_bytes}
 
 abbrev pub items : Vec ℕ → List ℕ
 items v = v.items

@@ -1,8 +1,8 @@
 -- Worked examples of tails.
 use Rattle.std.proofs.Common.{◌≡◌, ℕ, List, [], ◌∷◌, ◌++◌, take, Ok, Err, refl}
+use Rattle.sporc_store.proofs.Common.{Malformed, taken_to}
 use Rattle.sporc_bytes.specs.Fields.{bytes_at, number_at}
-use Rattle.sporc_store.specs.declared.tail_fault.TailFault.TheVariants.{Malformed}
-use Rattle.sporc_store.specs.TailBytes.{record_at, records_behind, tail_behind, tail_bytes, taken_to}
+use Rattle.sporc_store.specs.TailBytes.{record_at, records_behind, tail_behind, tail_bytes}
 use Rattle.sporc_store.proofs.Examples.{document, ab, c}
 
 -- the log as the tail began: one entry

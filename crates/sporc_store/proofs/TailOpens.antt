@@ -1,20 +1,10 @@
 -- What is read of a tail's file and taken behind an order's entries, and why it is not.
-use Rattle.std.proofs.Common.{◌≡◌, ℕ, zero, suc, ◌+◌, ◌<◌, ◌≤◌, List, [], ◌∷◌, ◌++◌, length, Option, Some, None, Result, Ok, Err, refl, sym, ap, ◌∙◌, subst, arith, append-nil, length-append}
-use Rattle.std.specs.Prelude.{IfSome, IsSome, OnErr}
-use Rattle.std.proofs.lemmas.List.{take_all}
-use Rattle.sporc_entry.specs.declared.genesis.Genesis.{Genesis}
-use Rattle.sporc_outside.specs.AppendFile.{AppendTold, IsWholeFault, file_images}
+use Rattle.std.proofs.Common.{◌≡◌, ℕ, zero, suc, ◌+◌, ◌<◌, List, [], ◌∷◌, ◌++◌, length, Option, Some, None, Result, Ok, Err, refl, sym, ap, ◌∙◌, subst, arith, append-nil, length-append}
+use Rattle.sporc_store.proofs.Common.{IfSome, IsSome, OnErr, take_all, AppendTold, IsWholeFault, file_images, MAX_FILE, Stop, End, Foreign, Cut, RefusedAt, TailFault, AppendsPart, Checker}
+use Rattle.sporc_store.proofs.Common.{accepted_behind, accepted_from, Taken, read_to, Gives, AreSynced, IsFaultOf, IsRefusal, StaysFound, TellsStill}
 use Rattle.sporc_outside.specs.declared.file_fault.FileFault.TheVariants as files
-use Rattle.sporc_outside.specs.declared.file_fault.TheConstants.{MAX_FILE}
-use Rattle.sporc_store.specs.declared.stop.Stop.{Stop}
-use Rattle.sporc_store.specs.declared.stop.Stop.TheVariants.{End, Foreign, Cut, Refused as RefusedAt}
-use Rattle.sporc_store.specs.declared.tail_fault.TailFault.{TailFault}
-use Rattle.sporc_store.specs.declared.tail_fault.TailFault.TheVariants.{Failed, TooLong, Malformed, Refused, Memory}
-use Rattle.sporc_store.specs.Loading.{AppendsPart, Checker, accepted_behind, accepted_from, an_order}
-use Rattle.sporc_store.specs.SavedFile.{Taken, read_to}
-use Rattle.sporc_store.specs.TailBytes.{Gives, IsUnread, TailTaken, tail_behind}
-use Rattle.sporc_store.specs.TailFiles.{AreSynced, IsFaultOf, IsRefusal, IsTakingFault, StaysFound, TellsStill}
-use Rattle.sporc_store.specs.TailReadings.{AreTold, IsFaultOfRead, IsReadingFault, StaysTold}
+use Rattle.sporc_store.specs.declared.tail_fault.TailFault.TheVariants.{TooLong}
+use Rattle.sporc_store.specs.TailReadings.{AreTold, IsReadingFault, StaysTold}
 use Rattle.sporc_store.proofs.Prefixes.{is_longest}
 use Rattle.sporc_store.proofs.Taking.{ends_empty}
 
@@ -54,46 +44,6 @@ some_long (suc n) =
 pub too_long : (stored : Option (List ℕ)) (before after len : ℕ) → IsWholeFault stored before after (files.TooLong len) → IsReadingFault stored before after (TooLong len)
 too_long None before after len h = let long = some_long MAX_FILE in (long.0, tt, long.1)
 too_long (Some bytes) before after len h = (bytes, refl, omega (arith, h.0, h.1))
-
--- such a fault of reading, after a call that failed less often, where the bytes told are the same
-pub reading_later : (old stored : Option (List ℕ)) (before mid after : ℕ) (fault : TailFault) → stored ≡ old → before ≤ mid → IsReadingFault stored mid after fault
-    → IsReadingFault old before after fault
-reading_later old stored before mid after Failed same le h = omega (arith, le, h)
-reading_later old stored before mid after (TooLong len) same le (bytes, told, long) = (bytes, subst (λ (o : Option (List ℕ)). AreTold o bytes) same told, long)
-reading_later old stored before mid after Memory same le h = tt
-reading_later old stored before mid after (Malformed at) same le h = absurd h
-reading_later old stored before mid after (Refused position refusal) same le h = absurd h
-
-pub reading_why : (genesis : Genesis) (log : List (List ℕ)) (stored : Option (List ℕ)) (before after : ℕ) (fault : TailFault) → IsReadingFault stored before after fault
-    → IsFaultOfRead genesis log stored before after fault
-reading_why genesis log stored before after Failed h = h
-reading_why genesis log stored before after (TooLong len) h = h
-reading_why genesis log stored before after Memory h = tt
-reading_why genesis log stored before after (Malformed at) h = absurd h
-reading_why genesis log stored before after (Refused position refusal) h = absurd h
-
-pub unread_why : (genesis : Genesis) (log : List (List ℕ)) (tail : Result TailTaken TailFault) (fault : TailFault) → IsUnread tail fault → IsTakingFault genesis log tail fault
-unread_why genesis log tail Failed h = absurd h
-unread_why genesis log tail (TooLong len) h = absurd h
-unread_why genesis log tail Memory h = tt
-unread_why genesis log tail (Malformed at) h = h
-unread_why genesis log tail (Refused position refusal) h = absurd h
-
-pub refusal_why : (genesis : Genesis) (log : List (List ℕ)) (tail : Result TailTaken TailFault) (taken : TailTaken) (fault : TailFault) → tail ≡ Ok taken
-    → IsRefusal (accepted_from (an_order genesis) log taken.entries End) fault → IsTakingFault genesis log tail fault
-refusal_why genesis log tail taken Failed is h = absurd h
-refusal_why genesis log tail taken (TooLong len) is h = absurd h
-refusal_why genesis log tail taken Memory is h = tt
-refusal_why genesis log tail taken (Malformed at) is h = absurd h
-refusal_why genesis log tail taken (Refused position refusal) is h = (taken, is, h)
-
-pub taking_why : (genesis : Genesis) (log : List (List ℕ)) (stored : Option (List ℕ)) (before after : ℕ) (bytes : List ℕ) (fault : TailFault) → AreTold stored bytes
-    → length bytes ≤ MAX_FILE → IsTakingFault genesis log (tail_behind log genesis.document bytes) fault → IsFaultOfRead genesis log stored before after fault
-taking_why genesis log stored before after bytes Failed told small h = absurd h
-taking_why genesis log stored before after bytes (TooLong len) told small h = absurd h
-taking_why genesis log stored before after bytes Memory told small h = tt
-taking_why genesis log stored before after bytes (Malformed at) told small h = (bytes, told, small, h)
-taking_why genesis log stored before after bytes (Refused position refusal) told small (taken, reads, stop) = (bytes, told, small, taken, reads, stop)
 
 -- ---- what is told
 

@@ -1,11 +1,6 @@
 -- What a tail keeps once an entry was put.
 use Rattle.std.proofs.Common.{◌≡◌, ℕ, ◌+◌, ◌-◌, ◌^◌, ◌<◌, inr, true, false, List, [], ◌∷◌, ◌++◌, length, take, Result, Ok, Err, OnOk, OnErr, sym, ap, ◌∙◌, arith, append-nil, append_assoc}
-use Rattle.std.proofs.lemmas.List.{length-append}
-use Rattle.std.proofs.lemmas.List.Elements.{All-append, All-cons, All-nil}
-use Rattle.std.specs.List.{All}
-use Rattle.sporc_outside.specs.AppendFile.{AppendTold, file_images}
-use Rattle.sporc_store.specs.TailBytes.{FitsRecord, record_bytes, tail_bytes}
-use Rattle.sporc_store.specs.TailFiles.{KeepsEntries, Puts, TailFileModel, Writes}
+use Rattle.sporc_store.proofs.Common.{length-append, All-append, All-cons, All-nil, All, AppendTold, file_images, FitsRecord, record_bytes, tail_bytes, KeepsEntries, Puts, TailFileModel, Writes}
 use Rattle.sporc_store.proofs.TailReads.{tail_more}
 
 module _ {D : Type 0} (file_told : D → AppendTold) where

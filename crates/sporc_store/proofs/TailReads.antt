@@ -1,20 +1,9 @@
 -- A tail that was written is read again behind a log, also where its last record is cut.
 use Rattle.std.proofs.Common.{◌≡◌, ℕ, zero, suc, ◌+◌, ◌-◌, ◌^◌, ◌<◌, ◌≤◌, ◌⊎◌, inl, inr, Bool, true, false, leb, eqb, List, [], ◌∷◌, ◌++◌, length, take, drop, Result, Ok, refl, sym, ap, ◌∙◌, subst, arith, append-nil, append_assoc}
-use Rattle.std.proofs.lemmas.Bool.{le-leb, cases_lt}
-use Rattle.std.proofs.lemmas.Bool.Decides.{Decides-eqb}
-use Rattle.std.proofs.lemmas.List.{length-append, length-take, take_all, take_at, drop_at, take-append-drop}
-use Rattle.std.proofs.lemmas.List.Elements.{All-append, All-cons, All-nil}
-use Rattle.std.proofs.lemmas.Slice.Eq.{starts_is}
-use Rattle.std.proofs.Math.Seq.{take-append-add}
-use Rattle.std.specs.List.{All, starts_with}
-use Rattle.std.specs.Int.{w32, to_be_bytes}
-use Rattle.sporc_bytes.specs.Fields.{number_at}
-use Rattle.sporc_bytes.proofs.Fields.{u32_again}
-use Rattle.sporc_store.specs.declared.tail_fault.TailFault.{TailFault}
-use Rattle.sporc_store.specs.declared.tail_head.TheConstants.{TAIL_HEAD_LEN}
-use Rattle.sporc_store.specs.SavedFile.{IsPrefix}
-use Rattle.sporc_store.specs.TailBytes.{Agree, FitsRecord, Gives, IsTail, Recovers, TailTaken, record_bytes, records_bytes, records_of, tail_behind, tail_bytes, tail_head, taken_to}
-use Rattle.sporc_store.specs.TailFiles.{Between}
+use Rattle.sporc_store.proofs.Common.{le-leb, cases_lt, Decides-eqb, length-append, length-take, take_all, take_at, drop_at, take-append-drop, All-append, All-cons, All-nil, starts_is}
+use Rattle.sporc_store.proofs.Common.{take-append-add, All, starts_with, w32, to_be_bytes, number_at, u32_again, TailFault, TAIL_HEAD_LEN, IsPrefix, Agree, FitsRecord, Gives, IsTail, Recovers}
+use Rattle.sporc_store.proofs.Common.{TailTaken, record_bytes, records_bytes, records_of, tail_head, taken_to, Between}
+use Rattle.sporc_store.specs.TailBytes.{tail_behind, tail_bytes}
 use Rattle.sporc_store.proofs.TailRecords.{number_short, reading, record_len, records_again, records_few, records_more}
 
 pub head_len : (document : List ℕ) → length document ≡ 16 → length (tail_head document) ≡ TAIL_HEAD_LEN

@@ -1,22 +1,14 @@
 -- Records that are written are read again, also where the last one is cut, and those that are read were written so.
 use Rattle.std.proofs.Common.{◌≡◌, ℕ, zero, suc, ◌+◌, ◌-◌, ◌^◌, ◌<◌, ◌≤◌, ◌⊎◌, inl, inr, Bool, true, false, cond, leb, eqb, List, [], ◌∷◌, ◌++◌, length, take, drop, Result, Ok, Err, refl, sym, ap, ◌∙◌, subst, arith, append-nil, append_assoc}
-use Rattle.std.proofs.lemmas.Bool.{le-leb, leb-true, lt-ltb, eq-eqb, eqb-true, cases_lt}
-use Rattle.std.proofs.lemmas.List.{length-append, length-take}
-use Rattle.std.proofs.lemmas.List.Elements.{All-head, All-tail, All-cons, All-nil}
-use Rattle.std.proofs.lemmas.Slice.Eq.{bytes_eq-Decides}
-use Rattle.std.proofs.Math.Seq.{take-append-add}
-use Rattle.std.specs.List.{All}
-use Rattle.std.specs.Int.{w32, to_be_bytes}
+use Rattle.sporc_store.proofs.Common.{le-leb, leb-true, lt-ltb, eq-eqb, eqb-true, cases_lt, length-append, length-take, All-head, All-tail, All-cons, All-nil, bytes_eq-Decides, take-append-add, All}
+use Rattle.sporc_store.proofs.Common.{w32, to_be_bytes, IsBytes, Reading, ◌>>=◌, fault_as, only_if, counted, bind_ok, fault_as_ok, ok_is, only_if_ok, Takes, Takes-then, wide32, number_takes}
+use Rattle.sporc_store.proofs.Common.{u32_again, bytes_again, bytes_takes, TailFault, Malformed, Agree, FitsRecord, TailTaken, record_bytes, records_bytes, taken_to}
 use Rattle.std.specs.Str.{bytes_eq}
-use Rattle.sporc_base.specs.Bytes.{IsBytes}
-use Rattle.sporc_bytes.specs.Fields.{Reading, ◌>>=◌, fault_as, bytes_at, number_at, only_if, counted}
-use Rattle.sporc_bytes.proofs.Fields.{bind_ok, fault_as_ok, ok_is, only_if_ok, Takes, Takes-then, wide32, number_takes, u32_again, bytes_again, bytes_takes}
+use Rattle.sporc_bytes.specs.Fields.{bytes_at, number_at}
 use Rattle.sporc_entry.specs.declared.limits.TheConstants.{MAX_ENTRY}
-use Rattle.sporc_store.specs.declared.tail_fault.TailFault.{TailFault}
-use Rattle.sporc_store.specs.declared.tail_fault.TailFault.TheVariants.{Malformed}
 use Rattle.sporc_store.specs.declared.tail_reading.RecordEnd.{RecordEnd}
 use Rattle.sporc_store.specs.declared.tail_reading.RecordEnd.TheVariants.{Cut, Misfit}
-use Rattle.sporc_store.specs.TailBytes.{Agree, FitsRecord, TailTaken, entry_and_tail, kept_and, record_and, record_at, record_bytes, records_behind, records_bytes, taken_to}
+use Rattle.sporc_store.specs.TailBytes.{entry_and_tail, kept_and, record_and, record_at, records_behind}
 
 abbrev pub reading : List ℕ → ℕ → Reading
 reading rest at = record { rest = rest; at = at }

@@ -1,15 +1,8 @@
 -- Nothing that was ordered is lost in a run of a server over one log and its tail, and an order can always begin again.
 use Rattle.std.proofs.Common.{◌≡◌, ℕ, zero, suc, ◌+◌, ◌^◌, ◌<◌, ◌≤◌, ◌⊎◌, inl, inr, false, List, [], ◌∷◌, ◌++◌, length, take, Option, Some, None, Result, Ok, Err, refl, sym, ap, ◌∙◌, subst, arith, append-nil, append_assoc}
-use Rattle.std.specs.Prelude.{IfSome}
-use Rattle.std.proofs.lemmas.List.{length-append, length-take}
-use Rattle.sporc_bytes.proofs.Fields.{ok_is}
-use Rattle.sporc_entry.specs.declared.genesis.Genesis.{Genesis}
+use Rattle.sporc_store.proofs.Common.{IfSome, length-append, length-take, ok_is, Genesis, AppendTold, IsFileFound, file_images, AreAccepted, IsPrefix, FitsRecord, Gives, GivesSame, IsTail, Recovers}
+use Rattle.sporc_store.proofs.Common.{TailTaken, record_bytes, tail_behind, tail_bytes, Between, Keeps, OpensBehind, Puts, RecoversAt, StaysFound, TailFileModel, TakesTail}
 use Rattle.sporc_order.specs.declared.tail.Unkept.{Unkept}
-use Rattle.sporc_outside.specs.AppendFile.{AppendTold, IsFileFound, file_images}
-use Rattle.sporc_store.specs.Loading.{AreAccepted}
-use Rattle.sporc_store.specs.SavedFile.{IsPrefix}
-use Rattle.sporc_store.specs.TailBytes.{FitsRecord, Gives, GivesSame, IsTail, Recovers, TailTaken, record_bytes, tail_behind, tail_bytes}
-use Rattle.sporc_store.specs.TailFiles.{Between, Keeps, OpensBehind, Puts, RecoversAt, StaysFound, TailFileModel, TakesTail}
 use Rattle.sporc_store.specs.TailRuns.{TailMove, Open, OpenFailed, OpenCut, Put, PutCut, Save, End, Remake, Stop, TailState, after_move, after_moves, held_then, MayOpen, MayMove, IsTailRun, IsChecked, IsCheckedRun, CanBegin, Begins}
 use Rattle.sporc_store.proofs.Loads.{accepted_more, takes_behind}
 use Rattle.sporc_store.proofs.TailReads.{at_least, gives, head_gives, is_prefix, prefix_same, shorter_take, tail_more}

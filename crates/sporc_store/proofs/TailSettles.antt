@@ -1,28 +1,13 @@
 -- A tail's file that was read behind a log, and is made one that is appended to.
 use Rattle.std.proofs.Common.{◌≡◌, ℕ, zero, suc, ◌+◌, ◌-◌, ◌^◌, ◌<◌, ◌≤◌, ◌⊎◌, inl, inr, Bool, true, false, cond, leb, List, [], ◌∷◌, ◌++◌, length, take, drop, eqb, Result, Ok, Err, refl, sym, ap, ◌∙◌, subst, arith, append-nil, append_assoc}
-use Rattle.std.specs.Prelude.{◌&&◌, OnOk}
-use Rattle.std.proofs.lemmas.Bool.{cases_lt, leb-true, and_parts}
-use Rattle.std.proofs.lemmas.Bool.Decides.{Decides-eqb}
-use Rattle.std.proofs.lemmas.List.{length-append, length-drop, length-take, take_all, take_at, drop_at, take-append-drop}
-use Rattle.std.proofs.Math.Seq.{take-nil}
-use Rattle.std.proofs.lemmas.List.Elements.{All-nil}
-use Rattle.std.proofs.lemmas.Slice.Eq.{starts_is}
-use Rattle.std.specs.List.{All, starts_with}
-use Rattle.std.specs.Int.{w32}
-use Rattle.sporc_base.specs.Bytes.{IsBytes}
+use Rattle.sporc_store.proofs.Common.{◌&&◌, OnOk, cases_lt, leb-true, and_parts, Decides-eqb, length-append, length-drop, length-take, take_all, take_at, drop_at, take-append-drop, take-nil, All-nil}
+use Rattle.sporc_store.proofs.Common.{starts_is, All, starts_with, w32, IsBytes, Reading, number_at, ok_is, MAX_ENTRIES, AppendTold, GrowsBy, MayBeCut, FileSteps, file_images, MAX_FILE, TailFault}
+use Rattle.sporc_store.proofs.Common.{Malformed, TAIL_HEAD_LEN, Agree, FitsRecord, Gives, GivesSame, IsTail, TailTaken, behind_head, records_behind, records_bytes, records_of, tail_head, taken_to}
+use Rattle.sporc_store.proofs.Common.{AreSynced, Between, Cuts, OpensBehind, Settles, StaysFound, Writes, counting, counting_of, head_behind, tail_on}
 use Rattle.sporc_base.proofs.ByteLemmas.{IsBytes-drop}
-use Rattle.sporc_bytes.specs.Fields.{Reading, number_at}
-use Rattle.sporc_bytes.proofs.Fields.{ok_is}
-use Rattle.sporc_head.specs.declared.limits.TheConstants.{MAX_ENTRIES}
-use Rattle.sporc_outside.specs.AppendFile.{AppendTold, GrowsBy, MayBeCut, FileSteps, file_images}
 use Rattle.sporc_outside.specs.LeafDisk.{IsSame}
-use Rattle.sporc_outside.specs.declared.file_fault.TheConstants.{MAX_FILE}
 use Rattle.sporc_outside.specs.Uses.{use_of}
-use Rattle.sporc_store.specs.declared.tail_fault.TailFault.{TailFault}
-use Rattle.sporc_store.specs.declared.tail_fault.TailFault.TheVariants.{Malformed}
-use Rattle.sporc_store.specs.declared.tail_head.TheConstants.{TAIL_HEAD_LEN}
-use Rattle.sporc_store.specs.TailBytes.{Agree, FitsRecord, Gives, GivesSame, IsTail, TailTaken, behind_head, records_behind, records_bytes, records_of, tail_behind, tail_bytes, tail_head, taken_to}
-use Rattle.sporc_store.specs.TailFiles.{AreSynced, Between, Cuts, OpensBehind, Settles, StaysFound, Writes, counting, counting_of, head_behind, tail_on}
+use Rattle.sporc_store.specs.TailBytes.{tail_behind, tail_bytes}
 use Rattle.sporc_store.proofs.TailReads.{gives_whole, head_gives, head_len, head_reads}
 use Rattle.sporc_store.proofs.TailRecords.{TakesRecords, records_few, records_take}
 use Rattle.sporc_store.proofs.TailRunning.{gives_taken}

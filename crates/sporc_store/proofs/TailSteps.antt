@@ -1,13 +1,9 @@
 -- Records of a tail, taken one after another as a loop does.
 use Rattle.std.proofs.Common.{◌≡◌, ℕ, suc, ◌+◌, ◌-◌, ◌<◌, ◌≤◌, List, [], ◌++◌, length, take, drop, Bool, true, false, cond, ltb, leb, Result, Ok, Err, refl, sym, ap, ◌∙◌, subst, arith, append-nil}
-use Rattle.std.proofs.lemmas.Bool.{le-leb, ltb-false}
-use Rattle.std.proofs.lemmas.List.{length-drop, take_all}
-use Rattle.std.specs.Int.{w32, from_be_bytes}
-use Rattle.sporc_bytes.specs.Fields.{Reading, bytes_at, number_at, past}
-use Rattle.sporc_bytes.proofs.Fields.{bind_ok, ok_is}
-use Rattle.sporc_store.specs.declared.tail_fault.TailFault.{TailFault}
-use Rattle.sporc_store.specs.declared.tail_head.TheConstants.{TAIL_HEAD_LEN}
-use Rattle.sporc_store.specs.TailBytes.{GoesOn, TailTaken, behind_head, behind_taken, records_behind, records_of, taken_to}
+use Rattle.sporc_store.proofs.Common.{le-leb, ltb-false, length-drop, take_all, w32, from_be_bytes, Reading, bind_ok, ok_is, TailFault, TAIL_HEAD_LEN, GoesOn, TailTaken, behind_head, behind_taken}
+use Rattle.sporc_store.proofs.Common.{records_of, taken_to}
+use Rattle.sporc_bytes.specs.Fields.{bytes_at, number_at, past}
+use Rattle.sporc_store.specs.TailBytes.{records_behind}
 
 -- what is taken in all: these entries, and what stands in the records behind
 abbrev pub taken_from : List (List ℕ) → ℕ → List (List ℕ) → ℕ → Reading → Result TailTaken TailFault

@@ -1,11 +1,8 @@
 -- What a call and the sync behind it do together to what a crash may leave.
 use Rattle.std.proofs.Common.{◌≡◌, ◌⊎◌, inl, inr, ℕ, ◌<◌, ◌≤◌, List, ◌++◌, take, Option, Some, None, Result, Ok, Err, refl, sym, ap, ◌∙◌, subst, arith}
-use Rattle.std.specs.Prelude.{IfSome, OnOk, option_map}
-use Rattle.std.proofs.lemmas.Bool.{cases_lt}
-use Rattle.sporc_outside.specs.AppendFile.{AppendTold, GrowsBy, MayBeCut, FileSteps, file_images}
+use Rattle.sporc_store.proofs.Common.{IfSome, OnOk, option_map, cases_lt, AppendTold, GrowsBy, MayBeCut, FileSteps, file_images, Cuts, Writes}
 use Rattle.sporc_outside.specs.LeafDisk.{CrashStep, IsSame}
 use Rattle.sporc_outside.specs.Uses.{use_of}
-use Rattle.sporc_store.specs.TailFiles.{Cuts, Writes}
 
 -- a step, and then one that leaves all as it is
 pub step_then : (a b c : ℕ) (past mid images : ℕ → List ℕ → Type 0) (step : List ℕ → List ℕ → Type 0) → CrashStep a b past mid step → CrashStep b c mid images IsSame

@@ -1,16 +1,12 @@
 -- Entries of a saved history, taken one after another as a loop does.
-use Rattle.std.proofs.Common.{◌≡◌, ◌≢◌, ℕ, zero, suc, ◌+◌, ◌-◌, ◌^◌, ◌<◌, ◌≤◌, List, [], ◌∷◌, ◌++◌, length, take, drop, get_or, Bool, true, false, cond, eqb, Option, None, Some, Result, Ok, Err, refl, sym, ap, ◌∙◌, subst, append_assoc, length-append, arith}
-use Rattle.std.proofs.lemmas.List.{append-nil, drop_all, drop_more, take_at}
-use Rattle.std.specs.Prelude.{IfOk, OnErr}
-use Rattle.std.specs.List.{starts_with}
-use Rattle.sporc_bytes.specs.Fields.{Reading, fault_as, counted_at, end_at}
+use Rattle.std.proofs.Common.{◌≡◌, ◌≢◌, ℕ, zero, suc, ◌+◌, ◌-◌, ◌^◌, ◌<◌, ◌≤◌, List, [], ◌∷◌, ◌++◌, length, drop, get_or, Bool, true, false, cond, eqb, Option, None, Some, Result, Ok, Err, refl, sym, ap, ◌∙◌, subst, append_assoc, length-append, arith}
+use Rattle.sporc_store.proofs.Common.{append-nil, drop_all, drop_more, IfOk, OnErr, starts_with, Reading, fault_as, counted_at, end_at, Stop, Foreign, Cut, Refused, Taken, read_to, first_and}
+use Rattle.sporc_store.proofs.Common.{stop_behind, entry_and, head_bytes, listed, IsPrefix, IsUnchecked, Checker, accepted, accepted_from, loaded, AppendsPart, AppendsSome}
 use Rattle.sporc_head.specs.declared.refusal.Refusal.{Refusal}
 use Rattle.sporc_head.specs.declared.refusal.Refusal.TheVariants.{Memory}
 use Rattle.sporc_store.specs.declared.head.TheConstants.{HEAD_LEN}
-use Rattle.sporc_store.specs.declared.stop.Stop.{Stop}
-use Rattle.sporc_store.specs.declared.stop.Stop.TheVariants.{Foreign, Cut, Refused}
-use Rattle.sporc_store.specs.SavedFile.{Taken, read_to, first_and, stop_behind, entry_and, entries_at, head_bytes, count_at, opened, listed, saved_in, IsPrefix, IsUnchecked}
-use Rattle.sporc_store.specs.Loading.{Checker, fault_behind, appended, accepted, accepted_behind, accepted_from, loaded, nobody, taken_on, AppendsPart, AppendsSome}
+use Rattle.sporc_store.specs.SavedFile.{entries_at, count_at, opened, saved_in}
+use Rattle.sporc_store.specs.Loading.{fault_behind, appended, accepted_behind, nobody, taken_on}
 
 -- ---- entries that are read
 
@@ -110,13 +106,6 @@ is_done checker first front es before i old len within le so_far = record {
   count = omega (arith, old, len, within, le);
   named = tt;
 }
-
--- what was taken so far is a prefix of what is taken in all
-pub stays_some : (checker : Checker) (first front es : List (List ℕ)) (i : ℕ) → TakesOn checker first front es i → AppendsSome checker first es front
-stays_some checker first front es i so_far rest stop =
-    let behind : Taken = accepted_behind checker front (drop i es ++ rest) stop in
-    let is : (accepted_from checker first (es ++ rest) stop).entries ≡ front ++ behind.entries = ap (λ (taken : Taken). taken.entries) (so_far rest stop) in
-    sym (ap (take (length front)) is ∙ take_at front behind.entries (length front) refl)
 
 -- ---- parts of the entries, one behind another
 

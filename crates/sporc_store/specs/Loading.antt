@@ -1,7 +1,10 @@
 -- What is loaded of a saved history: its entries, one after another, until one is refused.
-use Rattle.std.specs.Prelude.{◌≡◌, ◌≢◌, ℕ, ◌+◌, List, [], ◌∷◌, ◌++◌, length, take, Option, None}
-use Rattle.std.specs.Prelude.{Some, IfNone, IfSome, slice_get}
+use Rattle.std.specs.Prelude.{◌≡◌, ◌≢◌, ◌≤◌, ℕ, ◌+◌, List, [], ◌∷◌, ◌++◌, length, take, Option}
+use Rattle.std.specs.Prelude.{None, Some, IfNone, IfSome, IsSomeAnd, slice_get}
+use Rattle.std.specs.List.{All}
 use Rattle.sporc_entry.specs.declared.genesis.Genesis.{Genesis}
+use Rattle.sporc_entry.specs.declared.limits.TheConstants.{MAX_ENTRY}
+use Rattle.sporc_head.specs.declared.limits.TheConstants.{MAX_ENTRIES}
 use Rattle.sporc_head.specs.declared.refusal.Refusal.{Refusal}
 use Rattle.sporc_head.specs.declared.refusal.Refusal.TheVariants.{Memory}
 use Rattle.sporc_head.specs.HeadChecks.{head_fault}
@@ -9,7 +12,7 @@ use Rattle.sporc_line.specs.Kit.{Kit}
 use Rattle.sporc_line.specs.LineChecks.{first_fault}
 use Rattle.sporc_store.specs.declared.stop.Stop.{Stop}
 use Rattle.sporc_store.specs.declared.stop.Stop.TheVariants.{End, Foreign, Cut, Refused}
-use Rattle.sporc_store.specs.SavedFile.{Taken, read_to, first_and, saved_in, IsPrefix}
+use Rattle.sporc_store.specs.SavedFile.{Taken, read_to, first_and, saved_bytes, saved_in, IsPrefix}
 
 -- who checks entries: nobody, the order of a document, or a member by what it was given
 pub data Checker : Type 0 where
@@ -59,6 +62,20 @@ accepted checker read = accepted_behind checker [] read.entries read.stop
 -- what is loaded of a file
 abbrev pub loaded : Checker → List ℕ → List ℕ → Taken
 loaded checker document bytes = accepted checker (saved_in document bytes)
+
+-- an entry that was read behind those that were taken fails the check that the stop names, with its
+-- position
+abbrev pub StopsAtRefused : Checker → Taken → Taken → Type 0
+StopsAtRefused checker read taken =
+    (e : List ℕ) → slice_get read.entries (length taken.entries) ≡ Some e
+    → IsSomeAnd (fault_behind checker taken.entries e)
+    (λ refusal. taken.stop ≡ Refused (length taken.entries + 1) refusal)
+
+-- the file of these entries is loaded whole, if there are not too many, and none is too long
+abbrev pub IsLoadedAgain : Checker → List ℕ → List (List ℕ) → Type 0
+IsLoadedAgain checker document entries =
+    length entries ≤ MAX_ENTRIES → All (λ e. length e ≤ MAX_ENTRY) entries
+    → loaded checker document (saved_bytes document entries) ≡ read_to entries End
 
 -- a refusal that a stop carries names a check
 abbrev pub NamesCheck : Stop → Type 0

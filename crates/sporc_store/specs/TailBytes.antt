@@ -142,6 +142,16 @@ Agree (a ∷ ahead) (e ∷ es) = (a ≡ e) × Agree ahead es
 abbrev pub FitsRecord : List ℕ → Type 0
 FitsRecord entry = length entry ≤ MAX_ENTRY
 
+-- of the tail of these entries, and the first so many bytes of the next record, but not all of it,
+-- those are read that a log lacks, which has as many as the tail was opened behind, or more
+abbrev pub IsReadBehind : List (List ℕ) → List (List ℕ) → List ℕ → ℕ → List ℕ → ℕ → Type 0
+IsReadBehind log all document from next kept =
+    length document ≡ 16 → from ≤ length log → Agree (drop from log) all → All FitsRecord all
+    → FitsRecord next → from + length all + 1 < 2 ^ 32
+    → kept < length (record_bytes (from + length all + 1) next) → tail_behind log document
+    (tail_bytes document from all ++ take kept (record_bytes (from + length all + 1) next))
+    ≡ Ok (taken_to (drop (length (drop from log)) all) (length (tail_bytes document from all)))
+
 -- the tail of these entries, and behind it a prefix of the next record, which is all of it at the
 -- most
 pub record IsTail (document : List ℕ) (from : ℕ) (entries : List (List ℕ)) (next : List ℕ)

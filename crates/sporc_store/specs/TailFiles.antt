@@ -1,8 +1,12 @@
 -- Tails on their files, and what their calls do to what a crash may leave of these.
-use Rattle.std.specs.Prelude.{◌≡◌, ◌⊎◌, ◌+◌, ◌^◌, ◌<◌, ℕ, zero, suc, Bool, false, min, List, []}
-use Rattle.std.specs.Prelude.{◌∷◌, ◌++◌, length, take, Option, IsSome, Result, Ok, Err, OnOk, OnErr}
+use Rattle.std.specs.Prelude.{◌≡◌, ◌⊎◌, ◌+◌, ◌^◌, ◌<◌, ◌≤◌, ℕ, zero, suc, Bool, false, min, List}
+use Rattle.std.specs.Prelude.{[], ◌∷◌, ◌++◌, length, take, Option, IsSome, Result, Ok, Err, OnOk}
+use Rattle.std.specs.Prelude.{OnErr}
+use Rattle.sporc_base.specs.Bytes.{IsBytes}
 use Rattle.sporc_entry.specs.declared.genesis.Genesis.{Genesis}
+use Rattle.sporc_head.specs.declared.limits.TheConstants.{MAX_ENTRIES}
 use Rattle.sporc_outside.specs.AppendFile.{AppendTold, GrowsBy, MayBeCut, FileSteps, file_images}
+use Rattle.sporc_outside.specs.declared.file_fault.TheConstants.{MAX_FILE}
 use Rattle.sporc_outside.specs.Uses.{use_of}
 use Rattle.sporc_store.specs.declared.stop.Stop.{Stop}
 use Rattle.sporc_store.specs.declared.stop.Stop.TheVariants.{End, Refused as RefusedAt}
@@ -115,6 +119,15 @@ pub record Settles {D E : Type 0} (file_told : D → AppendTold) (log : List (Li
     (old new : D) (result : Result (Unit {0}) E) : Type 0 where
   pub stays : StaysFound file_told log document old new
   pub opens : OnOk result (OpensBehind file_told log (tail_on new document) (log ++ taken.entries))
+
+-- it was, whatever the log, if the file and the log are not too long
+abbrev pub SettlesRead : {D E : Type 0} → (D → AppendTold) → List ℕ → TailTaken → D → D
+    → Result (Unit {0}) E → Type 0
+SettlesRead file_told document taken old new result =
+    (log : List (List ℕ)) (bytes : List ℕ) → IsBytes bytes → length bytes ≤ MAX_FILE
+    → length log ≤ MAX_ENTRIES → AreSynced file_told old bytes
+    → tail_behind log document bytes ≡ Ok taken
+    → Settles file_told log document taken old new result
 
 -- how many bytes of a file count: up to the last whole record, or those of the head if the log has
 -- all records

@@ -17,7 +17,7 @@ use crate::limits::{APPENDING, BLOCK};
 use crate::reading::saved_entries;
 use crate::saved_entry::SavedEntry;
 use crate::stop::Stop;
-use crate::workers::{examine_by, examine_part, tell};
+use crate::workers::{Workers, examine_by, examine_part, tell};
 use sporc_base::Memory;
 use sporc_entry::Genesis;
 use sporc_head::Verdict;
@@ -68,17 +68,13 @@ pub(crate) fn append_examined<R: Threads + Wait + Sync, G: Gate + Sync, H: Docum
     ensures checker { H.checker history.new ≡ H.checker history.old }
 {
     let (mut entries, stop) = foretold_entries(alloc, history.genesis(), bytes)?;
-    append_blocks(
+    let workers = Workers {
         rt,
         alloc,
-        history,
-        0,
-        entries.as_mut_slice(),
-        0,
-        stop,
-        workers,
         gate,
-    )
+        count: workers,
+    };
+    append_blocks(&workers, history, 0, entries.as_mut_slice(), 0, stop)
 }
 
 // The entries of a saved history, where they stand, each with the key that its author is foretold
@@ -104,21 +100,18 @@ fn foretold_entries<'a>(
 // stopped. The first `known` of them were examined. While they are appended, the workers examine
 // the next block, and so on.
 fn append_blocks<R: Threads + Wait + Sync, G: Gate + Sync, H: History>(
-    rt: &R,
-    alloc: Global,
+    workers: &Workers<'_, R, G>,
     history: &mut H,
     before: usize,
     entries: &mut [SavedEntry<'_>],
     known: usize,
     stop: Stop,
-    workers: u32,
-    gate: &G,
 ) -> Result<Stop, Memory>
     requires before { length (H.entries history.old) ≡ before }
     requires entries_limit { before + length entries.old < 2 ^ 32 }
     requires in_bounds { known ≤ length entries.old }
-    requires positive { 1 ≤ workers }
-    requires limit { workers ≤ MAX_WORKERS }
+    requires positive { 1 ≤ workers.now.count }
+    requires limit { workers.now.count ≤ MAX_WORKERS }
     requires named { NamesCheck stop }
     ensures ok { IfOk result (λ end. read_to (H.entries history.new) end
         ≡ accepted_from (H.checker history.old) (H.entries history.old) entries.old stop) }
@@ -133,11 +126,9 @@ fn append_blocks<R: Threads + Wait + Sync, G: Gate + Sync, H: History>(
     let (block, rest) = entries.split_at_mut(known);
     let count = rest.len().min(BLOCK);
     let behind = before + known;
-    match append_beside(
-        rt, alloc, history, before, block, rest, count, workers, gate,
-    ) {
+    match append_beside(workers, history, before, block, rest, count) {
         Ok(Some(refused)) => Ok(refused),
-        Ok(None) => append_blocks(rt, alloc, history, behind, rest, count, stop, workers, gate),
+        Ok(None) => append_blocks(workers, history, behind, rest, count, stop),
         Err(memory) => Err(memory),
     }
 }
@@ -146,21 +137,18 @@ fn append_blocks<R: Threads + Wait + Sync, G: Gate + Sync, H: History>(
 // workers examine the first few of the rest. The first worker does both, so its part of these is
 // the smaller.
 fn append_beside<R: Threads + Wait + Sync, G: Gate + Sync, H: History>(
-    rt: &R,
-    alloc: Global,
+    workers: &Workers<'_, R, G>,
     history: &mut H,
     before: usize,
     block: &[SavedEntry<'_>],
     rest: &mut [SavedEntry<'_>],
     count: usize,
-    workers: u32,
-    gate: &G,
 ) -> Result<Option<Stop>, Memory>
     requires before { length (H.entries history.old) ≡ before }
     requires entries_limit { before + length block.now + length rest.old < 2 ^ 32 }
     requires in_bounds { count ≤ length rest.old }
-    requires positive { 1 ≤ workers }
-    requires limit { workers ≤ MAX_WORKERS }
+    requires positive { 1 ≤ workers.now.count }
+    requires limit { workers.now.count ≤ MAX_WORKERS }
     ensures ok { IfOk result (λ refused. AppendsPart (H.checker history.old)
         (H.entries history.old) block.now refused (H.entries history.new)) }
     ensures memory { OnErr result (AppendsSome (H.checker history.old)
@@ -168,6 +156,10 @@ fn append_beside<R: Threads + Wait + Sync, G: Gate + Sync, H: History>(
     ensures checker { H.checker history.new ≡ H.checker history.old }
     ensures rest { rest.new ≡ rest.old }
 {
+    let rt = workers.rt;
+    let alloc = workers.alloc;
+    let gate = workers.gate;
+    let workers = workers.count;
     let behind = (before + block.len()) as u32;
     let share = first_share(block.len(), count, workers);
     let (own, others) = rest[..count].split_at(share);

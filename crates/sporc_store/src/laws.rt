@@ -1,21 +1,19 @@
 //! Laws of saved histories: what was saved is read again, and what is loaded is the longest prefix
 //! that is accepted.
 
-ghost use Rattle.std.specs.Prelude.{◌≡◌, ℕ, ◌+◌, ◌++◌, ◌≤◌, ◌<◌, ◌^◌, List, length, take, drop, Ok};
-ghost use Rattle.std.specs.Prelude.{Some, None, slice_get, IsSomeAnd};
+ghost use Rattle.std.specs.Prelude.{◌≡◌, ℕ, ◌≤◌, ◌<◌, ◌^◌, List, length, take, Some, None};
+ghost use Rattle.std.specs.Prelude.{slice_get};
 ghost use Rattle.std.specs.List.{All};
 ghost use Rattle.sporc_base.specs.Bytes.{IsBytes};
 ghost use Rattle.sporc_entry.specs.declared.genesis.Genesis.{Genesis};
-ghost use Rattle.sporc_entry.specs.declared.limits.TheConstants.{MAX_ENTRY};
 ghost use Rattle.sporc_entry.specs.Genesis.{IsGenesis};
 ghost use Rattle.sporc_head.specs.declared.limits.TheConstants.{MAX_ENTRIES};
 ghost use Rattle.sporc_line.specs.Kit.{Kit};
 ghost use Rattle.sporc_line.specs.Good.{Good};
 ghost use Rattle.sporc_store.specs.SavedFile.{saved_bytes, saved_in, read_to, IsPrefix};
-ghost use Rattle.sporc_store.specs.Loading.{AreAccepted, Checker, an_order, a_member, fault_behind};
-ghost use Rattle.sporc_store.specs.Loading.{loaded};
-ghost use Rattle.sporc_store.specs.TailBytes.{Agree, FitsRecord, record_bytes, tail_behind};
-ghost use Rattle.sporc_store.specs.TailBytes.{tail_bytes, taken_to};
+ghost use Rattle.sporc_store.specs.Loading.{AreAccepted, Checker, IsLoadedAgain, StopsAtRefused};
+ghost use Rattle.sporc_store.specs.Loading.{an_order, a_member, fault_behind, loaded};
+ghost use Rattle.sporc_store.specs.TailBytes.{IsReadBehind};
 ghost use Rattle.sporc_store.specs.TailRuns.{BeginsAgain, IsFoundAgain, NothingIsLost};
 
 use crate::stop::Stop;
@@ -43,12 +41,8 @@ pub fn longest_accepted_prefix()
     ensures whole { (checker : Checker) (document bytes : List ℕ)
         → (loaded checker document bytes).entries ≡ (saved_in document bytes).entries
         → (loaded checker document bytes).stop ≡ (saved_in document bytes).stop }
-    ensures refused { (checker : Checker) (document bytes : List ℕ) (e : List ℕ)
-        → slice_get (saved_in document bytes).entries
-        (length (loaded checker document bytes).entries) ≡ Some e
-        → IsSomeAnd (fault_behind checker (loaded checker document bytes).entries e)
-        (λ refusal. (loaded checker document bytes).stop
-        ≡ Stop.Refused (length (loaded checker document bytes).entries + 1) refusal) }
+    ensures refused { (checker : Checker) (document bytes : List ℕ)
+        → StopsAtRefused checker (saved_in document bytes) (loaded checker document bytes) }
 {}
 
 /// A history that was accepted and saved is loaded again, whole: that of a line for its member, and
@@ -56,25 +50,17 @@ pub fn longest_accepted_prefix()
 pub fn saved_history_is_loaded()
     ensures for_a_member { (genesis : Genesis) (kit : Kit) (entries : List (List ℕ))
         → IsGenesis genesis → Good genesis kit entries
-        → length entries ≤ MAX_ENTRIES → All (λ e. length e ≤ MAX_ENTRY) entries
-        → loaded (a_member genesis kit) genesis.document (saved_bytes genesis.document entries)
-        ≡ read_to entries Stop.End }
+        → IsLoadedAgain (a_member genesis kit) genesis.document entries }
     ensures by_an_order { (genesis : Genesis) (entries : List (List ℕ)) → IsGenesis genesis
-        → AreAccepted genesis entries → length entries ≤ MAX_ENTRIES
-        → All (λ e. length e ≤ MAX_ENTRY) entries
-        → loaded (an_order genesis) genesis.document (saved_bytes genesis.document entries)
-        ≡ read_to entries Stop.End }
+        → AreAccepted genesis entries
+        → IsLoadedAgain (an_order genesis) genesis.document entries }
 {}
 
 /// What a tail of entries is read as behind a log: a last record that is cut counts as none, and
 /// what the log has is skipped.
 pub fn tails_are_read_again()
     ensures again { (log all : List (List ℕ)) (document : List ℕ) (from : ℕ) (next : List ℕ) (k : ℕ)
-        → length document ≡ 16 → from ≤ length log → Agree (drop from log) all → All FitsRecord all
-        → FitsRecord next → from + length all + 1 < 2 ^ 32
-        → k < length (record_bytes (from + length all + 1) next) → tail_behind log document
-        (tail_bytes document from all ++ take k (record_bytes (from + length all + 1) next)) ≡ Ok
-        (taken_to (drop (length (drop from log)) all) (length (tail_bytes document from all))) }
+        → IsReadBehind log all document from next k }
 {}
 
 /// Over any run of openings, entries that are put, calls that fail, logs that are saved, and stops

@@ -15,8 +15,8 @@ ghost use Rattle.sporc_store.specs.SavedFile.{read_to};
 ghost use Rattle.sporc_store.specs.TailBytes.{record_bytes, tail_behind, taken_to};
 ghost use Rattle.sporc_store.specs.TailFiles.{AreSynced, Cuts, IsFaultOf, IsRefusal, IsRefused};
 ghost use Rattle.sporc_store.specs.TailFiles.{IsTakingFault, KeepsEntries, OpensBehind, Puts};
-ghost use Rattle.sporc_store.specs.TailFiles.{Settles, StaysFound, TellsStill, Writes, counting};
-ghost use Rattle.sporc_store.specs.TailFiles.{head_behind, tail_on};
+ghost use Rattle.sporc_store.specs.TailFiles.{SettlesRead, StaysFound, TellsStill, Writes};
+ghost use Rattle.sporc_store.specs.TailFiles.{counting, head_behind, tail_on};
 ghost use Rattle.sporc_store.specs.TailReadings.{AreTold, IsFaultOfRead, IsReadingFault, StaysTold};
 ghost use Rattle.sporc_store.specs.TailReadings.{TakesRead};
 
@@ -262,10 +262,7 @@ fn settle<A: AppendFile>(
     tail: &TailEntries<'_>,
 ) -> Result<(), Failed>
     requires { IfSome (A.told file.old).stored (λ bytes. tail.now.whole ≤ length bytes) }
-    ensures settles { (log : List (List ℕ)) (bytes : List ℕ) → IsBytes bytes
-        → length bytes ≤ MAX_FILE → length log ≤ MAX_ENTRIES → AreSynced A.told file.old bytes
-        → tail_behind log document.now bytes ≡ Ok (taken_to tail.now.entries.items tail.now.whole)
-        → Settles A.told log document.now
+    ensures settles { SettlesRead A.told document.now
         (taken_to tail.now.entries.items tail.now.whole) file.old file.new result }
     ensures told { TellsStill (A.told file.old).stored (A.told file.new).stored }
     ensures count { CountsFaults (A.told file.old).faults (A.told file.new).faults result }

@@ -12,6 +12,15 @@ use std::alloc::Global;
 use std::sync::Wait;
 use std::thread::{Threads, join_mut};
 
+// So many workers, and what they work with.
+#[derive(Drop)]
+pub(crate) struct Workers<'a, R, G> {
+    pub(crate) rt: &'a R,
+    pub(crate) alloc: Global,
+    pub(crate) gate: &'a G,
+    pub(crate) count: u32,
+}
+
 // Examines the signatures of entries, the first of which stands behind so many others, by so many
 // workers, numbered from `worker` on. Each takes entries that stand together, in a thread of its
 // own where one can be made. If there is none, the first takes them.

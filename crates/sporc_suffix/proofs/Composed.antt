@@ -1,10 +1,7 @@
 -- Forms composed two by two.
 use Rattle.std.proofs.Common.{◌≡◌, ℕ, zero, suc, ◌+◌, ◌≤◌, List, [], ◌∷◌, ◌++◌, length, drop, refl, ap, sym, subst, ◌∙◌, arith}
-use Rattle.sporc_delta.specs.Marks.{Mark, Keep, Remove, Insert, base_len, out_len, inserted_len}
-use Rattle.sporc_delta.specs.Transforms.{later, compose}
+use Rattle.sporc_suffix.proofs.Common.{Mark, Keep, Remove, Insert, base_len, out_len, inserted_len, later, compose, Follow, Fits, all_inserted, later_over, Joined, pairs, runs_of}
 use Rattle.sporc_xform.proofs.LawLemmas.{composes, passes_both}
-use Rattle.sporc_suffix.specs.Forms.{Follow, Fits, all_inserted, later_over}
-use Rattle.sporc_suffix.specs.Runs.{Joined, pairs, runs_of}
 use Rattle.sporc_suffix.proofs.Passing.{passes}
 
 -- the one that has no neighbour

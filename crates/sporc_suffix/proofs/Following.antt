@@ -1,8 +1,6 @@
 -- Forms one after another: the first of them, one of them, those from a place on.
 use Rattle.std.proofs.Common.{◌≡◌, ◌+◌, ◌≤◌, ℕ, zero, suc, List, [], ◌∷◌, ◌++◌, Some, take, drop, refl, subst, arith}
-use Rattle.std.specs.List.{slice_get}
-use Rattle.sporc_delta.specs.Marks.{Mark, base_len, out_len}
-use Rattle.sporc_suffix.specs.Forms.{Follow, all_inserted, reached}
+use Rattle.sporc_suffix.proofs.Common.{slice_get, Mark, base_len, out_len, Follow, all_inserted, reached}
 
 pub reached-append : (base : ℕ) (fs gs : List (List Mark)) → reached base (fs ++ gs) ≡ reached (reached base fs) gs
 reached-append base [] gs = refl

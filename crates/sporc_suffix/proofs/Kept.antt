@@ -1,14 +1,10 @@
 -- The runs that end with each form.
 use Rattle.std.proofs.Common.{◌≡◌, ℕ, zero, suc, ◌+◌, ◌-◌, ◌/◌, ◌%◌, ◌^◌, ◌≤◌, ◌<◌, List, [], ◌∷◌, ◌++◌, length, take, drop, get_or, refl, ap, sym, subst, ◌∙◌, arith, Some, option_map, ◌⊎◌, inl, inr, length-append}
-use Rattle.std.specs.List.{slice_get}
+use Rattle.sporc_suffix.proofs.Common.{slice_get, map-append, drop_all, get_or_append_left, get_or_push, take-append-drop, drop-drop, take_all, length-drop, length-map, Mark, base_len, out_len}
+use Rattle.sporc_suffix.proofs.Common.{compose, Follow, Fits, TwoADigit, later_over, pairs, runs_of, last_of, EndWith, Joined, KeepRuns, ReadyModel, IsReadyAt, BlocksInvariant, forms_in}
 use Rattle.std.proofs.Math.Seq.{drop-cons}
-use Rattle.std.proofs.lemmas.List.{map-append, drop_all, get_or_append_left, get_or_push, take-append-drop, drop-drop, take_all, length-drop, length-map}
 use Rattle.std.proofs.lemmas.Bool.{cases_lt}
 use Rattle.std.proofs.lemmas.Option.{get_or_from_slice_get, slice_get-get_or, slice_get-map, slice_get_read, slice_get_within}
-use Rattle.sporc_delta.specs.Marks.{Mark, base_len, out_len}
-use Rattle.sporc_delta.specs.Transforms.{compose}
-use Rattle.sporc_suffix.specs.Forms.{Follow, Fits, TwoADigit, later_over}
-use Rattle.sporc_suffix.specs.Runs.{pairs, runs_of, last_of, EndWith, Joined, KeepRuns, ReadyModel, IsReadyAt, BlocksInvariant, forms_in}
 use Rattle.sporc_suffix.proofs.Passing.{Follow-append}
 use Rattle.sporc_suffix.proofs.Composed.{left_over, length-pairs, few_left, pairs-more_even, pairs-more_odd, Joined-runs, later_over-append, fits_front, fits_back, by_pairs, pairs-drop, left_at}
 
@@ -131,13 +127,6 @@ one_place L from end f some one within at =
 -- so far: the form, and then the run of each level that it ends
 pub record Ended (fs : List (List Mark)) (form : List Mark) (runs : List (List Mark)) : Type 0 where
   pub so_far : (level : ℕ) → level ≤ length runs → runs_of level (fs ++ form ∷ []) ≡ runs_of level fs ++ get_or (form ∷ runs) level form ∷ []
-
-pub ended_none : (fs : List (List Mark)) (form : List Mark) → Ended fs form []
-ended_none fs form = record { so_far = go }
-  where
-    go : (level : ℕ) → level ≤ 0 → runs_of level (fs ++ form ∷ []) ≡ runs_of level fs ++ get_or (form ∷ []) level form ∷ []
-    go zero h = refl
-    go (suc level) h = absurd (omega arith)
 
 -- the last run of a level, if it has no neighbour
 last_left : (L : List (List Mark)) (n : ℕ) (y : List Mark) → n % 2 ≡ 1 → n ≡ length L → slice_get L (n - 1) ≡ Some y → left_over L ≡ y ∷ []

@@ -2,3 +2,4 @@ pub mod Composed
 pub mod Following
 pub mod Kept
 pub mod Passing
+pub mod Common

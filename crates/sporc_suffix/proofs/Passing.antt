@@ -1,12 +1,9 @@
 -- A delta that passes forms one after the other.
 use Rattle.std.proofs.Common.{◌≡◌, ℕ, zero, suc, ◌+◌, ◌-◌, ◌≤◌, ◌<◌, List, [], ◌∷◌, ◌++◌, length, take, drop, get_or, ap, sym, subst, ◌∙◌, arith, add-one}
+use Rattle.sporc_suffix.proofs.Common.{Mark, base_len, out_len, inserted_len, later, reached, Follow, Fits}
 use Rattle.std.proofs.Math.Seq.{drop-cons}
-use Rattle.std.proofs.lemmas.List.{take_all}
 use Rattle.sporc_delta.specs.declared.limits.TheConstants.{MAX_TEXT_LEN}
-use Rattle.sporc_delta.specs.Marks.{Mark, base_len, out_len, inserted_len}
-use Rattle.sporc_delta.specs.Transforms.{later}
 use Rattle.sporc_xform.proofs.LengthLemmas.{base_len-later, inserted_len-later, out_len-le}
-use Rattle.sporc_suffix.specs.Forms.{reached, Follow, Fits}
 
 -- it fits the next form, and then those after it
 pub record Passes (q f : List Mark) (rest : List (List Mark)) : Type 0 where
@@ -27,15 +24,6 @@ passes q f rest fits =
         limit = omega (arith, fits.limit, inserted_len-later f q, out_len-le f);
       };
     }
-
--- behind the first form it fits those after that
-pub passes_first : (q f : List Mark) (forms : List (List Mark)) → Fits q forms → f ≡ get_or forms 0 f → 1 ≤ length forms → Fits (later q f) (take (length forms - 1) (drop 1 forms))
-passes_first q f [] fits is some = absurd (omega (arith, some))
-passes_first q f (g ∷ gs) fits is some =
-    let P : List Mark → Type 0 = λ h. Fits q (h ∷ gs) in
-    let whole : take (suc (length gs) - 1) gs ≡ gs = take_all (suc (length gs) - 1) gs (omega arith) in
-    let Q : List (List Mark) → Type 0 = λ fs. Fits (later q f) fs in
-    subst Q (sym whole) (passes q f gs (subst P (sym is) fits)).fits
 
 -- the form at a place, and those behind it
 pub form_at : (forms : List (List Mark)) (i : ℕ) (f : List Mark) → i < length forms → f ≡ get_or forms i f → drop i forms ≡ f ∷ drop (i + 1) forms

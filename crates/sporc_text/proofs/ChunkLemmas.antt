@@ -1,10 +1,6 @@
 -- Lists of chunks.
 use Rattle.std.proofs.Common.{◌≡◌, ℕ, zero, suc, ◌+◌, ◌-◌, ◌*◌, ◌<◌, ◌≤◌, List, [], ◌∷◌, ◌++◌, length, take, drop, get_or, set, refl, ap, sym, ◌∙◌, append_assoc, append-nil, add-one, arith, length-append, inl, inr}
-use Rattle.std.proofs.lemmas.List.{get_or_default}
-use Rattle.std.proofs.lemmas.Bool.{cases_lt}
-use Rattle.std.specs.List.{concat}
-use Rattle.sporc_text.specs.declared.limits.TheConstants.{MAX_CHUNK, MAX_JOINED, MEAN_CHUNK}
-use Rattle.sporc_text.specs.Chunks.{AreChunks, Joins}
+use Rattle.sporc_text.proofs.Common.{get_or_default, cases_lt, concat, MAX_CHUNK, MAX_JOINED, MEAN_CHUNK, AreChunks, Joins}
 
 -- chunks are few, and not too few
 pub few_chunks : (cs : List (List ℕ)) → AreChunks cs → MEAN_CHUNK * length cs ≤ length (concat cs) + MEAN_CHUNK
@@ -21,12 +17,6 @@ no_chunks [] h e = refl
 no_chunks (c ∷ cs) h e = absurd (omega (arith, h.0.some, ap length e, length-append c (concat cs)))
 
 -- ---- one chunk of a list
-
-pub chunk_most : (cs : List (List ℕ)) (i : ℕ) → AreChunks cs → length (get_or cs i []) ≤ MAX_CHUNK
-chunk_most [] zero h = omega arith
-chunk_most [] (suc i) h = omega arith
-chunk_most (c ∷ cs) zero h = h.0.most
-chunk_most (c ∷ cs) (suc i) h = chunk_most cs i h.1
 
 pub chunks_apart : (cs : List (List ℕ)) (i : ℕ) → AreChunks cs → suc i < length cs → MAX_JOINED < length (get_or cs i []) + length (get_or cs (suc i) [])
 chunks_apart [] i h l = absurd (omega arith)

@@ -1,8 +1,7 @@
 -- Lists cut in two.
 use Rattle.std.proofs.Common.{◌≡◌, ℕ, zero, suc, ◌+◌, ◌≤◌, List, [], ◌∷◌, ◌++◌, length, take, drop, refl, ap, sym, ◌∙◌, append_assoc, arith, length-append, length-drop}
+use Rattle.sporc_text.proofs.Common.{take-append-le, drop-append-le, length-take-le, replaced}
 use Rattle.std.proofs.Math.Seq.{take-append-add, drop-append-add}
-use Rattle.std.proofs.lemmas.List.{take-append-le, drop-append-le, length-take-le}
-use Rattle.sporc_text.specs.ReadyTextModel.{replaced}
 
 -- the first n, of two lists end to end, and those behind them
 pub take-append : (n m : ℕ) (xs ys : List ℕ) → m + length (take n xs) ≡ n → take n (xs ++ ys) ≡ take n xs ++ take m ys

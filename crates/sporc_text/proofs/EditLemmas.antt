@@ -1,13 +1,10 @@
 -- A delta is applied part by part.
 use Rattle.std.proofs.Common.{◌≡◌, ℕ, zero, suc, ◌+◌, ◌<◌, ◌≤◌, List, [], ◌∷◌, ◌++◌, length, take, drop, get_or, refl, ap, sym, ◌∙◌, append_assoc, append-nil, add-one, arith, drop-cons, length-drop}
-use Rattle.std.proofs.lemmas.List.{drop-drop}
+use Rattle.sporc_text.proofs.Common.{drop-drop, Mark, Keep, Remove, Insert, base_len, out_len, apply, keep_marks, remove_marks, insert_marks, part_marks, marks_of, replaced}
 use Rattle.sporc_delta.specs.declared.part.Part.{Part}
 use Rattle.sporc_delta.specs.declared.part.Part.TheVariants.{Keep as KeepRun, Insert as InsertText, Remove as RemoveRun}
-use Rattle.sporc_delta.specs.Marks.{Mark, Keep, Remove, Insert, base_len, out_len, apply, keep_marks, remove_marks, insert_marks}
-use Rattle.sporc_delta.specs.Parts.{part_marks, marks_of}
 use Rattle.sporc_delta.proofs.Lengths.{base_len-append, base_len-keep_marks, base_len-remove_marks, base_len-insert_marks, out_len-append, out_len-keep_marks}
 use Rattle.sporc_text.specs.Edit.{IsBetween, characters_read, characters_written}
-use Rattle.sporc_text.specs.ReadyTextModel.{replaced}
 
 -- a part in front reads so many characters more
 base_len-part : (p : Part) (ms : List Mark) → base_len (part_marks p ++ ms) ≡ characters_read p + base_len ms

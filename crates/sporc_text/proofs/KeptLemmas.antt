@@ -1,7 +1,6 @@
 -- Characters of a text that are kept, chunk by chunk.
 use Rattle.std.proofs.Common.{◌≡◌, ℕ, suc, ◌+◌, ◌-◌, ◌<◌, List, [], ◌++◌, length, take, drop, get_or, ap, sym, ◌∙◌, append_assoc, add-one, arith, length-drop}
-use Rattle.std.proofs.lemmas.List.{get_or_default, length-take}
-use Rattle.std.specs.List.{concat}
+use Rattle.sporc_text.proofs.Common.{get_or_default, length-take, concat}
 use Rattle.sporc_text.proofs.ChunkLemmas.{concat-drop}
 use Rattle.sporc_text.proofs.CutLemmas.{taken_of}
 

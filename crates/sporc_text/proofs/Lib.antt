@@ -5,3 +5,4 @@ pub mod KeptLemmas
 pub mod MoveLemmas
 pub mod ReadyLemmas
 pub mod Spelled
+pub mod Common

@@ -1,10 +1,7 @@
 -- Chunks that are moved from one list to another.
 use Rattle.std.proofs.Common.{◌≡◌, ℕ, zero, suc, ◌+◌, ◌-◌, ◌≤◌, List, [], ◌∷◌, ◌++◌, length, take, drop, get_or, set, refl, ap, sym, ◌∙◌, append_assoc, append-nil, add-one, arith, length-append, length-drop}
+use Rattle.sporc_text.proofs.Common.{drop-drop, get_or_default, take_all, take-append-le, drop-append-le, concat, AreChunks, IsAt, IsWithin, replaced}
 use Rattle.std.proofs.Math.Seq.{drop-append-add}
-use Rattle.std.proofs.lemmas.List.{drop-drop, get_or_default, take_all, take-append-le, drop-append-le}
-use Rattle.std.specs.List.{concat}
-use Rattle.sporc_text.specs.Chunks.{AreChunks, IsAt, IsWithin}
-use Rattle.sporc_text.specs.ReadyTextModel.{replaced}
 use Rattle.sporc_text.proofs.ChunkLemmas.{chunks-set, concat-at, concat-drop, concat-set}
 use Rattle.sporc_text.proofs.CutLemmas.{length-replaced, replaced-behind, replaced-front}
 

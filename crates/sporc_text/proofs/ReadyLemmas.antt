@@ -1,9 +1,8 @@
 -- Changes of a text that were made ready.
 use Rattle.std.proofs.Common.{◌≡◌, ◌≢◌, ℕ, List, length, drop, if◌then◌else◌, ap, sym, ◌∙◌}
-use Rattle.std.proofs.lemmas.Bool.{eq-eqb, ne_eqb}
-use Rattle.sporc_delta.specs.Marks.{Mark, base_len, apply}
+use Rattle.sporc_text.proofs.Common.{eq-eqb, ne_eqb, Mark, base_len, apply, ReadyTextModel, replaced}
 use Rattle.sporc_text.specs.Edit.{IsBetween}
-use Rattle.sporc_text.specs.ReadyTextModel.{ReadyTextModel, replaced, rewritten}
+use Rattle.sporc_text.specs.ReadyTextModel.{rewritten}
 use Rattle.sporc_text.proofs.EditLemmas.{between_writes}
 
 -- a text of this length is rewritten, and one of another length stays

@@ -1,10 +1,9 @@
 -- A text spells its characters.
 use Rattle.std.proofs.Common.{◌≡◌, ℕ, ◌+◌, ◌<◌, ◌≤◌, List, [], ◌∷◌, ◌++◌, length, take, get_or, String, ap, sym, ◌∙◌, append_assoc, append-nil, encode_utf8}
-use Rattle.std.specs.List.{concat}
+use Rattle.sporc_text.proofs.Common.{concat, take_all, take_more}
 use Rattle.std.specs.String.{string_bytes}
 use Rattle.std.specs.Str.{chars, encode_utf8_all}
 use Rattle.std.proofs.lemmas.Str.{chars_from_encodes, encodes-append, IsUtf8-string_bytes}
-use Rattle.std.proofs.lemmas.List.{take_all, take_more}
 use Rattle.sporc_text.proofs.ChunkLemmas.{concat-push}
 
 pub spelled : {Z : Type 0} (t : String Z) (cs : List ℕ) → string_bytes t ≡ encode_utf8_all cs → chars (string_bytes t) ≡ cs

@@ -1,6 +1,6 @@
 //! What stops a test. An assertion is proved wherever it stands, so each stands here once.
 
-use sporc_shared::SessionFault;
+use sporc_session::SessionFault;
 use std::process::Abort;
 
 /// Stops the test unless this holds.

@@ -1,6 +1,6 @@
 //! The tests of the lock, the shared client and its session, and of the server: of `sporc_turn`,
-//! `sporc_shared`, `sporc_serve` and `sporc_docs`. They stand in a crate of their own, since a
-//! crate with tests is proved twice. No program stands on it.
+//! `sporc_shared`, `sporc_session`, `sporc_serve` and `sporc_docs`. They stand in a crate of their
+//! own, since a crate with tests is proved twice. No program stands on it.
 //!
 //! - `lock/turns`: threads that take turns get to their ends, a lock isn't closed while a pass is
 //!   away, and news wait for nobody.

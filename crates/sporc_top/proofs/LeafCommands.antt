@@ -1,35 +1,24 @@
 -- What each command of the program leaves of a leaf file.
 use Rattle.std.proofs.Common.{◌≡◌, ◌⊎◌, inl, inr, ℕ, List, [], ◌∷◌, Bool, true, false, Option, Some, None, IsSome, option_map, Result, Ok, Err, refl, ap, sym, subst, ◌∙◌}
-use Rattle.std.specs.Bool.{⊤}
-use Rattle.std.specs.List.{AllByRecursion}
+use Rattle.sporc_top.proofs.Common.{⊤, AllByRecursion, ChangesFile, HasNoFile, IsDiskOf, made_in, with_file, NamedFile, StreamTold, DiskTold, Device, Client, Command, Keygen, Fault, FileNames}
+use Rattle.sporc_top.proofs.Common.{file_name, names_of_document, FoundOutcome, IsStoreFault, founding_files, by_command, file_at, if_over, leaf_name, over_its_disk, Performs, OutsideUse, client_use}
 use Rattle.std.specs.Str.{bytes_eq}
 use Rattle.std.proofs.lemmas.Slice.Eq.{bytes_eq-Decides}
-use Rattle.sporc_outside.specs.Files.{ChangesFile, HasNoFile, IsDiskOf, made_in, with_file}
-use Rattle.sporc_outside.specs.declared.named_file.NamedFile.{NamedFile}
 use Rattle.sporc_outside.specs.Uses.{Use}
-use Rattle.sporc_outside.specs.Streams.{StreamTold}
 use Rattle.sporc_outside.specs.Folders.{FolderTold}
 use Rattle.sporc_outside.specs.Chances.{ChanceTold}
 use Rattle.sporc_outside.specs.Nets.{NetTold}
-use Rattle.sporc_outside.specs.LeafDisk.{DiskTold}
 use Rattle.sporc_keys.specs.declared.founding.Founding.{Founding}
 use Rattle.sporc_keys.specs.declared.new_key.NewKey.{NewKey}
 use Rattle.sporc_keys.specs.KeyFile.{key_file_bytes}
-use Rattle.sporc_member.specs.declared.device.Device.{Device}
 use Rattle.sporc_order.specs.OrderModel.{OrderModel}
 use Rattle.sporc_shared.specs.Items.{Past}
-use Rattle.sporc_words.specs.declared.client.Client.{Client}
-use Rattle.sporc_words.specs.declared.command.Command.{Command}
 use Rattle.sporc_words.specs.declared.command.Command.TheVariants as commands
 use Rattle.sporc_words.specs.declared.found.Found.{Found}
-use Rattle.sporc_words.specs.declared.keygen.Keygen.{Keygen}
-use Rattle.sporc_files.specs.declared.fault.Fault.{Fault}
 use Rattle.sporc_files.specs.declared.fault.Fault.TheVariants as faults
 use Rattle.sporc_files.specs.declared.file.File.{File}
 use Rattle.sporc_files.specs.declared.file.File.TheVariants as files
-use Rattle.sporc_files.specs.Names.{FileNames, file_name, names_of_document}
 use Rattle.sporc_files.specs.Writing.{StoresFirst, StoresPrefix, file_with}
-use Rattle.sporc_commands.specs.Founding.{FoundOutcome, IsStoreFault, founding_files}
 use Rattle.sporc_commands.specs.KeyMaking.{IsFilesFault, IsThere, KeygenOutcome, Makes, StoresKey, StoresKeyFile, key_files}
 use Rattle.sporc_docs.specs.Hands.{Both}
 use Rattle.sporc_commands.specs.Moments.{Moment, at_end, folder_between, sink_between}
@@ -37,16 +26,14 @@ use Rattle.sporc_commands.specs.Outcomes.{IsRound, KeepsLog, ServeOutcome}
 use Rattle.sporc_commands.specs.Rounds.{GoWell, Round, Standing}
 use Rattle.sporc_commands.specs.Tails.{GivesBack, KeepsTail, RemovesTail}
 use Rattle.sporc_hosting.specs.Hosting.{GivesAllBack, IsRoundOfAll, ServeAllOutcome}
-use Rattle.sporc_hosting.specs.Loading.{ChangesTails, IsNoTail, OpenLogModel, with_tail_made, with_tails_made}
+use Rattle.sporc_hosting.specs.Loading.{ChangesTails, IsNoTail, with_tail_made, with_tails_made}
+use Rattle.sporc_hosting.specs.OpenLogModel.{OpenLogModel}
 use Rattle.sporc_hosting.specs.Saving.{KeepsLogs}
 use Rattle.sporc_clients.specs.Concluding.{FilesUse, SaveOutcome}
 use Rattle.sporc_clients.specs.declared.member_files.MemberFiles.{MemberFiles}
 use Rattle.sporc_clients.specs.Lives.{ClientRun}
 use Rattle.sporc_clients.specs.Outcome.{ClientOutcome, ClientUse, DiskOutcome, files_of, names_of, no_disk, no_member, not_worked, over_disk, with_folder, worked}
-use Rattle.sporc_top.specs.LeafFiles.{by_command, file_at, if_over, leaf_name, over_its_disk}
 use Rattle.sporc_top.specs.Needs.{needs_of}
-use Rattle.sporc_top.specs.Performing.{Performs}
-use Rattle.sporc_top.specs.Uses.{OutsideUse, client_use}
 use Rattle.sporc_top.proofs.LeafFiles.{Keeps, kept_back, kept_changes, kept_first, kept_made, kept_prefix, kept_removed, kept_stores, kept_taken, kept_with, not_genesis, not_history, not_key, not_log, not_tail, own_back, own_is, own_tells, rings_others}
 
 -- ---- told files stay told

@@ -1,22 +1,17 @@
 -- What commands leave of a leaf file.
-use Rattle.std.proofs.Common.{◌≡◌, ◌≢◌, inl, inr, ℕ, List, [], ◌∷◌, ◌++◌, Bool, true, false, map, Option, Some, None, IsSome, option_map, refl, ap, sym, subst, ◌∙◌, arith, codes, if◌then◌else◌}
+use Rattle.std.proofs.Common.{◌≡◌, ◌≢◌, inl, inr, ℕ, List, [], ◌∷◌, ◌++◌, Bool, true, false, map, Option, Some, None, IsSome, option_map, refl, ap, sym, subst, ◌∙◌, arith, codes}
+use Rattle.sporc_top.proofs.Common.{AllByRecursion, ChangesFile, IsDiskOf, RemovesFile, TakesBack, TakesFile, file_in, made_in, with_file, NamedFile, Device, FileNames, file_name, names_of_document}
+use Rattle.sporc_top.proofs.Common.{ring_of_founding, file_at, leaf_name}
 use Rattle.std.specs.Fmt.{decimal}
-use Rattle.std.specs.List.{AllByRecursion}
 use Rattle.std.specs.Str.{bytes_eq}
 use Rattle.std.proofs.lemmas.Slice.Eq.{bytes_eq-Decides}
-use Rattle.sporc_outside.specs.Files.{ChangesFile, IsDiskOf, RemovesFile, TakesBack, TakesFile, file_in, made_in, with_file, without_file}
-use Rattle.sporc_outside.specs.declared.named_file.NamedFile.{NamedFile}
-use Rattle.sporc_outside.proofs.Files.{file_in-other}
-use Rattle.sporc_member.specs.declared.device.Device.{Device}
+use Rattle.sporc_outside.proofs.Files.{file_in-other, file_in-without}
 use Rattle.sporc_keys.specs.declared.ring_file.RingFile.{RingFile}
 use Rattle.sporc_script.specs.Spelling.{DeviceInRange, device_text}
 use Rattle.sporc_files.specs.declared.file.File.TheVariants as files
-use Rattle.sporc_files.specs.Names.{FileNames, file_name, names_of_document}
 use Rattle.sporc_files.proofs.NamesApart.{names_apart}
 use Rattle.sporc_files.specs.Writing.{Stores, StoresFirst, StoresPrefix, with_files, with_one}
-use Rattle.sporc_commands.specs.Founding.{ring_of_founding}
 use Rattle.sporc_commands.proofs.Opened.{made_other, put_other}
-use Rattle.sporc_top.specs.LeafFiles.{file_at, leaf_name}
 
 -- ---- names that end otherwise
 
@@ -128,20 +123,10 @@ module _ (name : List ℕ) where
   kept_taken (Some fs) after None other differs back = ap (file_at name) back
   kept_taken (Some fs) after (Some bytes) other differs back = ap (file_at name) back ∙ put_other fs other bytes name differs
 
-  file_in-without : (fs : List NamedFile) (other : List ℕ) → bytes_eq other name ≡ false → file_in (without_file fs other) name ≡ file_in fs name
-  file_in-without [] other differs = refl
-  file_in-without (f ∷ fs) other differs = go (bytes_eq f.name other) refl (file_in-without fs other differs)
-    where
-      go : (b : Bool) → bytes_eq f.name other ≡ b → file_in (without_file fs other) name ≡ file_in fs name → file_in (without_file (f ∷ fs) other) name ≡ file_in (f ∷ fs) name
-      go true e more =
-          let apart : bytes_eq f.name name ≡ false = subst (λ (n : List ℕ). bytes_eq n name ≡ false) (sym ((bytes_eq-Decides f.name other).0 e)) differs in
-          rw (e, apart) refl
-      go false e more = rw e (ap (λ (r : Option (List ℕ)). if bytes_eq f.name name then Some f.bytes else r) more)
-
   -- was removed
   pub kept_removed : (before after : Option (List NamedFile)) (other : List ℕ) → bytes_eq other name ≡ false → RemovesFile other before after → Keeps before after
   kept_removed None after other differs gone = ap (file_at name) gone
-  kept_removed (Some fs) after other differs gone = ap (file_at name) gone ∙ file_in-without fs other differs
+  kept_removed (Some fs) after other differs gone = ap (file_at name) gone ∙ file_in-without fs other name differs
 
   -- ---- the disk of a file
 

@@ -1,26 +1,15 @@
 -- Over runs of the program no leaf signs twice.
 use Rattle.std.proofs.Common.{◌≡◌, ◌≢◌, ◌⊎◌, inl, inr, ℕ, ◌<◌, List, [], ◌∷◌, ◌++◌, map, false, Option, Some, None, IfSome, IsSome, AllPairs, Result, Ok, Err, refl, ap, sym, subst, ◌∙◌}
-use Rattle.std.specs.Bool.{⊤}
+use Rattle.sporc_top.proofs.Common.{⊤, HasNoFile, DiskTold, IsDiskFound, disk_images, NamedFile, Device, Command, Keygen, command_of, Fault, status_of, AreProgramRuns, FindsLeafFile, GoesOnOver}
+use Rattle.sporc_top.proofs.Common.{LeavesLeafFile, MakesLeafFile, ProgramRun, SignOnceOverRuns, all_signed_over, behind_then, by_end, by_outcome, file_at, if_over, leaf_name, life_of, over_leaf_file}
+use Rattle.sporc_top.proofs.Common.{signed_over, Ends, RunOutcome, command, done, no_command, stopped, unread, Performs, names_of, OutsideUse}
 use Rattle.lms_leaf.specs.Lives.{GoesOn}
-use Rattle.sporc_outside.specs.Files.{HasNoFile}
-use Rattle.sporc_outside.specs.LeafDisk.{DiskTold, IsDiskFound, disk_images}
-use Rattle.sporc_outside.specs.declared.named_file.NamedFile.{NamedFile}
 use Rattle.sporc_outside.specs.Folders.{FolderTold}
-use Rattle.sporc_member.specs.declared.device.Device.{Device}
-use Rattle.sporc_words.specs.declared.command.Command.{Command}
 use Rattle.sporc_words.specs.declared.command.Command.TheVariants as commands
-use Rattle.sporc_words.specs.declared.keygen.Keygen.{Keygen}
-use Rattle.sporc_words.specs.Commands.{command_of}
-use Rattle.sporc_files.specs.declared.fault.Fault.{Fault}
 use Rattle.sporc_files.specs.declared.fault.Fault.TheVariants as faults
-use Rattle.sporc_files.specs.Faults.{status_of}
 use Rattle.sporc_clients.specs.Lives.{AreRuns, ClientRun, all_signed, life_of as life_of_client}
 use Rattle.sporc_clients.proofs.Lives.{sign_once}
-use Rattle.sporc_top.specs.LeafFiles.{AreProgramRuns, FindsLeafFile, GoesOnOver, LeavesLeafFile, MakesLeafFile, ProgramRun, SignOnceOverRuns, all_signed_over, behind_then, by_end, by_outcome, file_at, if_over, leaf_name, life_of, over_leaf_file, signed_over}
 use Rattle.sporc_top.specs.Needs.{needs_by, needs_of}
-use Rattle.sporc_top.specs.Outcome.{Ends, RunOutcome, command, done, no_command, stopped, unread}
-use Rattle.sporc_top.specs.Performing.{Performs, names_of}
-use Rattle.sporc_top.specs.Uses.{OutsideUse}
 use Rattle.sporc_top.proofs.LeafCommands.{CommandLeaves, HasBeenOver, command_has, command_leaves}
 
 module _ (document : List ℕ) (device : Device) where

@@ -1,12 +1,11 @@
 -- What a source that tells its bytes calls for.
 use Rattle.std.proofs.Common.{◌≡◌, ℕ, ◌+◌, ◌<◌, ◌≤◌, ◌⊎◌, true, List, ◌++◌, length, Option, Some, None, Result, Ok, Err, refl, sym, ap, ◌∙◌, subst, inl, inr, arith, append-nil, length-append}
-use Rattle.std.specs.Bool.{⊤}
+use Rattle.sporc_top.proofs.Common.{⊤, IsUnwritten, StreamTold, DiskTold, Command, command_of, Fault, WritesFaultLine, status_of, fault_line, Ends, RunOutcome, UnlessCutOff, command, done, no_command}
+use Rattle.sporc_top.proofs.Common.{stopped, unread, GeneratedOutcome, Performs, PlaysEdits, PlaysSource, as_program, fault_of_play, names_of, no_files, OutsideUse}
 use Rattle.std.specs.Io.KnownBytes.{Appends, Consumes, IsAtEnd}
 use Rattle.sporc_outside.specs.Counts.{Rose}
 use Rattle.sporc_outside.specs.Uses.{Use}
-use Rattle.sporc_outside.specs.Streams.{IsUnwritten, StreamTold}
 use Rattle.sporc_outside.specs.Writing.{AppendsPrefix}
-use Rattle.sporc_outside.specs.LeafDisk.{DiskTold}
 use Rattle.sporc_outside.specs.Reading.{ConsumesExactly}
 use Rattle.sporc_script.specs.declared.command.Command.{Command as PlayCommand}
 use Rattle.sporc_script.specs.declared.play_line.PlayLine.{PlayLine}
@@ -24,15 +23,10 @@ use Rattle.sporc_play.specs.OwnPlays.{AreByClients}
 use Rattle.sporc_play.specs.Playing.{GeneratedFault, HasFaultLine, PlayOutcome, Plays, PlaysGenerated, ReadsWhole}
 use Rattle.sporc_play.specs.Report.{Reports}
 use Rattle.sporc_play.specs.Scene.{commands_of}
-use Rattle.sporc_words.specs.declared.command.Command.{Command}
 use Rattle.sporc_words.specs.declared.command.Command.TheVariants as commands
-use Rattle.sporc_words.specs.Commands.{command_of}
-use Rattle.sporc_files.specs.declared.fault.Fault.{Fault}
 use Rattle.sporc_files.specs.declared.fault.Fault.TheVariants as faults
-use Rattle.sporc_files.specs.Faults.{WritesFaultLine, status_of, fault_line}
-use Rattle.sporc_top.specs.Outcome.{Ends, RunOutcome, UnlessCutOff, command, done, from, no_command, stopped, unread, until}
-use Rattle.sporc_top.specs.Performing.{GeneratedOutcome, Performs, PlaysEdits, PlaysSource, as_program, fault_of_play, names_of, no_files}
-use Rattle.sporc_top.specs.Uses.{OutsideUse}
+use Rattle.sporc_clients.specs.Uses.{from, until}
+use Rattle.sporc_top.specs.Plays.{IsPlayed}
 
 -- ---- what was read
 
@@ -88,6 +82,9 @@ IsAgreed text out =
     (script : List PlayLine) × IsPlayScript text script × Reports script out.before.written out.after.written
     × (has_admin script ≡ true → IsOneRun script (commands_of script))
     × (has_admin script ≡ true → AreByClients script → Genuine (setup_of script) (moves_of script (commands_of script)))
+
+as_played : (text : List ℕ) (outside : OutsideUse) → IsAgreed text outside.out → (script : List PlayLine) × IsPlayed text script outside
+as_played text outside (script, reads, reports, run, genuine) = (script, record { reads = reads; reports = reports; run = run; genuine = genuine })
 
 -- a source that tells its bytes, read for a script
 module _ (source : Use StreamTold) (text : List ℕ) (tells : source.before.left ≡ Some text) where
@@ -250,10 +247,10 @@ unless_unread (inr ends) ended = ended ends
 
 module _ {D : Type 0} (disks : D → DiskTold) (words : List (List ℕ)) (outside : OutsideUse) (status : ℕ) (outcome : RunOutcome disks words outside status) where
   module _ (text : List ℕ) (play : command_of words ≡ Some commands.Play) (tells : outside.source.before.left ≡ Some text) where
-    pub on_done : status ≡ 0 → IsAgreed text outside.out
+    pub on_done : status ≡ 0 → (script : List PlayLine) × IsPlayed text script outside
     on_done zero = elim (by_command disks words outside status commands.Play outcome play) [
       | inl one ↦ absurd (omega (arith, zero, one))
-      | inr ends ↦ ended_agreed outside.source text tells outside.out status zero ends
+      | inr ends ↦ as_played text outside (ended_agreed outside.source text tells outside.out status zero ends)
     ]
 
     pub on_script : (script : List PlayLine) → length text ≤ MAX_SCRIPT → IsPlayScript text script

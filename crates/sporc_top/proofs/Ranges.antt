@@ -1,6 +1,6 @@
 -- The values of a command are in their ranges.
 use Rattle.std.proofs.Common.{◌≡◌, ◌≤◌, ◌==◌, ℕ, Bool, true, false, nat_le, nat_lt, ◌^◌, List, [], ◌∷◌, length, Option, Some, None, find, option_map, refl, sym, ap, ◌∙◌, subst, inl, inr, if◌then◌else◌, codes, arith, slice_get}
-use Rattle.std.specs.List.{AllByRecursion, after_first, before_first}
+use Rattle.sporc_top.proofs.Common.{AllByRecursion, after_first, before_first, Client, Command, Keygen, MayFound}
 use Rattle.std.proofs.lemmas.Bool.{and_parts, leb-true, ltb-true}
 use Rattle.std.proofs.lemmas.Option.{cond_some, same_Some}
 use Rattle.clap.specs.Walk.{Row, Text, first_of}
@@ -18,14 +18,11 @@ use Rattle.sporc_script.specs.Readers.{device_of, is_member, passing, then_read,
 use Rattle.sporc_script.specs.Words.{number_of}
 use Rattle.sporc_script.proofs.Exact.{map_some, then_some}
 use Rattle.sporc_wire.specs.declared.limits.TheConstants.{MAX_DOCUMENTS, MAX_SESSIONS}
-use Rattle.sporc_words.specs.declared.client.Client.{Client}
-use Rattle.sporc_words.specs.declared.command.Command.{Command}
 use Rattle.sporc_words.specs.declared.command.Command.TheVariants as commands
 use Rattle.sporc_words.specs.declared.command.Verb.{Verb}
 use Rattle.sporc_words.specs.declared.command.Verb.TheVariants as verbs
 use Rattle.sporc_words.specs.declared.found.Found.{Found}
 use Rattle.sporc_words.specs.declared.standing.Participant.{Participant}
-use Rattle.sporc_words.specs.declared.keygen.Keygen.{Keygen}
 use Rattle.sporc_words.specs.declared.serve.Serve.{Serve}
 use Rattle.sporc_words.specs.declared.serve_all.ServeAll.{ServeAll}
 use Rattle.sporc_words.specs.declared.defaults.TheConstants.{DEFAULT_ROUNDS, DEFAULT_TIMES, DEFAULT_UNTIL}
@@ -35,7 +32,6 @@ use Rattle.sporc_words.specs.Help.{help_in}
 use Rattle.sporc_words.specs.Verbs.{verb_of}
 use Rattle.sporc_words.proofs.HelpLines.{told_by_help}
 use Rattle.sporc_words.specs.Values.{all_participants, is_between, is_colon, may_found, number_between, participant_by, participant_of, participants_of, standing_of, read_or, times_of, tree_of, value_of, value_or, values_of, width_named}
-use Rattle.sporc_commands.specs.Founding.{MayFound}
 use Rattle.sporc_top.specs.Ranges.{IsInRange}
 
 -- ---- values that were read

@@ -1,17 +1,10 @@
 -- What a run did, by what came of its parts.
 use Rattle.std.proofs.Common.{◌≡◌, ◌≤◌, ℕ, List, Some, None, Err, refl, sym, ap, ◌∙◌, subst}
-use Rattle.sporc_outside.specs.Streams.{StreamTold}
-use Rattle.sporc_outside.specs.LeafDisk.{DiskTold}
-use Rattle.sporc_words.specs.declared.command.Command.{Command}
+use Rattle.sporc_top.proofs.Common.{StreamTold, DiskTold, Command, command_of, Fault, WritesFaultLine, fault_of_words, status_of, FileNames, RunOutcome, command, no_command, stopped, unread, Performs}
+use Rattle.sporc_top.proofs.Common.{names_of, no_files, IsUnused, OutsideUse}
 use Rattle.sporc_words.specs.declared.fault.WordsFault.{WordsFault}
 use Rattle.sporc_words.specs.declared.fault.WordsFault.TheVariants as reading
-use Rattle.sporc_words.specs.Commands.{command_of}
-use Rattle.sporc_files.specs.declared.fault.Fault.{Fault}
-use Rattle.sporc_files.specs.Faults.{WritesFaultLine, fault_of_words, status_of}
-use Rattle.sporc_files.specs.Names.{FileNames}
-use Rattle.sporc_top.specs.Outcome.{RunOutcome, command, from, no_command, stopped, unread, until}
-use Rattle.sporc_top.specs.Performing.{Performs, names_of, no_files}
-use Rattle.sporc_top.specs.Uses.{IsUnused, OutsideUse}
+use Rattle.sporc_clients.specs.Uses.{from, until}
 
 module _ {D : Type 0} (disks : D → DiskTold) (words : List (List ℕ)) (outside : OutsideUse) where
   -- the words were not read

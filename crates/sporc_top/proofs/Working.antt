@@ -1,15 +1,9 @@
 -- What a command did, by the words that it is.
 use Rattle.std.proofs.Common.{◌≡◌, Result, subst, sym}
-use Rattle.std.specs.Bool.{⊤}
-use Rattle.sporc_outside.specs.LeafDisk.{DiskTold}
-use Rattle.sporc_words.specs.declared.client.Client.{Client}
-use Rattle.sporc_words.specs.declared.command.Command.{Command}
+use Rattle.sporc_top.proofs.Common.{⊤, DiskTold, Client, Command, Fault, Performs, ServesDocument, ServesDocuments, WorksAsMember, OutsideUse, client_use}
 use Rattle.sporc_words.specs.declared.command.Command.TheVariants as commands
 use Rattle.sporc_words.specs.declared.serve.Serve.{Serve}
 use Rattle.sporc_words.specs.declared.serve_all.ServeAll.{ServeAll}
-use Rattle.sporc_files.specs.declared.fault.Fault.{Fault}
-use Rattle.sporc_top.specs.Performing.{Performs, ServesDocument, ServesDocuments, WorksAsMember}
-use Rattle.sporc_top.specs.Uses.{OutsideUse, client_use}
 
 module _ {D : Type 0} (disks : D → DiskTold) (outside : OutsideUse) where
   pub by_serve : (asked : Command) (words : Serve) (answer : Result ⊤ Fault) → asked ≡ commands.Serve words

@@ -1,5 +1,6 @@
 -- What a run of the program did.
-use Rattle.std.specs.Prelude.{◌≡◌, ◌≤◌, ◌⊎◌, ℕ, List, None, Some, Result, Ok, Err, ⊤}
+use Rattle.std.specs.Prelude.{◌≡◌, ◌≤◌, ◌⊎◌, ℕ, List, map, None, Some, Result, Ok, Err, ⊤, String}
+use Rattle.std.specs.Prelude.{string_bytes}
 use Rattle.sporc_outside.specs.Uses.{Use}
 use Rattle.sporc_outside.specs.Streams.{StreamTold}
 use Rattle.sporc_outside.specs.LeafDisk.{DiskTold}
@@ -9,15 +10,9 @@ use Rattle.sporc_files.specs.declared.fault.Fault.{Fault}
 use Rattle.sporc_files.specs.declared.fault.Fault.TheVariants as faults
 use Rattle.sporc_files.specs.Faults.{WritesFaultLine, status_of}
 use Rattle.sporc_files.specs.Names.{FileNames}
+use Rattle.sporc_clients.specs.Uses.{from, until}
 use Rattle.sporc_top.specs.Performing.{Performs, names_of, no_files}
-use Rattle.sporc_top.specs.Uses.{IsUnused, OutsideUse}
-
--- the sink from its beginning up to a moment between, at which it told this, and from then on
-abbrev pub until : StreamTold → Use StreamTold → Use StreamTold
-until between out = record out { after = between }
-
-abbrev pub from : StreamTold → Use StreamTold → Use StreamTold
-from between out = record out { before = between }
+use Rattle.sporc_top.specs.Uses.{AllKept, IsUnused, OutsideUse}
 
 -- A command did all its work, or a fault stopped it, whose line was then written behind what the
 -- command had written; by the exit status. The sink's count did not fall before that line, nor
@@ -42,6 +37,16 @@ pub data RunOutcome {D : Type 0} (disks : D → DiskTold) (words : List (List �
   command : {asked : Command} {status : ℕ} → command_of words ≡ Some asked
       → Ends (λ out. Performs disks asked (record outside { out = out }))
       (names_of asked) outside.out status → RunOutcome disks words outside status
+
+-- the words of a run, as their bytes
+abbrev pub texts : {Z : Type 0} → List (String Z) → List (List ℕ)
+texts {Z = Z} words = map (λ (w : String Z). string_bytes w) words
+
+-- what a run did; and no count fell, and all that was handed out came back
+pub record Ran {D : Type 0} (disks : D → DiskTold) (words : List (List ℕ)) (outside : OutsideUse)
+    (status : ℕ) : Type 0 where
+  pub outcome : RunOutcome disks words outside status
+  pub kept : AllKept outside
 
 -- this, unless memory ran out, or something outside failed
 abbrev pub UnlessCutOff : ℕ → Type 0 → Type 0

@@ -15,6 +15,11 @@ pub record OutsideUse : Type 0 where
   pub net : Use NetTold
   pub chance : Use ChanceTold
 
+abbrev pub uses : Use StreamTold → Use StreamTold → Use FolderTold → Use NetTold → Use ChanceTold
+    → OutsideUse
+uses source out folder net chance =
+    record { source = source; out = out; folder = folder; net = net; chance = chance }
+
 -- those that `client` is handed
 abbrev pub client_use : OutsideUse → ClientUse
 client_use outside = record {

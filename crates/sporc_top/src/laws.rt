@@ -1,77 +1,61 @@
 //! Laws over what a run did, whatever its links and disks tell. Their functions do nothing.
 
-ghost use Rattle.std.specs.Prelude.{◌≡◌, ◌<◌, ◌≤◌, ℕ, true, List, IsSome, None, Some, length};
+ghost use Rattle.std.specs.Prelude.{◌≡◌, ◌<◌, ◌≤◌, ℕ, List, None, Some, length};
 ghost use Rattle.sporc_member.specs.declared.device.Device.{Device};
 ghost use Rattle.sporc_script.specs.Grammar.{IsPlayFault, IsPlayScript};
 ghost use Rattle.sporc_script.specs.Spelling.{DeviceInRange};
 ghost use Rattle.sporc_script.specs.declared.play_line.PlayLine.{PlayLine};
-ghost use Rattle.sporc_client.specs.Genuine.{Genuine};
-ghost use Rattle.sporc_play.specs.Cast.{has_admin, setup_of};
-ghost use Rattle.sporc_play.specs.Moves.{IsOneRun, moves_of};
-ghost use Rattle.sporc_play.specs.OwnPlays.{AreByClients};
-ghost use Rattle.sporc_play.specs.Scene.{commands_of};
 ghost use Rattle.sporc_play.specs.declared.playing.TheConstants.{MAX_SCRIPT};
 ghost use Rattle.sporc_play.specs.Playing.{PlaysGenerated};
-ghost use Rattle.sporc_play.specs.Report.{Reports};
-ghost use Rattle.sporc_words.specs.declared.command.Command.TheVariants as commands;
+ghost use Rattle.sporc_words.specs.declared.command.Command.TheVariants.{Generate, Play};
 ghost use Rattle.sporc_words.specs.Commands.{command_of};
 ghost use Rattle.sporc_files.specs.declared.fault.Fault.TheVariants as faults;
 ghost use Rattle.sporc_files.specs.Faults.{WritesFaultLine};
-ghost use Rattle.sporc_top.specs.LeafFiles.{LeavesLeafFile, ProgramRun, SignOnceOverRuns};
+ghost use Rattle.sporc_top.specs.LeafFiles.{IsTold, LeavesLeafFile, ProgramRun, SignOnceOverRuns};
 ghost use Rattle.sporc_top.specs.LeafFiles.{leaf_name, over_leaf_file};
 ghost use Rattle.sporc_top.specs.Outcome.{RunOutcome, UnlessCutOff};
 ghost use Rattle.sporc_top.specs.Performing.{no_files};
+ghost use Rattle.sporc_top.specs.Plays.{IsPlayed, PlayOf, WritesReport};
 ghost use Rattle.sporc_top.specs.Uses.{OutsideUse};
 
 use sporc_outside::LeafDisk;
 
-/// If `play` answers 0 for a text that the source tells, the text is a script, its report alone was
-/// written, and its play is one run of clients who agree at any two moments. No one forges without
-/// `sign`, `flip` and `cut`; without an admin there is no command. docs/HEADLINE.md says more.
+/// If `play` answers 0 for a text that the source tells, it played that script, and its clients
+/// agree at any two moments. docs/HEADLINE.md says more.
 pub fn plays_agree<D: LeafDisk>()
-    ensures { (words : List (List ℕ)) (outside : OutsideUse) (text : List ℕ)
-        → RunOutcome D.told words outside 0
-        → command_of words ≡ Some commands.Play → outside.source.before.left ≡ Some text
-        → (script : List PlayLine) × IsPlayScript text script
-        × Reports script outside.out.before.written outside.out.after.written
-        × (has_admin script ≡ true → IsOneRun script (commands_of script))
-        × (has_admin script ≡ true → AreByClients script
-        → Genuine (setup_of script) (moves_of script (commands_of script))) }
+    ensures { (words : List (List ℕ)) (did : OutsideUse) → RunOutcome D.told words did 0
+        → command_of words ≡ Some Play → (text : List ℕ) → did.source.before.left ≡ Some text
+        → (script : List PlayLine) × IsPlayed text script did }
 {}
 
 /// Of a source that tells a script, `play` writes the report, unless memory runs out or the source
 /// or the sink fails.
 pub fn scripts_are_played<D: LeafDisk>()
-    ensures { (words : List (List ℕ)) (outside : OutsideUse) (status : ℕ) (text : List ℕ)
-        (script : List PlayLine) → RunOutcome D.told words outside status
-        → command_of words ≡ Some commands.Play → outside.source.before.left ≡ Some text
-        → length text ≤ MAX_SCRIPT → IsPlayScript text script → UnlessCutOff status
-        ((status ≡ 0) × Reports script outside.out.before.written outside.out.after.written) }
+    ensures { (text : List ℕ) (did : OutsideUse) (status : ℕ) → PlayOf D.told text did status
+        → length text ≤ MAX_SCRIPT → (script : List PlayLine) → IsPlayScript text script
+        → UnlessCutOff status ((status ≡ 0) × WritesReport script did.out) }
 {}
 
 /// Of a source that tells a text with a line outside the grammar, it writes the number of the first
 /// one, unless the same.
 pub fn fault_lines_are_told<D: LeafDisk>()
-    ensures { (words : List (List ℕ)) (outside : OutsideUse) (status : ℕ) (text : List ℕ) (line : ℕ)
-        → RunOutcome D.told words outside status → command_of words ≡ Some commands.Play
-        → outside.source.before.left ≡ Some text → length text ≤ MAX_SCRIPT → IsPlayFault text line
-        → UnlessCutOff status
-        ((status ≡ 3) × WritesFaultLine outside.out no_files (faults.Line line)) }
+    ensures { (text : List ℕ) (did : OutsideUse) (status : ℕ) → PlayOf D.told text did status
+        → length text ≤ MAX_SCRIPT → (line : ℕ) → IsPlayFault text line
+        → UnlessCutOff status ((status ≡ 3) × WritesFaultLine did.out no_files (faults.Line line)) }
 {}
 
 /// Of a source that tells more bytes than a script may have, it writes that, unless the same.
 pub fn long_scripts_are_told<D: LeafDisk>()
-    ensures { (words : List (List ℕ)) (outside : OutsideUse) (status : ℕ) (text : List ℕ)
-        → RunOutcome D.told words outside status → command_of words ≡ Some commands.Play
-        → outside.source.before.left ≡ Some text → MAX_SCRIPT < length text → UnlessCutOff status
-        ((status ≡ 3) × WritesFaultLine outside.out no_files faults.LongScript) }
+    ensures { (text : List ℕ) (did : OutsideUse) (status : ℕ) → PlayOf D.told text did status
+        → MAX_SCRIPT < length text
+        → UnlessCutOff status ((status ≡ 3) × WritesFaultLine did.out no_files faults.LongScript) }
 {}
 
 /// If the words ask for a generated run, `play` writes its summary, unless memory runs out or the
 /// sink fails.
 pub fn generated_runs_are_played<D: LeafDisk>()
     ensures { (words : List (List ℕ)) (outside : OutsideUse) (status n : ℕ)
-        → RunOutcome D.told words outside status → command_of words ≡ Some (commands.Generate n)
+        → RunOutcome D.told words outside status → command_of words ≡ Some (Generate n)
         → UnlessCutOff status ((status ≡ 0) × PlaysGenerated n outside.out) }
 {}
 
@@ -79,11 +63,9 @@ pub fn generated_runs_are_played<D: LeafDisk>()
 /// whatever its words and its end, that file stands as before. Or the run is a `keygen` that makes
 /// it, where there was none, or where something outside failed.
 ///
-/// This speaks of a folder that tells its files.
+/// This speaks of a folder that tells its files, and which disks are out.
 pub fn leaf_files_stay<D: LeafDisk>()
-    ensures { (document : List ℕ) (device : Device)
-        (run : ProgramRun D.told)
-        → IsSome run.outside.folder.before.files → IsSome run.outside.folder.before.lent
+    ensures { (document : List ℕ) (device : Device) (run : ProgramRun D.told) → IsTold D.told run
         → over_leaf_file D.told (leaf_name document device) run ≡ None
         → LeavesLeafFile D.told (leaf_name document device) run }
 {}

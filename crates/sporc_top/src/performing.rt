@@ -13,8 +13,9 @@ ghost use Rattle.sporc_top.specs.Needs.{needs_of};
 ghost use Rattle.sporc_top.specs.Performing.{Performs, PlaysEdits, PlaysSource, ServesDocument};
 ghost use Rattle.sporc_top.specs.Performing.{ServesDocuments, fault_of_play, names_of};
 ghost use Rattle.sporc_top.specs.Ranges.{IsInRange};
+ghost use Rattle.sporc_top.specs.Uses.{uses};
 
-use sporc_clients::client;
+use sporc_clients::{Platform, client};
 use sporc_commands::{check, compare, found, keygen, list_entries, public, serve, text};
 use sporc_files::{Fault, Names};
 use sporc_help::{help, version};
@@ -103,21 +104,7 @@ where
     ensures net_kept { (N.told net.old).faults ≤ (N.told net.new).faults }
     ensures out_kept { (O.told out.old).faults ≤ (O.told out.new).faults }
 {
-    let names = Names::of_document(words.name.as_str());
-    let address = words.address.as_str();
-    let sessions = words.sessions;
-    serve(
-        rt,
-        alloc,
-        files,
-        net,
-        out,
-        &names,
-        address,
-        sessions,
-        words.times,
-        gate,
-    )
+    serve(rt, alloc, files, net, out, words, gate)
 }
 
 // Serves sessions of several documents from their logs.
@@ -145,21 +132,7 @@ where
     ensures net_kept { (N.told net.old).faults ≤ (N.told net.new).faults }
     ensures out_kept { (O.told out.old).faults ≤ (O.told out.new).faults }
 {
-    let names = words.names.as_slice();
-    let address = words.address.as_str();
-    let sessions = words.sessions;
-    serve_all(
-        rt,
-        alloc,
-        files,
-        net,
-        out,
-        names,
-        address,
-        sessions,
-        words.times,
-        gate,
-    )
+    serve_all(rt, alloc, files, net, out, words, gate)
 }
 
 // Examines the history of a device.
@@ -177,8 +150,7 @@ fn check_history<R: Threads + Wait + Sync, O: Sink, F: Folder, G: Gate + Sync>(
     ensures files_kept { (F.told files.old).faults ≤ (F.told files.new).faults }
     ensures out_kept { (O.told out.old).faults ≤ (O.told out.new).faults }
 {
-    let names = Names::of_document(words.name.as_str());
-    check(rt, alloc, files, out, &names, words.device, gate)
+    check(rt, alloc, files, out, words, gate)
 }
 
 // Compares the histories of two devices.
@@ -195,8 +167,7 @@ fn compare_histories<O: Sink, F: Folder>(
     ensures files_kept { (F.told files.old).faults ≤ (F.told files.new).faults }
     ensures out_kept { (O.told out.old).faults ≤ (O.told out.new).faults }
 {
-    let names = Names::of_document(words.name.as_str());
-    compare(alloc, files, out, &names, words.first, words.second)
+    compare(alloc, files, out, words)
 }
 
 // Tells the committed text of a device's history.
@@ -209,15 +180,12 @@ fn tell_text<R: Threads + Wait + Sync, O: Sink, F: Folder, G: Gate + Sync>(
     gate: &G,
 ) -> Result<(), Fault>
     ensures outcome { TextOutcome (names_of_document words.now.name) words.now.device words.now.at
-        (use_of F.told files.old files.new)
-        (use_of O.told out.old out.new)
-        result }
+        (use_of F.told files.old files.new) (use_of O.told out.old out.new) result }
     ensures lent { (F.told files.new).lent ≡ (F.told files.old).lent }
     ensures files_kept { (F.told files.old).faults ≤ (F.told files.new).faults }
     ensures out_kept { (O.told out.old).faults ≤ (O.told out.new).faults }
 {
-    let names = Names::of_document(words.name.as_str());
-    text(rt, alloc, files, out, &names, words.device, words.at, gate)
+    text(rt, alloc, files, out, words, gate)
 }
 
 // Lists the entries of a device's history.
@@ -235,17 +203,7 @@ fn list_history<R: Threads + Wait + Sync, O: Sink, F: Folder, G: Gate + Sync>(
     ensures files_kept { (F.told files.old).faults ≤ (F.told files.new).faults }
     ensures out_kept { (O.told out.old).faults ≤ (O.told out.new).faults }
 {
-    let names = Names::of_document(words.name.as_str());
-    list_entries(
-        rt,
-        alloc,
-        files,
-        out,
-        &names,
-        words.device,
-        words.from,
-        gate,
-    )
+    list_entries(rt, alloc, files, out, words, gate)
 }
 
 // Does what a command asks for, and tells no fault.
@@ -258,30 +216,22 @@ pub(crate) fn perform<
     C: Chance + Send,
     G: Gate + Sync,
 >(
-    rt: &R,
-    alloc: Global,
+    platform: &Platform<'_, R, G>,
     command: &Command,
     source: &mut S,
     out: &mut O,
     files: &mut F,
     net: &mut N,
     chance: &mut C,
-    gate: &G,
 ) -> Result<(), Fault>
 where
     F::Disk: Send,
     F::Appended: Drop + Send,
     N::Link: Send,
     requires { IsInRange command.now }
-    ensures outcome { Performs F.Disk.told command.now
-        (record {
-          source = use_of S.told source.old source.new;
-          out = use_of O.told out.old out.new;
-          folder = use_of F.told files.old files.new;
-          net = use_of N.told net.old net.new;
-          chance = use_of C.told chance.old chance.new;
-        })
-        result }
+    ensures outcome { Performs F.Disk.told command.now (uses (use_of S.told source.old source.new)
+        (use_of O.told out.old out.new) (use_of F.told files.old files.new)
+        (use_of N.told net.old net.new) (use_of C.told chance.old chance.new)) result }
     ensures source { (needs_of command.now).source ≡ false → source.new ≡ source.old }
     ensures files { (needs_of command.now).files ≡ false → files.new ≡ files.old }
     ensures net { (needs_of command.now).net ≡ false → net.new ≡ net.old }
@@ -296,13 +246,16 @@ where
     ensures chance_kept { (C.told chance.old).faults ≤ (C.told chance.new).faults }
     ensures out_kept { (O.told out.old).faults ≤ (O.told out.new).faults }
 {
+    let rt = platform.rt;
+    let alloc = platform.alloc;
+    let gate = platform.gate;
     match command {
         Command::Play => play_source(alloc, source, out),
         Command::Generate(edits) => play_edits(alloc, *edits, out),
         Command::Keygen(words) => keygen(rt, alloc, files, chance, out, words),
         Command::Found(words) => found(rt, alloc, files, chance, words),
         Command::Serve(words) => serve_document(rt, alloc, words, out, files, net, gate),
-        Command::Client(words) => client(rt, alloc, words, out, files, net, chance, gate),
+        Command::Client(words) => client(platform, words, out, files, net, chance),
         Command::Check(words) => check_history(rt, alloc, words, out, files, gate),
         Command::Compare(words) => compare_histories(alloc, words, out, files),
         Command::Help(page) => help(out, *page),

@@ -1,16 +1,17 @@
 //! The program.
 
-ghost use Rattle.std.specs.Prelude.{◌≡◌, ◌+◌, ◌≤◌, false, map, string_bytes};
+ghost use Rattle.std.specs.Prelude.{◌≡◌, ◌+◌, ◌≤◌, false};
 ghost use Rattle.sporc_outside.specs.Uses.{use_of};
 ghost use Rattle.sporc_outside.specs.Reading.{ConsumesAtMost};
 ghost use Rattle.sporc_play.specs.declared.playing.TheConstants.{MAX_SCRIPT};
 ghost use Rattle.sporc_words.specs.Commands.{command_of};
 ghost use Rattle.sporc_files.specs.Faults.{WritesFaultLine, status_of};
 ghost use Rattle.sporc_top.specs.Needs.{needs_by};
-ghost use Rattle.sporc_top.specs.Outcome.{RunOutcome};
-ghost use Rattle.sporc_top.specs.Uses.{AllKept, OutsideUse};
+ghost use Rattle.sporc_top.specs.Outcome.{Ran, texts};
+ghost use Rattle.sporc_top.specs.Uses.{uses};
 
 use crate::performing::{names_of, perform};
+use sporc_clients::Platform;
 use sporc_files::{Fault, Names};
 use sporc_outside::{Chance, Dial, Folder, Gate, Listen, Sink, Source};
 use sporc_words::read_words;
@@ -72,20 +73,15 @@ where
     F::Disk: Send,
     F::Appended: Drop + Send,
     N::Link: Send,
-    ensures outcome { let did : OutsideUse = record {
-      source = use_of S.told source.old source.new;
-      out = use_of O.told out.old out.new;
-      folder = use_of F.told files.old files.new;
-      net = use_of N.told net.old net.new;
-      chance = use_of C.told chance.old chance.new;
-    } in RunOutcome F.Disk.told (map (λ w. string_bytes w) words.now) did result × AllKept did }
-    ensures source { (needs_by (command_of (map (λ w. string_bytes w) words.now))).source ≡ false
+    ensures outcome { Ran F.Disk.told (texts words.now) (uses (use_of S.told source.old source.new)
+        (use_of O.told out.old out.new) (use_of F.told files.old files.new)
+        (use_of N.told net.old net.new) (use_of C.told chance.old chance.new)) result }
+    ensures source { (needs_by (command_of (texts words.now))).source ≡ false
         → source.new ≡ source.old }
-    ensures files { (needs_by (command_of (map (λ w. string_bytes w) words.now))).files ≡ false
+    ensures files { (needs_by (command_of (texts words.now))).files ≡ false
         → files.new ≡ files.old }
-    ensures net { (needs_by (command_of (map (λ w. string_bytes w) words.now))).net ≡ false
-        → net.new ≡ net.old }
-    ensures chance { (needs_by (command_of (map (λ w. string_bytes w) words.now))).chance ≡ false
+    ensures net { (needs_by (command_of (texts words.now))).net ≡ false → net.new ≡ net.old }
+    ensures chance { (needs_by (command_of (texts words.now))).chance ≡ false
         → chance.new ≡ chance.old }
     ensures taken { ConsumesAtMost (MAX_SCRIPT + 1) (S.told source.old).left
         (S.told source.new).left }
@@ -94,7 +90,8 @@ where
         Ok(command) => command,
         Err(fault) => return told(Fault::from(fault), &Names::of_document(""), out),
     };
-    match perform(rt, alloc, &command, source, out, files, net, chance, gate) {
+    let platform = Platform { rt, alloc, gate };
+    match perform(&platform, &command, source, out, files, net, chance) {
         Ok(()) => 0,
         Err(fault) => told(fault, &names_of(&command), out),
     }

@@ -1,7 +1,6 @@
 -- Worked examples of the definitions, each computed. An item is the number of the pass that added it.
 use Rattle.std.proofs.Common.{◌≡◌, ℕ, [], ◌∷◌, refl}
-use Rattle.sporc_turn.specs.Log.{own, longer, shorter}
-use Rattle.sporc_turn.specs.Knowing.{first_known, adding, splitting, copied, joined_with}
+use Rattle.sporc_turn.proofs.Common.{own, longer, shorter, first_known, adding, splitting, copied, joined_with}
 
 abbrev self : ℕ → ℕ
 self n = n

@@ -1,13 +1,7 @@
 -- For a caller that adds to the log: what `give` requires of it, what the pass knows afterwards, and who adds once all passes are joined back.
 use Rattle.std.proofs.Common.{◌≡◌, ◌≢◌, ℕ, ◌≤◌, ◌==◌, cond, eq-eqb, Bool, true, false, List, [], ◌∷◌, ◌++◌, length, drop, sym, ap, ◌∙◌, subst, ⊎_elim, arith}
-use Rattle.std.specs.Prelude.{Contains, MatchBool}
-use mathlib.Core.Logic.{dite}
-use native.Mathlib.Decide.{ℕ_discrete}
-use Rattle.std.specs.List.{filter}
-use Rattle.std.proofs.lemmas.List.{append-nil, drop-append-le}
-use Rattle.std.proofs.lemmas.List.Elements.{All-nil, All-cons, All-contains, Contains-append_right}
-use Rattle.sporc_turn.specs.declared.known.Known.{Known}
-use Rattle.sporc_turn.specs.Log.{own, Extends, OnlyFirstAdds}
+use Rattle.sporc_turn.proofs.Common.{Contains, MatchBool, dite, ℕ_discrete, filter, append-nil, drop-append-le, All-nil, All-cons, All-contains, Contains-append_right, Known, own, Extends}
+use Rattle.sporc_turn.proofs.Common.{OnlyFirstAdds}
 use Rattle.sporc_turn.proofs.Lists.{starts_length, behind, All-of_each, Contains-nil, Contains-head, Contains-tail, Contains-cons}
 
 module _ {E : Type 0} (by : E → ℕ) where

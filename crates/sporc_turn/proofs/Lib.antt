@@ -5,3 +5,4 @@ pub mod Turns
 pub mod Passes
 pub mod Extending
 mod Examples
+pub mod Common

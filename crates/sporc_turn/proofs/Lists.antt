@@ -1,13 +1,8 @@
 -- Lists read by place, prefixes of a list, and the items with one number.
 use Rattle.std.proofs.Common.{◌≡◌, ◌≢◌, ◌⊎◌, ℕ, zero, suc, ◌<◌, ◌≤◌, ◌==◌, cond, leb, eq-eqb, ne_eqb, Bool, true, false, true≢false, List, [], ◌∷◌, ◌++◌, length, drop, set, sym, refl, ap, ◌∙◌, subst, inl, inr, ⊎_elim, arith, length-append, append_assoc}
-use Rattle.std.specs.Prelude.{All, Contains}
-use mathlib.Core.Option.{some, some-injective, some-ne-none}
-use lib.ListN.{get_elem?}
-use Rattle.std.specs.List.{filter}
-use Rattle.std.proofs.lemmas.List.{drop-append-le, append-nil}
-use Rattle.std.proofs.lemmas.List.Elements.{filter-append, All-weaker, All-contains_itself, Contains-append_right}
+use Rattle.sporc_turn.proofs.Common.{All, Contains, some, some-injective, some-ne-none, get_elem?, filter, drop-append-le, append-nil, filter-append, All-weaker, All-contains_itself}
+use Rattle.sporc_turn.proofs.Common.{Contains-append_right, StartsWith, longer, shorter, own}
 use Rattle.std.proofs.lemmas.Bool.Decides.{leb_tells}
-use Rattle.sporc_turn.specs.Log.{StartsWith, longer, shorter, own}
 
 -- a test has one value
 pub no_both : {P : Type 0} → (b : Bool) → b ≡ false → b ≡ true → P

@@ -1,19 +1,9 @@
 -- The rule on the log: each step keeps it, and what it tells one pass.
 use Rattle.std.proofs.Common.{◌≡◌, ◌≢◌, ℕ, zero, suc, ◌+◌, ◌<◌, ◌≤◌, ◌==◌, cond, eqb, eq-eqb, ne_eqb, true, false, List, [], ◌∷◌, ◌++◌, length, drop, set, sym, refl, ap, ◌∙◌, subst, inl, inr, ⊎_elim, arith, length-append, length-set}
-use Rattle.std.specs.Prelude.{Contains}
-use mathlib.Core.Option.{some, some-injective, some-ne-none}
-use mathlib.Core.Logic.{dite}
-use native.Mathlib.Decide.{ℕ_discrete}
-use lib.ListN.{get_elem?}
-use Rattle.std.specs.List.{filter}
-use Rattle.std.proofs.lemmas.List.{drop-append-le, append-nil}
-use Rattle.std.proofs.lemmas.List.Elements.{Contains-append_left, Contains-append_right, Contains-append_cases}
-use Rattle.atomic_table.proofs.Lists.{at_set, set_else, at_last, at_longer}
-use Rattle.sporc_turn.specs.declared.known.Known.{Known}
+use Rattle.sporc_turn.proofs.Common.{Contains, some, some-injective, some-ne-none, dite, ℕ_discrete, get_elem?, filter, drop-append-le, append-nil, Contains-append_left, Contains-append_right}
+use Rattle.sporc_turn.proofs.Common.{Contains-append_cases, at_set, set_else, at_last, at_longer, Known, StartsWith, longer, own, HasNumber, Agrees, splitting, copied, joining, nothing_known, spent_of}
+use Rattle.sporc_turn.proofs.Common.{one_if, KnowledgeInvariant, IsFirst, NoLivePass, LogInvariant}
 use Rattle.sporc_turn.specs.declared.known.Joined.{Joined}
-use Rattle.sporc_turn.specs.Log.{StartsWith, longer, own, HasNumber, Agrees}
-use Rattle.sporc_turn.specs.Knowing.{splitting, copied, joining, nothing_known}
-use Rattle.sporc_turn.specs.Rule.{spent_of, one_if, KnowledgeInvariant, IsFirst, NoLivePass, LogInvariant}
 use Rattle.sporc_turn.proofs.Lists
 
 abbrev number_of : {E : Type 0} → Known E → ℕ

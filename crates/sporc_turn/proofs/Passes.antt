@@ -1,20 +1,9 @@
 -- A lock that is opened, passes that are split and joined, and a lock that is closed.
 use Rattle.std.proofs.Common.{◌≡◌, ℕ, zero, suc, ◌==◌, eqb-true, true, false, true≢false, List, [], ◌∷◌, ◌++◌, map, length, set, drop, Some, None, sym, refl, ap, ◌∙◌, subst, inl, inr, ⊎_elim, arith}
-use Rattle.std.specs.Prelude.{Contains}
+use Rattle.sporc_turn.proofs.Common.{Contains, some, some-injective, some-ne-none, get_elem?, filter, map-set, map-append, Splits, Joins, opening, Final, Seen, at_map, at_longer, set_else, View, Known}
+use Rattle.sporc_turn.proofs.Common.{Agrees, first_known, nothing_known, known, TicketInvariant, HasTicket, HasTurn, HoldsAt, KnowledgeInvariant, IsFirst, LogInvariant, TurnInvariant, newcomer}
+use Rattle.sporc_turn.proofs.Common.{left_of_split, right_of_split, of_both, spent_view, IsIdle, first_view, has_room}
 use Rattle.std.specs.Prelude as std
-use mathlib.Core.Option.{some, some-injective, some-ne-none}
-use lib.ListN.{get_elem?}
-use Rattle.std.specs.List.{filter}
-use Rattle.std.proofs.lemmas.List.{map-set, map-append}
-use Rattle.atomic_table.specs.Table.{Splits, Joins, opening, Final, Seen}
-use Rattle.atomic_table.proofs.Lists.{at_map, at_longer, set_else}
-use Rattle.sporc_turn.specs.declared.known.View.{View}
-use Rattle.sporc_turn.specs.declared.known.Known.{Known}
-use Rattle.sporc_turn.specs.Log.{Agrees}
-use Rattle.sporc_turn.specs.Knowing.{first_known, nothing_known}
-use Rattle.sporc_turn.specs.Rule.{known, TicketInvariant, HasTicket, HasTurn, HoldsAt, KnowledgeInvariant, IsFirst, LogInvariant, TurnInvariant}
-use Rattle.sporc_turn.specs.Steps.{newcomer, left_of_split, right_of_split, of_both, spent_view}
-use Rattle.sporc_turn.specs.Seats.{IsIdle, first_view, has_room}
 use Rattle.sporc_turn.proofs.Lists.{no_both, same_at, at_end, starts_self, drop_length, Contains-nil}
 use Rattle.sporc_turn.proofs.Views.{each_set, holds_at_set}
 use Rattle.sporc_turn.proofs.Turns.{live_of}

@@ -1,24 +1,12 @@
 -- Each step on a word keeps the rule of the lock, and tells what it says.
 use Rattle.std.proofs.Common.{◌≡◌, ◌≢◌, ◌⊎◌, ℕ, ◌+◌, ◌<◌, ◌≤◌, ◌==◌, cond, eqb, eq-eqb, ne_eqb, true, false, true≢false, List, [], ◌∷◌, ◌++◌, map, length, get_or, set, drop, Some, None, sym, refl, ap, ◌∙◌, subst, inl, inr, ⊎_elim, arith, length-append}
-use Rattle.std.specs.Prelude.{slice_index, Contains, All}
+use Rattle.sporc_turn.proofs.Common.{slice_index, Contains, All, Option, none, some, dite, ℕ_discrete, get_elem?, map-set, append-nil, All-contains, State, Me, Act, stepped, Valid, carried_after}
+use Rattle.sporc_turn.proofs.Common.{keeps, takes, gives, Allows, at_map, set_again, exchanged, View, Known, StartsWith, own, Extends, Agrees, seeing, adding, hearing, matched, known, TicketInvariant}
+use Rattle.sporc_turn.proofs.Common.{HasTicket, HasTurn, HoldsAt, KnowledgeInvariant, LogInvariant, TurnInvariant, reading, drawing, serving, raising, idling, ReadsTicket, DrawsTicket, ReadsServing}
+use Rattle.sporc_turn.proofs.Common.{RaisesCount, PassesServing, ReadsCount, Compares, IsIdle}
 use Rattle.std.specs.Prelude as std
-use mathlib.Core.Option.{Option, none, some}
-use mathlib.Core.Logic.{dite}
-use native.Mathlib.Decide.{ℕ_discrete}
 use prog.Atomic.{either}
-use lib.ListN.{get_elem?}
-use Rattle.std.proofs.lemmas.List.{map-set, append-nil}
-use Rattle.std.proofs.lemmas.List.Elements.{All-contains}
-use Rattle.atomic_table.specs.Table.{State, Me, Act, stepped, Valid, carried_after, keeps, takes, gives, Allows}
-use Rattle.atomic_table.proofs.Lists.{at_map, set_again, exchanged}
 use Rattle.sporc_turn.specs.declared.limits.TheConstants.{MAX_TICKETS}
-use Rattle.sporc_turn.specs.declared.known.View.{View}
-use Rattle.sporc_turn.specs.declared.known.Known.{Known}
-use Rattle.sporc_turn.specs.Log.{StartsWith, own, Extends, Agrees}
-use Rattle.sporc_turn.specs.Knowing.{seeing, adding, hearing, matched}
-use Rattle.sporc_turn.specs.Rule.{known, TicketInvariant, HasTicket, HasTurn, HoldsAt, KnowledgeInvariant, LogInvariant, TurnInvariant}
-use Rattle.sporc_turn.specs.Steps.{reading, drawing, serving, raising, idling, ReadsTicket, DrawsTicket, ReadsServing, RaisesCount, PassesServing, ReadsCount, Compares}
-use Rattle.sporc_turn.specs.Seats.{IsIdle}
 use Rattle.sporc_turn.proofs.Lists.{no_both, set_at, same_at, starts_length, starts_self, starts_more, starts_shorter, drop_seen, own_more, Contains-nil}
 use Rattle.sporc_turn.proofs.Views.{is_live, each_set, holds_at_set, same_known}
 use Rattle.sporc_turn.proofs.Logs

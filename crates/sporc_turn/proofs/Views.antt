@@ -1,14 +1,6 @@
 -- Views read by place, where one of them changes.
 use Rattle.std.proofs.Common.{◌≡◌, ◌≢◌, ℕ, true, false, List, map, set, sym, refl, ap, ◌∙◌, subst, ⊎_elim}
-use mathlib.Core.Option.{some}
-use mathlib.Core.Logic.{dite}
-use native.Mathlib.Decide.{ℕ_discrete}
-use lib.ListN.{get_elem?}
-use Rattle.std.proofs.lemmas.List.{map-set}
-use Rattle.atomic_table.proofs.Lists.{at_set, at_map, set_else, set_again}
-use Rattle.sporc_turn.specs.declared.known.View.{View}
-use Rattle.sporc_turn.specs.declared.known.Known.{Known}
-use Rattle.sporc_turn.specs.Rule.{known, HoldsAt}
+use Rattle.sporc_turn.proofs.Common.{some, dite, ℕ_discrete, get_elem?, map-set, at_set, at_map, set_else, set_again, View, Known, known, HoldsAt}
 use Rattle.sporc_turn.proofs.Lists.{set_at, same_at}
 
 pub is_live : {E : Type 0} (k : Known E) → (k.spent ≡ true → ⊥) → k.spent ≡ false

@@ -1,20 +1,15 @@
 -- A message to a client that is read is spelled so, and one that is spelled so is read again.
 use Rattle.std.proofs.Common.{◌≡◌, ℕ, zero, suc, ◌+◌, ◌-◌, ◌^◌, ◌<◌, ◌≤◌, Bool, true, false, cond, eqb, List, [], ◌∷◌, ◌++◌, length, Option, Some, None, Result, Ok, Err, refl, sym, ap, ◌∙◌, subst, arith, append_assoc, length-append}
-use Rattle.std.proofs.lemmas.Bool.{eqb-true}
-use Rattle.std.proofs.lemmas.List.{append-nil}
+use Rattle.sporc_wire.proofs.Common.{eqb-true, append-nil, flat_map, w8, w32, to_be_bytes, IsBytes, Reading, ◌>>=◌, number_at, counted_at, counted, end_at, present, MAX_BODY, Ordered, Rejected}
+use Rattle.sporc_wire.proofs.Common.{Entries, Empty, to_client_bytes}
 use Rattle.std.proofs.lemmas.List.Concat.{flat_map-cons}
-use Rattle.std.specs.List.{flat_map}
-use Rattle.std.specs.Int.{w8, w32, to_be_bytes}
-use Rattle.sporc_base.specs.Bytes.{IsBytes}
-use Rattle.sporc_bytes.specs.Fields.{Reading, ◌>>=◌, number_at, counted_at, counted, end_at, present, values_at}
+use Rattle.sporc_bytes.specs.Fields.{values_at}
 use Rattle.sporc_bytes.proofs.Fields.{bind_ok, ok_is, Takes, Takes-then, Takes-nothing, wide8, wide32, number_takes, u8_again, u32_again, counted_takes, counted_again, end_takes, byte_takes, byte_again}
 use Rattle.sporc_head.specs.Refusal.{refusal_code_of}
-use Rattle.sporc_wire.specs.declared.cutter.TheConstants.{MAX_BODY}
 use Rattle.sporc_wire.specs.declared.to_client.ToClient.{ToClient}
-use Rattle.sporc_wire.specs.declared.to_client.ToClient.TheVariants.{Ordered, Rejected, Entries, Empty}
 use Rattle.sporc_wire.specs.declared.to_client.TheConstants.{ORDERED, REJECTED, ENTRIES, EMPTY, MAX_PULLED, MAX_CODE}
 use Rattle.sporc_wire.specs.Refusals.{refusal_detail_of, refusal_with}
-use Rattle.sporc_wire.specs.ToClient.{ordered_at, rejected_at, entries_at, empty_at, to_client_of_kind, to_client_of, to_client_bytes, IsToClient}
+use Rattle.sporc_wire.specs.ToClient.{ordered_at, rejected_at, entries_at, empty_at, to_client_of_kind, to_client_of, IsToClient}
 use Rattle.sporc_wire.proofs.ServerBodies.{byte_is}
 use Rattle.sporc_wire.proofs.RefusalNumbers.{refusal_takes, refusal_again, code_within}
 

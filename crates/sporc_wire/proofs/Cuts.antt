@@ -1,20 +1,15 @@
 -- What the codec cuts off, in the words of the stream.
 use Rattle.std.proofs.Common.{◌≡◌, ℕ, zero, suc, ◌<◌, ◌≤◌, ◌^◌, List, [], ◌∷◌, ◌++◌, length, take, drop, Some, refl, sym, ap, ◌∙◌, subst, inl, inr, arith, pos}
-use Rattle.std.proofs.lemmas.List.{take-append-drop, length-take-le}
-use Rattle.std.proofs.lemmas.Bool.{cases_lt}
+use Rattle.sporc_wire.proofs.Common.{take-append-drop, length-take-le, cases_lt, w32, to_be_bytes, from_be_bytes, IsBytes, MAX_BODY, first_frame, partial, too_long, whole, our_layout, rest_of}
+use Rattle.sporc_wire.proofs.Common.{IsWithin}
 use Rattle.std.proofs.lemmas.Bool.Decides.{nat_tests}
 use Rattle.std.proofs.lemmas.Nat.{be_bytes_4}
-use Rattle.std.specs.Int.{w32, to_be_bytes, from_be_bytes}
 use Rattle.tokio_util.specs.declared.codec.length_delimited.DecodeState.{DecodeState}
 use Rattle.tokio_util.specs.declared.codec.length_delimited.DecodeState.TheVariants.{Head, Data}
 use Rattle.tokio_util.specs.Codec.LengthField.{field_value, add_adjustment}
 use Rattle.tokio_util.specs.Codec.LengthDelimited.{cut_payload, cut_adjusted, cut_frame, Cut, frame, too_big, overflows, unfinished, cut_in}
 use Rattle.tokio_util.specs.Codec.LengthDelimitedLaws.{cut_payload_whole, cut_payload_short, cut_frame_short, cut_frame_big, cut_frame_head}
-use Rattle.sporc_base.specs.Bytes.{IsBytes}
-use Rattle.sporc_wire.specs.declared.cutter.TheConstants.{MAX_BODY}
-use Rattle.sporc_wire.specs.Stream.{first_frame, partial, too_long, whole}
 use Rattle.sporc_wire.specs.Stream as stream
-use Rattle.sporc_wire.specs.CutterModel.{our_layout, rest_of, IsWithin}
 use Rattle.sporc_wire.proofs.Fronts.{frame_of_len-big, frame_of_len-short, frame_of_len-whole, first_frame-short, first_frame-long, first_frame-length}
 
 -- the length that the head says

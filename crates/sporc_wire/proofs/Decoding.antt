@@ -1,7 +1,6 @@
 -- What an answer of the codec says, in the words of the stream.
-use Rattle.std.proofs.Common.{◌≡◌, ℕ, ◌≤◌, List, [], ◌∷◌, ◌++◌, length, take, drop, Result, Option, IfOk, IfNone, MatchOption, Some, None, Ok, Err, refl, sym, ap, ◌∙◌, subst, inl, inr, arith, pos, append-nil}
-use Rattle.std.proofs.lemmas.Bool.{cases_lt}
-use Rattle.std.proofs.lemmas.List.{length-take-le}
+use Rattle.std.proofs.Common.{◌≡◌, ℕ, ◌≤◌, List, [], ◌∷◌, ◌++◌, length, take, drop, Result, Option, IfOk, IfNone, Some, None, Ok, Err, refl, sym, ap, ◌∙◌, subst, inl, inr, arith, pos, append-nil}
+use Rattle.sporc_wire.proofs.Common.{cases_lt, length-take-le, IsBytes, MAX_BODY, first_frame, partial, too_long, whole, CutsFirst, FitsLimit, IsOurs, IsWithin, filled, our_layout, put_back, rest_of}
 use Rattle.tokio_util.specs.Codec.LengthDelimitedLaws.{cut_payload_whole, cut_payload_short}
 use Rattle.std.specs.declared.io.Error.{Error}
 use Rattle.std.specs.declared.io.ErrorKind.TheVariants.{InvalidData, OutOfMemory, Other}
@@ -12,13 +11,9 @@ use Rattle.tokio_util.specs.declared.codec.length_delimited.DecodeState.{DecodeS
 use Rattle.tokio_util.specs.declared.codec.length_delimited.DecodeState.TheVariants.{Head, Data}
 use Rattle.tokio_util.specs.Codec.Next.{Decodes, Resumes, at_end}
 use Rattle.tokio_util.specs.Codec.LengthDelimited.{layout, codec_layout, with_state, Cut, frame, too_big, overflows, unfinished, cut_in, cut, Answers, AnswersLast, AnswersAtEnd, IsSettled, gives_frames}
-use Rattle.sporc_base.specs.Bytes.{IsBytes}
 use Rattle.sporc_wire.specs.declared.cutter.CutFault.{CutFault}
 use Rattle.sporc_wire.specs.declared.cutter.CutFault.TheVariants.{Memory, TooLong}
-use Rattle.sporc_wire.specs.declared.cutter.TheConstants.{MAX_BODY}
-use Rattle.sporc_wire.specs.Stream.{first_frame, partial, too_long, whole}
 use Rattle.sporc_wire.specs.Stream as stream
-use Rattle.sporc_wire.specs.CutterModel.{our_layout, rest_of, IsWithin, IsOurs, FitsLimit, filled, put_back}
 use Rattle.sporc_wire.proofs.Cuts.{head_of, Means, cut_means, head_means, payload_means}
 
 pub cut_is : (c : LengthDelimitedCodec) (xs : List ℕ) → IsBytes xs → IsOurs c → Means c.state xs (cut c xs)
@@ -145,7 +140,7 @@ says_same c t xs ys (Some b) h = sym h.2
 says_same c t xs ys None h = h.1
 
 pub says_front : (c t : LengthDelimitedCodec) (xs ys : List ℕ) (found : Option Filled) → Says c xs (Ok found) t ys
-    → MatchOption (filled found) (first_frame (rest_of c.state xs) ≡ partial) (λ body. first_frame (rest_of c.state xs) ≡ whole body (rest_of t.state ys))
+    → CutsFirst (rest_of c.state xs) (filled found) (rest_of t.state ys)
 says_front c t xs ys (Some b) h = h.3
 says_front c t xs ys None h = h.2
 

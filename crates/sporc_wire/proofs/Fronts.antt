@@ -1,11 +1,8 @@
 -- What stands at the first_frame of a stream.
 use Rattle.std.proofs.Common.{◌≡◌, ℕ, ◌^◌, ◌<◌, ◌≤◌, List, ◌++◌, length, take, drop, refl, ap, ◌∙◌, arith, length-append}
-use Rattle.std.proofs.lemmas.Bool.{lt-ltb, le-ltb}
-use Rattle.std.proofs.lemmas.List.{take_at, drop_at}
+use Rattle.sporc_wire.proofs.Common.{lt-ltb, le-ltb, take_at, drop_at, w32, to_be_bytes, from_be_bytes, MAX_BODY, partial, too_long, whole}
 use Rattle.std.proofs.lemmas.Nat.{from_be_bytes-to_be_bytes_4}
-use Rattle.std.specs.Int.{w32, to_be_bytes, from_be_bytes}
-use Rattle.sporc_wire.specs.declared.cutter.TheConstants.{MAX_BODY}
-use Rattle.sporc_wire.specs.Stream.{partial, too_long, whole, frame_of_len, first_frame, frame}
+use Rattle.sporc_wire.specs.Stream.{frame_of_len, first_frame, frame}
 
 pub frame_of_len-big : (len : ℕ) (xs : List ℕ) → MAX_BODY < len → frame_of_len len xs ≡ too_long len
 unfolding frame_of_len

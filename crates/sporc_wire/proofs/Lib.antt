@@ -7,3 +7,4 @@ pub mod Readings
 pub mod RefusalNumbers
 pub mod ServerBodies
 pub mod EntryFrames
+pub mod Common

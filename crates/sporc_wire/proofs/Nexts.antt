@@ -1,14 +1,11 @@
 -- The next message of a stream, by what stands at its first_frame.
 use Rattle.std.proofs.Common.{◌≡◌, ℕ, List, length, Option, Some, None, Result, Ok, Err, sym, ap, ◌∙◌, subst}
-use Rattle.std.specs.Prelude.{MatchOption, ◌≢◌}
+use Rattle.sporc_wire.proofs.Common.{MatchOption, ◌≢◌, fault_as, FrameFault, FirstFrame, whole, first_frame, Unread, next_read, next_frame, next_unless}
 use Rattle.sporc_base.specs.Outcome.{GivesUnless}
-use Rattle.sporc_bytes.specs.Fields.{fault_as}
-use Rattle.sporc_wire.specs.declared.fault.FrameFault.{FrameFault}
 use Rattle.sporc_wire.specs.declared.fault.FrameFault.TheVariants as faults
 use Rattle.sporc_wire.specs.declared.message.BodyFault.{BodyFault}
 use Rattle.sporc_wire.specs.declared.message.BodyFault.TheVariants.{Bad, Memory}
-use Rattle.sporc_wire.specs.Stream.{FirstFrame, whole, first_frame}
-use Rattle.sporc_wire.specs.Messages.{Unread, stops, next_read, next_frame, next_unless, next}
+use Rattle.sporc_wire.specs.Messages.{stops, next}
 
 -- a stream by its parts
 abbrev pub unread_of : ℕ → List ℕ → Option FrameFault → Unread

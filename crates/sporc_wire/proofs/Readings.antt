@@ -1,12 +1,8 @@
 -- A stream has one reading, whatever pieces it comes in.
 use Rattle.std.proofs.Common.{◌≡◌, ℕ, List, [], ◌∷◌, ◌++◌, length, take, drop, Option, Some, None, Result, Ok, Err, refl, sym, ap, ap₂, ◌∙◌, subst, arith, inl, inr, length-append}
-use Rattle.std.proofs.lemmas.Bool.{cases_lt}
-use Rattle.std.proofs.lemmas.List.{take-append-le, drop-append-le}
-use Rattle.std.specs.Int.{w32, from_be_bytes}
-use Rattle.sporc_wire.specs.declared.cutter.TheConstants.{MAX_BODY}
-use Rattle.sporc_wire.specs.declared.fault.FrameFault.{FrameFault}
-use Rattle.sporc_wire.specs.Stream.{FirstFrame, partial, too_long, whole, first_frame, frame_of_len}
-use Rattle.sporc_wire.specs.Messages.{Unread, HandsOut, AreMessages, stream_of, fed, next, next_unless, next_frame, next_read}
+use Rattle.sporc_wire.proofs.Common.{cases_lt, take-append-le, drop-append-le, w32, from_be_bytes, MAX_BODY, FrameFault, FirstFrame, partial, too_long, whole, first_frame, frame_of_len, Unread}
+use Rattle.sporc_wire.proofs.Common.{stream_of, next_unless, next_frame, next_read}
+use Rattle.sporc_wire.specs.Messages.{HandsOut, AreMessages, fed, next}
 use Rattle.sporc_wire.proofs.Fronts.{frame_of_len-big, frame_of_len-short, frame_of_len-whole, first_frame-short, first_frame-long}
 use Rattle.sporc_wire.proofs.Nexts.{next-message}
 

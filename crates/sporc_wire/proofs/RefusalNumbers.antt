@@ -1,7 +1,6 @@
 -- A refusal and its two numbers.
 use Rattle.std.proofs.Common.{◌≡◌, ℕ, ◌≤◌, Bool, true, false, cond, eqb, Option, Some, None, refl, sym, ap, ◌∙◌, subst, arith}
-use Rattle.std.specs.Prelude.{◌≢◌, ◌==◌, find}
-use Rattle.std.proofs.lemmas.Bool.{eqb-true, eqb-false}
+use Rattle.sporc_wire.proofs.Common.{◌≢◌, ◌==◌, find, eqb-true, eqb-false}
 use Rattle.sporc_member.specs.declared.change.ChangeFault.{ChangeFault}
 use Rattle.sporc_member.specs.declared.change.ChangeFault.TheVariants.{NumberUsed, NotMember, SameRole, LastAdmin, RosterFull, BadKey, DeviceUsed, NoDevice, LastDevice, DevicesFull, NotUpgraded, AlreadyUpgraded}
 use Rattle.sporc_base.proofs.ListLemmas.{found_passes}

@@ -1,15 +1,11 @@
 -- A message to a server that is read is spelled so, and one that is spelled so is read again.
 use Rattle.std.proofs.Common.{◌≡◌, ℕ, ◌^◌, ◌<◌, Bool, true, false, cond, eqb, List, [], ◌∷◌, ◌++◌, Ok, Err, refl, sym, ap, ◌∙◌, subst, arith}
-use Rattle.std.proofs.lemmas.Bool.{eqb-true}
-use Rattle.std.proofs.lemmas.List.{append-nil}
-use Rattle.std.specs.Int.{w8, w16, w32, to_be_bytes}
-use Rattle.sporc_base.specs.Bytes.{IsBytes}
-use Rattle.sporc_bytes.specs.Fields.{Reading, number_at}
+use Rattle.sporc_wire.proofs.Common.{eqb-true, append-nil, w8, w16, w32, to_be_bytes, IsBytes, Reading, number_at, to_server_bytes}
 use Rattle.sporc_bytes.proofs.Fields.{bind_ok, ok_is, wide8, wide16, wide32, number_takes, bytes_takes, bytes_again, u8_again, u16_again, u32_again, end_takes}
 use Rattle.sporc_wire.specs.declared.to_server.ToServer.{ToServer}
 use Rattle.sporc_wire.specs.declared.to_server.ToServer.TheVariants.{Hello, Submit, Pull}
 use Rattle.sporc_wire.specs.declared.to_server.TheConstants.{HELLO, SUBMIT, PULL}
-use Rattle.sporc_wire.specs.ToServer.{hello_at, pull_at, to_server_of_kind, to_server_of, to_server_bytes, IsToServer}
+use Rattle.sporc_wire.specs.ToServer.{hello_at, pull_at, to_server_of_kind, to_server_of, IsToServer}
 
 -- the message was read from bytes that are these
 abbrev IsSpelled : ℕ → List ℕ → ToServer → Type 0

@@ -1,5 +1,5 @@
 -- What contracts see of a cutter of frames, and what its parts hold.
-use Rattle.std.specs.Prelude.{◌≡◌, ℕ, ◌≤◌, List, ◌++◌, Option, Some, None, length}
+use Rattle.std.specs.Prelude.{◌≡◌, ℕ, ◌≤◌, List, ◌++◌, Option, Some, None, MatchOption, length}
 use Rattle.std.specs.Int.{w32, to_be_bytes}
 use Rattle.bytes.specs.Filled.{Filled}
 use Rattle.tokio_util.specs.declared.codec.length_delimited.DecodeState.{DecodeState}
@@ -8,7 +8,7 @@ use Rattle.tokio_util.specs.declared.codec.length_delimited.LengthDelimitedCodec
 use Rattle.tokio_util.specs.Codec.LengthDelimited.{codec_layout}
 use Rattle.tokio_util.specs.Codec.LengthField.{Layout, default_layout}
 use Rattle.sporc_wire.specs.declared.cutter.TheConstants.{MAX_BODY}
-use Rattle.sporc_wire.specs.Stream.{frame}
+use Rattle.sporc_wire.specs.Stream.{first_frame, frame, partial, whole}
 
 -- a body that was cut out, and the bytes after its frame
 pub record CutterModel : Type 0 where
@@ -23,6 +23,11 @@ put_back (Some body) rest = frame body ++ rest
 -- the bytes that are not handed out
 abbrev pub unread : CutterModel → List ℕ
 unread c = put_back c.body c.rest
+
+-- the body of the first frame was cut out of these bytes, which left the rest; or none is whole
+abbrev pub CutsFirst : List ℕ → Option (List ℕ) → List ℕ → Type 0
+CutsFirst bytes body rest =
+    MatchOption body (first_frame bytes ≡ partial) (λ cut. first_frame bytes ≡ whole cut rest)
 
 -- the bytes of a buffer
 abbrev pub filled : Option Filled → Option (List ℕ)

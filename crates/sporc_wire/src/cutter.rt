@@ -4,9 +4,9 @@ ghost use Rattle.std.specs.Prelude.{◌≡◌, ◌≤◌, ◌++◌, ℕ, length,
 ghost use Rattle.std.specs.Prelude.{OnOk, OnErr, MatchOption};
 ghost use Rattle.std.specs.Int.{w32, from_be_bytes};
 ghost use Rattle.sporc_base.specs.Bytes.{IsBytes};
-ghost use Rattle.sporc_wire.specs.Stream.{first_frame, partial, too_long, whole};
-ghost use Rattle.sporc_wire.specs.CutterModel.{IsOurs, rest_of, put_back, unread, filled};
-ghost use Rattle.sporc_wire.specs.CutterModel.{FitsLimit};
+ghost use Rattle.sporc_wire.specs.Stream.{first_frame, too_long};
+ghost use Rattle.sporc_wire.specs.CutterModel.{CutsFirst, FitsLimit, IsOurs, filled, put_back};
+ghost use Rattle.sporc_wire.specs.CutterModel.{rest_of, unread};
 
 use bytes::BytesMut;
 use sporc_base::Memory;
@@ -73,9 +73,7 @@ impl Cutter {
     // Cuts out the body of the first frame, if that is there in whole and isn't cut out yet.
     pub(crate) fn cut(&mut self) -> Result<(), CutFault>
         ensures unread { unread self.new ≡ unread self.old }
-        ensures ok { OnOk result
-            (MatchOption self.new.body (first_frame (unread self.old) ≡ partial)
-            (λ body. first_frame (unread self.old) ≡ whole body self.new.rest)) }
+        ensures ok { OnOk result (CutsFirst (unread self.old) self.new.body self.new.rest) }
         ensures too_long { (len : ℕ) → result ≡ Err (CutFault.TooLong len)
             → first_frame (unread self.old) ≡ too_long len }
     {
@@ -118,10 +116,8 @@ fn take_body(
     ensures same { IfOk result
         (λ found. put_back (filled found) (rest_of codec.new.state buffer.new.items)
         ≡ rest_of codec.old.state buffer.old.items) }
-    ensures ok { IfOk result (λ found. MatchOption (filled found)
-        (first_frame (rest_of codec.old.state buffer.old.items) ≡ partial)
-        (λ body. first_frame (rest_of codec.old.state buffer.old.items)
-        ≡ whole body (rest_of codec.new.state buffer.new.items))) }
+    ensures ok { IfOk result (λ found. CutsFirst (rest_of codec.old.state buffer.old.items)
+        (filled found) (rest_of codec.new.state buffer.new.items)) }
     ensures too_long { (len : ℕ) → result ≡ Err (CutFault.TooLong len)
         → first_frame (rest_of codec.old.state buffer.old.items) ≡ too_long len }
 {

@@ -1,106 +1,83 @@
-//! The frames of entries, which copy each entry once.
+//! The entries of a message.
 
-ghost use Rattle.std.specs.Prelude.{◌≡◌, ◌≤◌, ◌<◌, ◌^◌, ◌++◌, ℕ, List, length, map, OnOk};
-ghost use Rattle.std.specs.List.{flat_map};
-ghost use Rattle.sporc_base.specs.Outcome.{GivesUnless};
-ghost use Rattle.sporc_bytes.specs.Fields.{counted};
-ghost use Rattle.sporc_wire.specs.declared.to_client.ToClient.{ToClient};
-ghost use Rattle.sporc_wire.specs.declared.to_client.TheConstants.{MAX_PULLED};
-ghost use Rattle.sporc_wire.specs.Messages.{framed, counted_to_end};
-ghost use Rattle.sporc_wire.specs.ToClient.{to_client_bytes};
+ghost use Rattle.std.specs.Prelude.{◌≡◌, ◌++◌, ◌∷◌, [], length, map, IfOk, OnOk, IsTrue, ◌↔◌};
 
-use crate::cutter::MAX_BODY;
-use crate::fault::FrameFault;
-use crate::to_client::ENTRIES;
-use sporc_base::{Bytes, Memory};
-use sporc_bytes::Out;
+use sporc_base::Memory;
 use std::alloc::Global;
+use std::marker::Model;
 
-// An entry, however its bytes are kept.
-pub(crate) trait EntryBytes {
-    // The bytes.
-    ghost bytes: { Self → List ℕ };
-
-    fn as_bytes(&self) -> &[u8]
-        ensures { result.now ≡ bytes self.now };
+/// Entries, oldest first, seen as the list of their bytes.
+#[derive(Drop)]
+pub struct Entries {
+    entries: Vec<Vec<u8>>,
 }
 
-impl EntryBytes for Bytes {
-    ghost bytes = { λ b. b };
+impl Model for Entries {
+    ghost use Rattle.std.specs.Prelude.{ℕ, List, map};
 
-    fn as_bytes(&self) -> &[u8] {
-        self.as_slice()
+    ghost Value = { List (List ℕ) };
+
+    ghost view = { λ e. map (λ v. v.items) e.entries.items };
+}
+
+impl Entries {
+    /// No entries.
+    pub fn new(alloc: Global) -> Entries
+        ensures value { result ≡ [] }
+    {
+        Entries {
+            entries: Vec::new(alloc),
+        }
     }
-}
 
-impl EntryBytes for Vec<u8> {
-    ghost bytes = { λ v. v.items };
-
-    fn as_bytes(&self) -> &[u8] {
-        self.as_slice()
+    // No entries, with room for so many.
+    pub(crate) fn with_capacity(alloc: Global, count: usize) -> Result<Entries, Memory>
+        ensures ok { IfOk result (λ entries. entries ≡ []) }
+    {
+        Ok(Entries {
+            entries: Vec::with_capacity(alloc, count)?,
+        })
     }
-}
 
-// The frame of an Entries.
-pub(crate) fn entries_frame<T: EntryBytes>(
-    alloc: Global,
-    first: u32,
-    entries: &[T],
-) -> Result<Vec<u8>, FrameFault>
-    requires limit { length entries.now ≤ MAX_PULLED }
-    ensures value { GivesUnless FrameFault.Memory (λ v. v.items) result
-        (framed (to_client_bytes (ToClient.Entries first (map (λ e. T.bytes e) entries.now)))) }
-{
-    let len = body_len(first, entries);
-    if len > u64::from(MAX_BODY) {
-        return Err(FrameFault::TooLong(len));
+    /// How many there are.
+    pub fn len(&self) -> usize
+        ensures value { result ≡ length self.now }
+    {
+        self.entries.len()
     }
-    let mut out = Out::with_capacity(alloc, len as usize + 4)?;
-    out.put_u32(len as u32)?;
-    put_body(&mut out, first, entries)?;
-    Ok(out.into_bytes())
-}
 
-// How many bytes the body has.
-fn body_len<T: EntryBytes>(first: u32, entries: &[T]) -> u64
-    ensures { result ≡ counted_to_end
-        (length (to_client_bytes (ToClient.Entries first (map (λ e. T.bytes e) entries.now)))) }
-{
-    counted_len(entries).saturating_add(6)
-}
-
-// How many bytes counted entries have.
-fn counted_len<T: EntryBytes>(entries: &[T]) -> u64
-    ensures { result ≡ counted_to_end (length (flat_map (λ e. counted (T.bytes e)) entries.now)) }
-{
-    let mut len = 0u64;
-    for entry in entries {
-        len = len.saturating_add((entry.as_bytes().len() as u64).saturating_add(4));
+    /// Whether there are none.
+    pub fn is_empty(&self) -> bool
+        ensures value { IsTrue result ↔ (length self.now ≡ 0) }
+    {
+        self.len() == 0
     }
-    len
-}
 
-// Appends the body.
-fn put_body<T: EntryBytes>(out: &mut Out, first: u32, entries: &[T]) -> Result<(), Memory>
-    requires limit { length entries.now ≤ MAX_PULLED }
-    requires body_limit { length
-        (to_client_bytes (ToClient.Entries first (map (λ e. T.bytes e) entries.now))) < 2 ^ 32 }
-    ensures { OnOk result (out.new
-        ≡ out.old ++ to_client_bytes (ToClient.Entries first (map (λ e. T.bytes e) entries.now))) }
-{
-    out.put_u8(ENTRIES)?;
-    out.put_u32(first)?;
-    out.put_u8(entries.len() as u8)?;
-    put_list(out, entries)
-}
-
-// Appends counted entries.
-fn put_list<T: EntryBytes>(out: &mut Out, entries: &[T]) -> Result<(), Memory>
-    requires { length (flat_map (λ e. counted (T.bytes e)) entries.now) < 2 ^ 32 }
-    ensures { OnOk result (out.new ≡ out.old ++ flat_map (λ e. counted (T.bytes e)) entries.now) }
-{
-    for entry in entries {
-        out.put_counted(entry.as_bytes())?;
+    /// The bytes of each.
+    pub fn as_slice(&self) -> &[Vec<u8>]
+        ensures value { map (λ v. v.items) result.now ≡ self.now }
+    {
+        self.entries.as_slice()
     }
-    Ok(())
+
+    /// The vector of the entries' bytes, which takes no memory.
+    pub fn into_vec(self) -> Vec<Vec<u8>>
+        ensures value { map (λ v. v.items) result.items ≡ self }
+    {
+        self.entries
+    }
+
+    // Appends an entry, which is moved.
+    pub(crate) fn push(&mut self, entry: Vec<u8>) -> Result<(), Memory>
+        ensures ok { OnOk result (self.new ≡ self.old ++ entry.items ∷ []) }
+    {
+        Ok(self.entries.push(entry)?)
+    }
+
+    /// Appends entries, which are moved.
+    pub fn append(&mut self, mut more: Entries) -> Result<(), Memory>
+        ensures ok { OnOk result (self.new ≡ self.old ++ more) }
+    {
+        Ok(self.entries.append(&mut more.entries)?)
+    }
 }

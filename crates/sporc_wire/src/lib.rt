@@ -24,6 +24,7 @@
 
 mod cutter;
 mod entries;
+mod entry_frames;
 mod fault;
 mod frames;
 pub mod laws;
@@ -34,6 +35,7 @@ mod to_client;
 mod to_server;
 
 pub use cutter::MAX_BODY;
+pub use entries::Entries;
 pub use fault::FrameFault;
 pub use frames::Frames;
 pub use limits::{MAX_DOCUMENTS, MAX_SESSIONS};

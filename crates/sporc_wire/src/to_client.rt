@@ -10,11 +10,12 @@ ghost use Rattle.sporc_wire.specs.Stream.{frame};
 ghost use Rattle.sporc_wire.specs.ToClient.{ordered_at, rejected_at, entries_at, empty_at};
 ghost use Rattle.sporc_wire.specs.ToClient.{to_client_bytes, IsToClient};
 
-use crate::entries::entries_frame;
+use crate::entries::Entries;
+use crate::entry_frames::entries_frame;
 use crate::fault::FrameFault;
 use crate::message::{BodyFault, Message};
 use crate::refusals::{detail_of, refusal_with};
-use sporc_base::{Bytes, Items, Memory};
+use sporc_base::Memory;
 use sporc_bytes::{Cursor, Out, Short};
 use sporc_head::Refusal;
 use std::alloc::Global;
@@ -42,7 +43,7 @@ pub enum ToClient {
     /// The entry fails a check.
     Rejected { refusal: Refusal },
     /// Entries, the first of them at position `first`.
-    Entries { first: u32, entries: Items<Bytes> },
+    Entries { first: u32, entries: Entries },
     /// There are no more entries.
     Empty,
 }
@@ -98,10 +99,7 @@ fn read_entries(alloc: Global, cursor: &mut Cursor<'_>) -> Result<ToClient, Body
     let count = cursor.u8_within(1, MAX_PULLED)?;
     let entries = read_list(alloc, cursor, count)?;
     cursor.ended()?;
-    Ok(ToClient::Entries {
-        first,
-        entries: Items::new(entries),
-    })
+    Ok(ToClient::Entries { first, entries })
 }
 
 // The rest of an Empty.
@@ -114,14 +112,14 @@ fn read_empty(cursor: &mut Cursor<'_>) -> Result<ToClient, Short>
 }
 
 // The counted entries that stand next.
-fn read_list(alloc: Global, cursor: &mut Cursor<'_>, count: u8) -> Result<Vec<Bytes>, BodyFault>
-    ensures { GivesUnless BodyFault.Memory (λ entries. (entries.items, cursor.new)) result
+fn read_list(alloc: Global, cursor: &mut Cursor<'_>, count: u8) -> Result<Entries, BodyFault>
+    ensures { GivesUnless BodyFault.Memory (λ entries. (entries, cursor.new)) result
         (fault_as BodyFault.Bad (values_at (counted_at (2 ^ 32 - 1)) count cursor.old)) }
 {
-    let mut entries = Vec::with_capacity(alloc, usize::from(count))?;
+    let mut entries = Entries::with_capacity(alloc, usize::from(count))?;
     for _ in 0..count {
         let entry = cursor.counted(u32::MAX)?;
-        let copy = Bytes::copy_of(alloc, entry)?;
+        let copy = Vec::from_slice(alloc, entry)?;
         entries.push(copy)?;
     }
     Ok(entries)

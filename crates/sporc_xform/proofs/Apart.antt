@@ -1,19 +1,11 @@
 -- Deltas whose changes do not meet.
 use Rattle.std.proofs.Common.{◌≡◌, ℕ, zero, suc, ◌+◌, ◌-◌, ◌<◌, ◌≤◌, Bool, true, false, Option, Some, None, List, [], ◌∷◌, ◌++◌, refl, ap, sym, ◌∙◌, append_assoc, arith}
-use Rattle.std.proofs.lemmas.List.{replicate-append-replicate}
-use Rattle.std.specs.List.{flat_map}
-use Rattle.std.specs.Prelude.{◌↔◌, IfNone, nat_lt}
-use Rattle.std.proofs.lemmas.Bool.{ltb-true, ltb-false}
-use Rattle.sporc_delta.specs.declared.limits.TheConstants.{MAX_TEXT_LEN}
+use Rattle.sporc_xform.proofs.Common.{replicate-append-replicate, flat_map, ◌↔◌, IfNone, nat_lt, ltb-true, ltb-false, MAX_TEXT_LEN, Mark, Keep, Remove, Insert, base_len, inserted_len, out_len}
+use Rattle.sporc_xform.proofs.Common.{keep_marks, runs, count_of, kept_first, kept_last, kept_there, shifted, Later, earlier, earlier_step, later, later_step, steps, base_len-append}
+use Rattle.sporc_xform.proofs.Common.{base_len-keep_marks, out_len-append, out_len-keep_marks, IsMoved, Meet, ShiftsEarlier, ShiftsLater}
 use Rattle.sporc_delta.specs.declared.shift.Shift.{Shift}
 use Rattle.sporc_delta.specs.declared.shift.Shift.TheVariants.{First, Last}
-use Rattle.sporc_delta.specs.Marks.{Mark, Keep, Remove, Insert, base_len, inserted_len, out_len, keep_marks}
-use Rattle.sporc_delta.specs.Parts.{runs}
-use Rattle.sporc_delta.specs.Shifts.{count_of, kept_first, kept_last, kept_there, shifted}
-use Rattle.sporc_delta.specs.Transforms.{Later, earlier, earlier_step, later, later_step, steps}
-use Rattle.sporc_delta.proofs.Lengths.{base_len-append, base_len-keep_marks, out_len-append, out_len-keep_marks}
 use Rattle.sporc_delta.proofs.Shifted.{begins_with, ends_with, shifted_first, shifted_last}
-use Rattle.sporc_xform.specs.Restating.{IsMoved, Meet, ShiftsEarlier, ShiftsLater}
 use Rattle.sporc_xform.proofs.LengthLemmas.{base_len-earlier, base_len-later, inserted_len-earlier, inserted_len-later, out_len-le}
 
 -- ---- a delta and one that keeps all

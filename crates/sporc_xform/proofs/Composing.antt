@@ -1,17 +1,11 @@
 -- The pieces of two deltas that follow each other.
 use Rattle.std.proofs.Common.{◌≡◌, ℕ, zero, suc, ◌+◌, ◌<◌, ◌≤◌, Bool, true, false, List, [], ◌∷◌, ◌++◌, length, drop, take, min, refl, ap, sym, ◌∙◌, append_assoc, arith, eqb, cond}
-use Rattle.std.specs.Prelude.{replicate}
-use Rattle.std.proofs.lemmas.List.{take_all, take-append-drop, map-append, length-take, length-append, length-map, length-replicate}
-use Rattle.std.proofs.lemmas.Bool.{eqb-true, eqb-false}
-use Rattle.sporc_delta.specs.declared.limits.TheConstants.{MAX_TEXT_LEN}
+use Rattle.sporc_xform.proofs.Common.{replicate, take_all, take-append-drop, map-append, length-take, length-append, length-map, length-replicate, eqb-true, eqb-false, MAX_TEXT_LEN, Mark, Keep, Remove}
+use Rattle.sporc_xform.proofs.Common.{Insert, base_len, out_len, keep_marks, remove_marks, insert_marks, marks_of, compose, base_len-append, base_len-keep_marks, base_len-remove_marks}
+use Rattle.sporc_xform.proofs.Common.{base_len-insert_marks, out_len-append, out_len-keep_marks, out_len-remove_marks, out_len-insert_marks, cut, without, first_len, first_text, first_inserts}
+use Rattle.sporc_xform.proofs.Common.{first_removes, NoneEmpty, InARowInvariant, base_mark}
 use Rattle.sporc_delta.specs.declared.part.Part.{Part}
 use Rattle.sporc_delta.specs.declared.part.Part.TheVariants.{Keep as KeepRun, Insert as InsertText, Remove as RemoveRun}
-use Rattle.sporc_delta.specs.Marks.{Mark, Keep, Remove, Insert, base_len, out_len, keep_marks, remove_marks, insert_marks}
-use Rattle.sporc_delta.specs.Parts.{marks_of}
-use Rattle.sporc_delta.specs.Transforms.{compose}
-use Rattle.sporc_delta.proofs.Lengths.{base_len-append, base_len-keep_marks, base_len-remove_marks, base_len-insert_marks, out_len-append, out_len-keep_marks, out_len-remove_marks, out_len-insert_marks}
-use Rattle.sporc_xform.specs.Left.{cut, without, first_len, first_text, first_inserts, first_removes, NoneEmpty, InARowInvariant}
-use Rattle.sporc_xform.specs.Runs.{base_mark}
 use Rattle.sporc_xform.specs.Chunks.{through_marks}
 use Rattle.sporc_xform.proofs.LawLemmas.{composes}
 use Rattle.sporc_xform.proofs.Steps.{text_first, run_first, no_part, no_base}

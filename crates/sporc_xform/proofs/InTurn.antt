@@ -1,7 +1,6 @@
 -- Two deltas in one lead to the text after both.
 use Rattle.std.proofs.Common.{◌≡◌, ℕ, suc, List, [], ◌∷◌, length, refl, ap, arith}
-use Rattle.sporc_delta.specs.Marks.{Mark, Keep, Remove, Insert, apply, base_len, out_len}
-use Rattle.sporc_delta.specs.Transforms.{compose}
+use Rattle.sporc_xform.proofs.Common.{Mark, Keep, Remove, Insert, apply, base_len, out_len, compose}
 
 abbrev Leads : List Mark → List Mark → List ℕ → Type 0
 Leads p q s = apply (compose p q) s ≡ apply q (apply p s)

@@ -1,8 +1,6 @@
 -- The laws of the transforms, over marks.
 use Rattle.std.proofs.Common.{◌≡◌, ℕ, suc, List, [], ◌∷◌, length, refl, ap, arith}
-use Rattle.std.specs.List.{flat_map}
-use Rattle.sporc_delta.specs.Marks.{Mark, Keep, Remove, Insert, base_len, out_len, apply}
-use Rattle.sporc_delta.specs.Transforms.{last_steps, later_step, earlier_step, later, earlier, merged_steps, merge, compose}
+use Rattle.sporc_xform.proofs.Common.{flat_map, Mark, Keep, Remove, Insert, base_len, out_len, apply, last_steps, later_step, earlier_step, later, earlier, merged_steps, merge, compose}
 
 -- ---- both orders lead to the merged text
 

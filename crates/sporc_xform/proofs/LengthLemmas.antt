@@ -1,8 +1,6 @@
 -- The lengths of deltas that are restated.
 use Rattle.std.proofs.Common.{◌≡◌, suc, ◌+◌, ◌≤◌, List, [], ◌∷◌, refl, ap, arith}
-use Rattle.std.specs.List.{flat_map}
-use Rattle.sporc_delta.specs.Marks.{Mark, Keep, Remove, Insert, base_len, out_len, inserted_len}
-use Rattle.sporc_delta.specs.Transforms.{last_steps, later_step, earlier_step, later, earlier}
+use Rattle.sporc_xform.proofs.Common.{flat_map, Mark, Keep, Remove, Insert, base_len, out_len, inserted_len, last_steps, later_step, earlier_step, later, earlier}
 
 pub out_len-le : (ms : List Mark) → out_len ms ≤ base_len ms + inserted_len ms
 out_len-le [] = omega arith

@@ -5,3 +5,4 @@ pub mod LawLemmas
 pub mod LengthLemmas
 pub mod Restated
 pub mod Steps
+pub mod Common

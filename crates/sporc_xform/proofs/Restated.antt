@@ -1,14 +1,8 @@
 -- What runs of steps leave of two deltas.
 use Rattle.std.proofs.Common.{◌≡◌, ℕ, zero, suc, ◌+◌, ◌≤◌, Bool, true, false, List, [], ◌∷◌, ◌++◌, length, map, refl, ap, sym, ◌∙◌, append_assoc, arith}
-use Rattle.std.specs.Prelude.{replicate}
-use Rattle.std.specs.List.{flat_map}
-use Rattle.std.proofs.lemmas.List.{length-append}
+use Rattle.sporc_xform.proofs.Common.{replicate, flat_map, length-append, MAX_TEXT_LEN, Mark, Keep, Remove, Insert, base_len, out_len, inserted_len, keep_marks, insert_marks, Step, Earlier, Later}
+use Rattle.sporc_xform.proofs.Common.{Both, last_steps, steps_to, steps, later_step, earlier_step, base_len-append, out_len-append, base_mark, base_marks}
 use Rattle.std.proofs.lemmas.Grind.{flat_map-append}
-use Rattle.sporc_delta.specs.declared.limits.TheConstants.{MAX_TEXT_LEN}
-use Rattle.sporc_delta.specs.Marks.{Mark, Keep, Remove, Insert, base_len, out_len, inserted_len, keep_marks, insert_marks}
-use Rattle.sporc_delta.specs.Transforms.{Step, Earlier, Later, Both, last_steps, steps_to, steps, later_step, earlier_step}
-use Rattle.sporc_delta.proofs.Lengths.{base_len-append, out_len-append}
-use Rattle.sporc_xform.specs.Runs.{base_mark, base_marks}
 
 pub later-earlier : (text : List ℕ) → flat_map later_step (map Earlier text) ≡ keep_marks (length text)
 later-earlier [] = refl

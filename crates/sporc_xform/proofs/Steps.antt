@@ -1,16 +1,10 @@
 -- The steps of two deltas over one text, run by run.
 use Rattle.std.proofs.Common.{◌≡◌, ℕ, zero, suc, ◌+◌, ◌-◌, ◌<◌, ◌≤◌, Bool, true, false, List, [], ◌∷◌, ◌++◌, length, map, take, min, refl, ap, sym, ◌∙◌, append_assoc, arith, eqb, cond, eq-eqb}
-use Rattle.std.specs.Prelude.{replicate}
-use Rattle.std.proofs.lemmas.List.{replicate-append-replicate, take_all}
-use Rattle.std.proofs.lemmas.Bool.{eqb-true, eqb-false}
+use Rattle.sporc_xform.proofs.Common.{replicate, replicate-append-replicate, take_all, eqb-true, eqb-false, Mark, Keep, Remove, base_len, keep_marks, remove_marks, insert_marks, marks_of, AreRuns}
+use Rattle.sporc_xform.proofs.Common.{Earlier, Later, Both, steps, base_len-append, base_len-keep_marks, base_len-remove_marks, base_len-insert_marks, cut, without, first_len, first_text}
+use Rattle.sporc_xform.proofs.Common.{first_inserts, first_removes, NoneEmpty, base_mark}
 use Rattle.sporc_delta.specs.declared.part.Part.{Part}
 use Rattle.sporc_delta.specs.declared.part.Part.TheVariants.{Keep as KeepRun, Insert as InsertText, Remove as RemoveRun}
-use Rattle.sporc_delta.specs.Marks.{Mark, Keep, Remove, base_len, keep_marks, remove_marks, insert_marks}
-use Rattle.sporc_delta.specs.Parts.{marks_of, AreRuns}
-use Rattle.sporc_delta.specs.Transforms.{Earlier, Later, Both, steps}
-use Rattle.sporc_delta.proofs.Lengths.{base_len-append, base_len-keep_marks, base_len-remove_marks, base_len-insert_marks}
-use Rattle.sporc_xform.specs.Left.{cut, without, first_len, first_text, first_inserts, first_removes, NoneEmpty}
-use Rattle.sporc_xform.specs.Runs.{base_mark}
 
 -- runs of a delta are not empty
 pub NoneEmpty-runs : (ps : List Part) → AreRuns ps → NoneEmpty ps

@@ -1,11 +1,8 @@
 //! Entries that come.
 
-ghost use Rattle.std.specs.Prelude.{◌≡◌, ◌<◌, ◌≤◌, ◌++◌, length, is_some, nat_lt, IfOk, IfSome};
-ghost use Rattle.std.specs.Prelude.{OnOk, OnErr};
+ghost use Rattle.std.specs.Prelude.{◌≡◌, ◌<◌, ◌≤◌, ◌++◌, length, nat_lt, IfOk, IfSome, OnOk, OnErr};
 ghost use Rattle.sporc_base.specs.FirstFault.{AnswersUnless};
 ghost use Rattle.sporc_suffix.specs.Runs.{IsReadyAt};
-ghost use Rattle.sporc_member.specs.Device.{same_device};
-ghost use Rattle.sporc_entry.specs.Entry.{author_device, change_of};
 ghost use Rattle.sporc_head.specs.Examined.{IsExact};
 ghost use Rattle.sporc_line.specs.LineChecks.{first_fault};
 ghost use Rattle.sporc_line.specs.Prepared.{IsPrepared};
@@ -13,9 +10,8 @@ ghost use Rattle.sporc_client.specs.declared.limits.TheConstants.{MAX_EVENTS};
 ghost use Rattle.sporc_client.specs.Answers.{accept_fault, added, or_full};
 ghost use Rattle.sporc_client.specs.ClientModel.{state_of};
 ghost use Rattle.sporc_client.specs.Log.{Accept as Accepted};
-ghost use Rattle.sporc_client.specs.Coming.{CanCome, coming_of, effect};
-ghost use Rattle.sporc_client.specs.Step.{is_same_as};
-ghost use Rattle.sporc_client.specs.Taking.{CanSettle, Takes, form_at};
+ghost use Rattle.sporc_client.specs.Coming.{CanCome, effect};
+ghost use Rattle.sporc_client.specs.Taking.{CanSettle, Takes, coming_at, form_at};
 ghost use Rattle.sporc_client.specs.Workspace.{SameOwn};
 
 use super::Client;
@@ -138,12 +134,11 @@ fn ready_coming(
 ) -> Result<(Coming, ReadyForm), Memory>
     requires bytes { prepared.now.checked.bytes ≡ bytes.now }
     requires settles { CanSettle own.old prepared.now }
-    ensures coming { IfOk result
-        (λ both. effect both.0 own.old.pending ≡ coming_of (is_same_as own.old.flight bytes.now)
-        (is_some (change_of prepared.now.checked.entry)) (same_device
-        (author_device prepared.now.checked.entry.header) me) prepared.now.form own.old.pending) }
+    ensures coming { IfOk result (λ both. effect both.0 own.old.pending
+        ≡ coming_at me own.old bytes.now prepared.now) }
     ensures fits { IfOk result (λ both. CanCome both.0 own.old.pending) }
-    ensures ready_form { IfOk result (λ both. both.1.form ≡ form_at own.old prepared.now) }
+    ensures ready_form { IfOk result
+        (λ both. both.1.form ≡ form_at own.old prepared.now.checked.bytes prepared.now) }
     ensures made { IfOk result (λ both. IsReadyAt 0 own.new.shown both.1) }
     ensures room { OnOk result (0 < own.new.spare) }
     ensures unchanged { SameOwn own.old own.new }

@@ -8,7 +8,7 @@ ghost use Rattle.sporc_line.specs.Document.{forms_of};
 ghost use Rattle.sporc_line.specs.Good.{Good};
 ghost use Rattle.sporc_line.specs.LineChecks.{first_fault};
 ghost use Rattle.sporc_client.specs.Answers.{restart_fault};
-ghost use Rattle.sporc_client.specs.ClientModel.{state_of};
+ghost use Rattle.sporc_client.specs.ClientModel.{begun, state_of};
 ghost use Rattle.sporc_client.specs.Log.{journal_of};
 ghost use Rattle.sporc_client.specs.Step.{log_of_entries};
 
@@ -32,12 +32,8 @@ impl<D: LeafDisk> Client<D> {
         line: Line,
         signer: Signer<D>,
     ) -> Result<Client<D>, (Line, Signer<D>, Memory)>
-        ensures value { IfOk result (λ client. client ≡ record {
-          opening = record { genesis = line.genesis; kit = line.kit; key = signer.key };
-          log = log_of_entries line.entries;
-          leaves = signer.leaves;
-          ticket = None;
-        }) }
+        ensures value { IfOk result (λ client. client
+            ≡ begun line.genesis line.kit (log_of_entries line.entries) signer) }
         ensures returned { IfErr result (λ e. (e.0 ≡ line) × (e.1 ≡ signer)) }
     {
         // No draw: as in `open`.

@@ -3,8 +3,7 @@
 ghost use Rattle.std.specs.Prelude.{◌≡◌, ℕ, ◌⊎◌, ◌++◌, true, false, None, Some, Err, IfErr, IfOk};
 ghost use Rattle.sporc_base.specs.Outcome.{GivesUnless};
 ghost use Rattle.sporc_client.specs.ClientModel.{state_of};
-ghost use Rattle.sporc_client.specs.Drawing.{IsDraw, MayDraw, asks_draw, gives_entry, kept_after};
-ghost use Rattle.sporc_client.specs.Drawing.{leaf_for};
+ghost use Rattle.sporc_client.specs.Drawing.{IsDraw, MayDraw, asks_draw, leaf_for, submitted_with};
 ghost use Rattle.sporc_client.specs.LeafUses.{IsUse, leaf_given, supply_of};
 ghost use Rattle.sporc_client.specs.Submissions.{Drop, due, is_signing, submission};
 ghost use Rattle.sporc_client.specs.Submissions.{submission_added};
@@ -38,11 +37,7 @@ impl<D: LeafDisk> Client<D> {
             (leaf_for self.old.ticket self.old.leaves self.new.leaves)) }
         ensures may { MayDraw (state_of self.old)
             (leaf_for self.old.ticket self.old.leaves self.new.leaves) }
-        ensures log { self.new ≡ record self.old {
-          log = self.old.log ++ submission_added by result;
-          leaves = self.new.leaves;
-          ticket = kept_after self.old.ticket self.old.leaves self.new.leaves (gives_entry result);
-        } }
+        ensures log { self.new ≡ submitted_with self.old by result self.new.leaves }
         ensures leaf { IsUse (supply_of self.old) (leaf_given result) (supply_of self.new) }
         ensures undrawn { asks_draw self.old ≡ false → self.new.leaves ≡ self.old.leaves }
         ensures drawn { asks_draw self.old ≡ true
@@ -78,11 +73,7 @@ impl<D: LeafDisk> Client<D> {
         ensures value { GivesUnless SubmitFault.Memory (λ s. s) result
             (submission (state_of self.old) random.now
             (leaf_for self.old.ticket self.old.leaves self.new.leaves)) }
-        ensures log { self.new ≡ record self.old {
-          log = self.old.log ++ submission_added by result;
-          leaves = self.new.leaves;
-          ticket = kept_after self.old.ticket self.old.leaves self.new.leaves (gives_entry result);
-        } }
+        ensures log { self.new ≡ submitted_with self.old by result self.new.leaves }
         ensures leaf { IsUse (supply_of self.old) (leaf_given result) (supply_of self.new) }
         ensures undrawn { (leaf : ℕ) → self.old.ticket ≡ Some leaf
             → self.new.leaves ≡ self.old.leaves }

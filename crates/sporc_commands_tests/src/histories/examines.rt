@@ -3,10 +3,11 @@
 use super::folder::{Files, Room};
 use crate::checks::{check_answer, check_same};
 use sporc_commands::check;
-use sporc_files::{Fault, File, Names};
+use sporc_files::{Fault, File};
 use sporc_member::Device;
 use sporc_outside::OpenGate;
 use sporc_samples::Cast;
+use sporc_words::{Check, Word};
 use std::alloc::Global;
 use std::process::Abort;
 use std::sync::Wait;
@@ -20,16 +21,12 @@ fn examines<R: Threads + Wait + Sync + Abort>(
     answer: Result<(), Fault>,
     line: &[u8],
 ) {
-    let names = Names::of_document("D");
-    let found = check(
-        rt,
-        alloc,
-        &mut *room.folder,
-        &mut *room.out,
-        &names,
-        Device::first(2),
-        &OpenGate,
-    );
+    let asked = Check {
+        name: Word::new(alloc, "D").expect(rt, "memory"),
+        device: Device::first(2),
+    };
+    let folder = &mut *room.folder;
+    let found = check(rt, alloc, folder, &mut *room.out, &asked, &OpenGate);
     check_answer(rt, "check", found, answer);
     check_same(rt, "line of check", room.out.as_slice(), line);
 }

@@ -5,11 +5,12 @@ use crate::checks::{check_answer, check_at, check_same};
 use crate::memory::calls;
 use sporc_base::is_same;
 use sporc_commands::{list_entries, text};
-use sporc_files::{Fault, Names};
+use sporc_files::Fault;
 use sporc_member::Device;
 use sporc_memory::MemorySink;
 use sporc_outside::OpenGate;
 use sporc_samples::{Cast, History, insertion};
+use sporc_words::{EntriesFrom, TextAt, Word};
 use std::alloc::Global;
 use std::process::Abort;
 use std::sync::Wait;
@@ -72,18 +73,13 @@ fn text_answer<R: Threads + Wait + Sync + Abort>(
     room: &mut Room,
     at: Option<u32>,
 ) -> Result<(), Fault> {
-    let names = Names::of_document("D");
-    let gate = &OpenGate;
-    text(
-        rt,
-        alloc,
-        &mut *room.folder,
-        &mut *room.out,
-        &names,
-        Device::first(2),
+    let asked = TextAt {
+        name: Word::new(alloc, "D").expect(rt, "memory"),
+        device: Device::first(2),
         at,
-        gate,
-    )
+    };
+    let folder = &mut *room.folder;
+    text(rt, alloc, folder, &mut *room.out, &asked, &OpenGate)
 }
 
 // The text after all entries.
@@ -149,17 +145,13 @@ fn are_listed<R: Threads + Wait + Sync + Abort>(
     history: &[Vec<u8>],
 ) {
     let mut room = room(rt, alloc, cast, history, 0);
-    let names = Names::of_document("D");
-    let answer = list_entries(
-        rt,
-        alloc,
-        &mut *room.folder,
-        &mut *room.out,
-        &names,
-        Device::first(2),
-        1,
-        &OpenGate,
-    );
+    let asked = EntriesFrom {
+        name: Word::new(alloc, "D").expect(rt, "memory"),
+        device: Device::first(2),
+        from: 1,
+    };
+    let folder = &mut *room.folder;
+    let answer = list_entries(rt, alloc, folder, &mut *room.out, &asked, &OpenGate);
     check_answer(rt, "entries", answer, Ok(()));
     check_same(rt, "lines", room.out.as_slice(), LINES.as_bytes());
 }

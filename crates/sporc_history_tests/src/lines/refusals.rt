@@ -115,6 +115,13 @@ pub(crate) fn spoilt(good: &Draft, heads: &Heads) -> Draft {
     draft
 }
 
+// An edit that fails no check: what is to be signed, and its body.
+#[derive(Clone, Copy)]
+struct GoodEdit<'a> {
+    draft: &'a Draft,
+    body: &'a [u8],
+}
+
 // Whether a line refuses an edit that fails a check of its header alone, and one that fails all
 // later checks, too. A body of one byte is no delta.
 fn refuses(
@@ -122,16 +129,15 @@ fn refuses(
     alloc: Global,
     cast: &Cast,
     line: &mut Line,
-    good: &Draft,
-    body: &[u8],
+    good: GoodEdit<'_>,
     worse: &mut Draft,
     refusal: Refusal,
 ) -> bool {
-    let mut alone = *good;
+    let mut alone = *good.draft;
     spoil(&mut alone, line.heads(), refusal);
     spoil(worse, line.heads(), refusal);
     let position = place(line, refusal);
-    let found = tried(rt, alloc, cast, line, &alone, position, body);
+    let found = tried(rt, alloc, cast, line, &alone, position, good.body);
     let found_worse = tried(rt, alloc, cast, line, worse, position, &[5]);
     is_refusal(found, refusal) && is_refusal(found_worse, refusal)
 }
@@ -149,14 +155,14 @@ fn bodies_refused(
     alloc: Global,
     cast: &Cast,
     line: &mut Line,
-    good: &Draft,
-    body: &[u8],
+    good: GoodEdit<'_>,
 ) {
+    let draft = good.draft;
     let next = line.len().wrapping_add(1);
-    let long = body_keeping(rt, alloc, &good.header, 99);
-    let found = tried(rt, alloc, cast, line, good, next, long.as_slice());
+    let long = body_keeping(rt, alloc, &draft.header, 99);
+    let found = tried(rt, alloc, cast, line, draft, next, long.as_slice());
     check(rt, "long edit", is_refusal(found, Refusal::WrongLength));
-    let found = tried(rt, alloc, cast, line, good, next, &[5]);
+    let found = tried(rt, alloc, cast, line, draft, next, &[5]);
     check(rt, "no delta", is_refusal(found, Refusal::BadPayload));
     check(
         rt,
@@ -166,7 +172,7 @@ fn bodies_refused(
     check(
         rt,
         "good edit",
-        tried(rt, alloc, cast, line, good, next, body).is_none(),
+        tried(rt, alloc, cast, line, draft, next, good.body).is_none(),
     );
 }
 
@@ -176,13 +182,12 @@ fn headers_refused(
     alloc: Global,
     cast: &Cast,
     line: &mut Line,
-    good: &Draft,
-    body: &[u8],
+    good: GoodEdit<'_>,
 ) {
-    let mut worse = *good;
+    let mut worse = *good.draft;
     for refusal in &REFUSALS {
-        if *refusal != Refusal::UnknownDevice || good.header.version == 2 {
-            let refused = refuses(rt, alloc, cast, line, good, body, &mut worse, *refusal);
+        if *refusal != Refusal::UnknownDevice || good.draft.header.version == 2 {
+            let refused = refuses(rt, alloc, cast, line, good, &mut worse, *refusal);
             check_at(rt, "refusal", u64::from(refusal.code()), refused);
         }
     }
@@ -195,12 +200,16 @@ fn edits_refused(
     alloc: Global,
     cast: &Cast,
     line: &mut Line,
-    good: &Draft,
+    draft: &Draft,
     len: u64,
 ) {
-    let body = body_keeping(rt, alloc, &good.header, len);
-    headers_refused(rt, alloc, cast, line, good, body.as_slice());
-    bodies_refused(rt, alloc, cast, line, good, body.as_slice());
+    let body = body_keeping(rt, alloc, &draft.header, len);
+    let good = GoodEdit {
+        draft,
+        body: body.as_slice(),
+    };
+    headers_refused(rt, alloc, cast, line, good);
+    bodies_refused(rt, alloc, cast, line, good);
 }
 
 // Edits of all these kinds at the line of editor 2.

@@ -8,7 +8,7 @@ use crate::docs::serving::{entry_of, hello_and_submit};
 use crate::serve::notes::Notes;
 use crate::serve::server::Peers;
 use sporc_base::is_same;
-use sporc_docs::{Docs, DocsServeFault, serve_docs_kept};
+use sporc_docs::{Docs, DocsServeFault, KeptDocs, serve_docs_kept};
 use sporc_order::Order;
 use sporc_outside::OpenGate;
 use sporc_samples::Cast;
@@ -99,9 +99,9 @@ fn served<'a, R: Threads + Wait + Sync + Abort>(
     requires { length tails.items ≡ length docs }
 {
     let mut net = peers.into_net(rt, alloc);
-    let (docs, tails, answer) = serve_docs_kept(
-        rt, alloc, &mut net, "address", docs, tails, 3, &OpenGate,
-    );
+    let kept = KeptDocs { docs, tails };
+    let (kept, answer) = serve_docs_kept(rt, alloc, &mut net, "address", kept, 3, &OpenGate);
+    let KeptDocs { docs, tails } = kept;
     let orders = docs.into_orders();
     let left = Left {
         orders,

@@ -11,7 +11,7 @@ use sporc_memory::{MemoryLink, MemoryNet};
 use sporc_order::Order;
 use sporc_outside::Gate;
 use sporc_samples::Cast;
-use sporc_serve::{ServeFault, serve, serve_kept};
+use sporc_serve::{KeptOrder, ServeFault, serve, serve_kept};
 use std::alloc::Global;
 use std::process::Abort;
 use std::sync::Wait;
@@ -148,9 +148,9 @@ pub fn served_kept<'a, R: Threads + Wait + Sync + Abort, G: Gate + Sync>(
 {
     let order = Box::into_inner(empty_order(rt, alloc, cast));
     let mut net = peers.into_net(rt, alloc);
-    let (order, notes, answer) = serve_kept(
-        rt, alloc, &mut net, "address", order, notes, sessions, gate,
-    );
+    let kept = KeptOrder { order, tail: notes };
+    let (kept, answer) = serve_kept(rt, alloc, &mut net, "address", kept, sessions, gate);
+    let KeptOrder { order, tail: notes } = kept;
     let outcome = Outcome { order, net, answer };
     (Box::new(alloc, outcome).expect(rt, "memory"), notes)
 }

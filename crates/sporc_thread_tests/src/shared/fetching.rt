@@ -3,7 +3,8 @@
 use crate::checks::check;
 use crate::objects::{append, listed_link};
 use sporc_base::is_same;
-use sporc_shared::{Entries, fetch};
+use sporc_session::fetch;
+use sporc_wire::Entries;
 use std::alloc::Global;
 use std::process::Abort;
 

@@ -2,7 +2,7 @@
 
 use crate::checks::{check, check_text};
 use crate::shared::scene::one_entry;
-use crate::shared::staging::{FRESH, Outcome, Wanted, held, scripts};
+use crate::shared::staging::{FRESH, Outcome, Wanted, Work, held, scripts};
 use sporc_outside::Gate;
 use sporc_samples::{Cast, History, insertion};
 use std::alloc::Global;
@@ -87,20 +87,15 @@ fn met<R: Abort + Threads + Wait + Sync>(
 ) -> Outcome {
     let sample = two_entries(rt, alloc, cast);
     let editors = scripts(rt, alloc, 1, "insert 0 \"x\"\ninsert 0 \"y\"\n");
-    let wanted = Wanted {
-        rounds: 4,
-        until: 4,
-    };
-    held(
-        rt,
-        alloc,
-        cast,
-        FRESH,
-        &sample,
-        editors.as_slice(),
-        wanted,
+    let work = Work {
+        editors: editors.as_slice(),
+        wanted: Wanted {
+            rounds: 4,
+            until: 4,
+        },
         gate,
-    )
+    };
+    held(rt, alloc, cast, FRESH, &sample, &work)
 }
 
 fn goes_well<R: Abort + Threads + Wait + Sync>(rt: &R, alloc: Global, cast: &Cast) {

@@ -9,7 +9,7 @@ use lms_leaf::LeafFault;
 use sporc_client::EditFault;
 use sporc_head::Refusal;
 use sporc_samples::{Cast, count_calls};
-use sporc_shared::SessionFault;
+use sporc_session::SessionFault;
 use std::alloc::Global;
 use std::process::Abort;
 use std::sync::Wait;

@@ -4,7 +4,7 @@ use crate::checks::{check, check_end, check_text};
 use crate::shared::staging::{Answer, Deed, FRESH, Outcome, Start, TWO_ROUNDS, Wanted, written};
 use sporc_samples::Cast;
 use sporc_script::MAX_EDITORS;
-use sporc_shared::SessionFault;
+use sporc_session::SessionFault;
 use std::alloc::Global;
 use std::process::Abort;
 use std::sync::Wait;

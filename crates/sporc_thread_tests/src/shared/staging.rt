@@ -14,7 +14,8 @@ use sporc_order::Order;
 use sporc_outside::{Chance, Gate, LeafDisk, Link, OpenGate};
 use sporc_samples::{Cast, History};
 use sporc_script::{EditorScript, MAX_EDITORS, read_editor};
-use sporc_shared::{Pass, SessionFault, SharedClient, session};
+use sporc_session::{SessionFault, session};
+use sporc_shared::{Pass, SharedClient};
 use std::alloc::Global;
 use std::process::Abort;
 use std::sync::Wait;
@@ -75,6 +76,14 @@ pub(crate) const EDITED: Start<'static> = Start {
 pub(crate) struct Wanted {
     pub(crate) rounds: u32,
     pub(crate) until: u32,
+}
+
+/// What a session is to do: what its editors do, how far it goes, and its gate.
+#[derive(Drop)]
+pub(crate) struct Work<'a, G> {
+    pub(crate) editors: &'a [EditorScript],
+    pub(crate) wanted: Wanted,
+    pub(crate) gate: &'a G,
 }
 
 /// Two rounds, until there is an entry.
@@ -151,17 +160,24 @@ fn run<
     client: Client<D>,
     link: &mut L,
     chance: &mut C,
-    editors: &[EditorScript],
-    wanted: Wanted,
-    gate: &G,
+    work: &Work<'_, G>,
 ) -> Outcome
-    requires { length editors.now ≤ MAX_EDITORS }
+    requires { length work.now.editors.now ≤ MAX_EDITORS }
 {
-    let Wanted { rounds, until } = wanted;
+    let Wanted { rounds, until } = work.wanted;
     match SharedClient::open(alloc, client) {
         Ok((shared, first)) => {
             let (answer, first) = session(
-                rt, alloc, &shared, first, link, chance, editors, rounds, until, gate,
+                rt,
+                alloc,
+                &shared,
+                first,
+                link,
+                chance,
+                work.editors,
+                rounds,
+                until,
+                work.gate,
             );
             closed(rt, alloc, shared, first, answer)
         }
@@ -176,11 +192,9 @@ fn over<R: Abort + Threads + Wait + Sync, L: Link + Send, G: Gate + Sync>(
     cast: &Cast,
     start: Start<'_>,
     link: &mut L,
-    editors: &[EditorScript],
-    wanted: Wanted,
-    gate: &G,
+    work: &Work<'_, G>,
 ) -> Outcome
-    requires { length editors.now ≤ MAX_EDITORS }
+    requires { length work.now.editors.now ≤ MAX_EDITORS }
 {
     let Start {
         member,
@@ -192,7 +206,7 @@ fn over<R: Abort + Threads + Wait + Sync, L: Link + Send, G: Gate + Sync>(
     let mut chance = words(rt, alloc, chance);
     let client = lived(rt, alloc, cast, member, file, past);
     let client = Box::into_inner(client);
-    run(rt, alloc, client, link, &mut chance, editors, wanted, gate)
+    run(rt, alloc, client, link, &mut chance, work)
 }
 
 /// A session of two rounds with a server that sends these bytes. How it ends.
@@ -204,16 +218,12 @@ pub(crate) fn heard<R: Abort + Threads + Wait + Sync>(
     sent: &[u8],
 ) -> Answer {
     let mut link = listed_link(rt, alloc, sent, 3, &[]);
-    let outcome = over(
-        rt,
-        alloc,
-        cast,
-        start,
-        &mut link,
-        &[],
-        TWO_ROUNDS,
-        &OpenGate,
-    );
+    let work = Work {
+        editors: &[],
+        wanted: TWO_ROUNDS,
+        gate: &OpenGate,
+    };
+    let outcome = over(rt, alloc, cast, start, &mut link, &work);
     outcome.answer
 }
 
@@ -224,13 +234,11 @@ pub(crate) fn held<R: Abort + Threads + Wait + Sync, G: Gate + Sync>(
     cast: &Cast,
     start: Start<'_>,
     sample: &History,
-    editors: &[EditorScript],
-    wanted: Wanted,
-    gate: &G,
+    work: &Work<'_, G>,
 ) -> Outcome {
-    assert!(rt; editors.len() <= MAX_EDITORS, "too many editors");
+    assert!(rt; work.editors.len() <= MAX_EDITORS, "too many editors");
     let mut link = order_link(rt, alloc, cast, start.link, sample);
-    let outcome = over(rt, alloc, cast, start, &mut *link, editors, wanted, gate);
+    let outcome = over(rt, alloc, cast, start, &mut *link, work);
     drop(link);
     outcome
 }
@@ -270,16 +278,12 @@ pub(crate) fn written<R: Abort + Threads + Wait + Sync>(
 ) -> Outcome {
     let sample = empty_history(rt, alloc, cast);
     let editors = scripts(rt, alloc, editors, lines);
-    held(
-        rt,
-        alloc,
-        cast,
-        start,
-        &sample,
-        editors.as_slice(),
+    let work = Work {
+        editors: editors.as_slice(),
         wanted,
-        &OpenGate,
-    )
+        gate: &OpenGate,
+    };
+    held(rt, alloc, cast, start, &sample, &work)
 }
 
 // Twenty words. The calls with these numbers fail.

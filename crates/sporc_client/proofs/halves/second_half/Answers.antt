@@ -1,5 +1,5 @@
 use Rattle.std.proofs.Common.{drop, arith, ◌∙◌}
-use Rattle.std.proofs.lemmas.List.{length-drop, take_all}
+use Rattle.sporc_client.proofs.Common.{length-drop, take_all}
 use Rattle.sporc_client.proofs.halves.second_half.Goals as goal
 
 pub returns : goal.returns

@@ -1,5 +1,5 @@
 use Rattle.std.proofs.Common.{arith}
-use Rattle.sporc_client.specs.ClientModel.{leaves_of}
+use Rattle.sporc_client.proofs.Common.{leaves_of}
 use Rattle.sporc_client.proofs.Leaves.{rise_once}
 use Rattle.sporc_client.proofs.laws.leaves_sign_once.Goals as goal
 

@@ -1,10 +1,6 @@
 use Rattle.std.proofs.Common.{◌≡◌, ◌+◌, ℕ, drop, ap, sym, subst, ◌∙◌, List}
-use Rattle.sporc_delta.specs.Marks.{Mark, out_len, keep_marks}
-use Rattle.sporc_delta.proofs.Lengths.{out_len-keep_marks}
-use Rattle.sporc_client.specs.declared.pending.Pending.{Pending}
-use Rattle.sporc_client.specs.Rebasing.{AreOver, in_one}
-use Rattle.sporc_client.proofs.InOne.{first_in_one}
-use Rattle.sporc_client.proofs.Rebased.{item_at}
+use Rattle.sporc_client.proofs.Common.{Mark, out_len, keep_marks, out_len-keep_marks, Pending, AreOver, in_one}
+use Rattle.sporc_client.proofs.Rebased.{first_in_one, item_at}
 use Rattle.sporc_client.proofs.rebasing.in_one.Goals as goal
 
 pub loop-item-init : goal.loop-item-init

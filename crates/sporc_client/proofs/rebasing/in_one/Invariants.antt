@@ -1,6 +1,5 @@
 use Rattle.std.proofs.Common.{◌≡◌, drop}
-use Rattle.sporc_delta.specs.Marks.{out_len, keep_marks}
-use Rattle.sporc_client.specs.Rebasing.{AreOver, in_one}
+use Rattle.sporc_client.proofs.Common.{out_len, keep_marks, AreOver, in_one}
 use Rattle.sporc_client.proofs.rebasing.in_one.Given as goal
 
 abbrev pub invariant-loop-item : goal.invariant-loop-item

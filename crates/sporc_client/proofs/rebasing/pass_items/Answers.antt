@@ -1,5 +1,5 @@
 use Rattle.std.proofs.Common.{arith}
-use Rattle.sporc_client.proofs.Passings.{passed_one}
+use Rattle.sporc_client.proofs.Rebased.{passed_one}
 use Rattle.sporc_client.proofs.rebasing.pass_items.Goals as goal
 
 pub loop-item-preserved : goal.loop-item-preserved

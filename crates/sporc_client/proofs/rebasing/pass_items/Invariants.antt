@@ -1,6 +1,6 @@
 use Rattle.std.proofs.Common.{◌≡◌, ◌≤◌, length, vec_len}
 use Rattle.std.specs.Vec.{vec_capacity}
-use Rattle.sporc_client.proofs.Passings.{PassedSome}
+use Rattle.sporc_client.proofs.Rebased.{PassedSome}
 use Rattle.sporc_client.proofs.rebasing.pass_items.Given as goal
 
 abbrev pub invariant-loop-item : goal.invariant-loop-item

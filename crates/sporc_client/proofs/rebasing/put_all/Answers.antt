@@ -1,5 +1,5 @@
 use Rattle.std.proofs.Common.{◌≡◌, length, arith, ◌∙◌}
-use Rattle.sporc_client.proofs.Passings.{last_put, last_within}
+use Rattle.sporc_client.proofs.Rebased.{last_put, last_within}
 use Rattle.sporc_client.proofs.rebasing.put_all.Goals as goal
 
 pub index_mut-requires : goal.index_mut-requires

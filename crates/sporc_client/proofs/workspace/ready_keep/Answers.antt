@@ -1,7 +1,5 @@
 use Rattle.std.proofs.Common.{ap, ◌∙◌, arith}
-use Rattle.sporc_delta.specs.Marks.{keep_marks}
-use Rattle.sporc_delta.proofs.Lengths.{base_len-keep_marks}
-use Rattle.sporc_line.proofs.FormLengths.{length-text}
+use Rattle.sporc_client.proofs.Common.{keep_marks, base_len-keep_marks, length-text}
 use Rattle.sporc_client.proofs.workspace.ready_keep.Goals as goal
 
 pub keep_all-requires : goal.keep_all-requires

@@ -3,12 +3,12 @@
 ghost use Rattle.std.specs.Prelude.{◌≡◌, true, ◌+◌, ◌≤◌, ◌<◌, ◌^◌, ◌++◌, length, vec_len};
 ghost use Rattle.std.specs.Prelude.{vec_capacity, IfOk, IfErr};
 ghost use Rattle.lms_tree.specs.LmsType.{height_of};
-ghost use Rattle.lms_tree.specs.Signatures.{lms_signature_of};
 ghost use Rattle.lms_tree.specs.Verification.{lms_signature_len_of};
 ghost use Rattle.sporc_entry.specs.declared.limits.TheConstants.{MAX_ENTRY, MAX_SIGNATURE};
-ghost use Rattle.sporc_entry.specs.Entry.{entry_bytes, signed_string};
+ghost use Rattle.sporc_entry.specs.Entry.{signed_string};
 ghost use Rattle.sporc_entry.specs.Version.{fits_version};
 ghost use Rattle.sporc_client.specs.Drafts.{AreCopies, HasRoom, IsDraft, prefix_bytes};
+ghost use Rattle.sporc_client.specs.Drafts.{signed_bytes};
 
 use lms_sign::{Signer, Ticket};
 use lms_tree::LmsPublic;
@@ -52,10 +52,7 @@ pub(crate) fn sign_entry<D: LeafDisk>(
     requires body_limit { length entry.now.body < 2 ^ 32 }
     requires limit { length (signed_string entry.now) ≤ MAX_ENTRY }
     ensures made { IfOk result
-        (AreCopies (entry_bytes (record entry.now {
-          signature = lms_signature_of signer.old.key
-              ticket randomizer.now (signed_string entry.now);
-        }))) }
+        (AreCopies (signed_bytes signer.old.key ticket randomizer.now entry.now)) }
     ensures returned { IfErr result (λ back. back.0 ≡ ticket) }
     ensures unchanged { signer.new ≡ signer.old }
 {

@@ -1,6 +1,5 @@
 use Rattle.std.proofs.Common.{arith}
-use Rattle.sporc_outside.proofs.Returning.{shut_then}
-use Rattle.sporc_clients.specs.Attending.{not_begun, not_resumed}
+use Rattle.sporc_clients.proofs.Common.{shut_then, not_begun, not_resumed}
 use Rattle.sporc_clients.proofs.Addresses.{asks_less, asks_more}
 use Rattle.sporc_clients.proofs.Resumed.{begun_later, no_client}
 use Rattle.sporc_clients.proofs.CountsRose.{rose_since}
@@ -12,17 +11,17 @@ returns-in-Err-clause-err g c = not_resumed c.in-Err.ensures.err
 
 pub returns-in-Err-resume_client-clause-err : goal.returns-in-Err-resume_client-clause-err
 returns-in-Err-resume_client-clause-err g c =
-    not_resumed (no_client _ _ _ _ c.in-Ok.line _ _ c.in-Err-resume_client.fault c.in-Ok.ensures.ok c.in-Err-resume_client.ensures.memory)
+    not_resumed (no_client _ _ _ c.in-Ok.line c.in-Err-resume_client.fault c.in-Ok.ensures.ok c.in-Err-resume_client.ensures.memory)
 
 pub returns-in-Err-work-clause-err : goal.returns-in-Err-work-clause-err
-returns-in-Err-work-clause-err g c = not_begun c.in-Ok.ensures.ok (begun_later _ _ _ _ _ _ c.in-Err-work.fault c.resume_line.ensures.kept c.in-Err-work.ensures.err)
+returns-in-Err-work-clause-err g c = not_begun c.in-Ok.ensures.ok (begun_later _ _ _ _ c.in-Err-work.fault c.resume_line.ensures.kept c.in-Err-work.ensures.err)
 
 pub returns-in-Ok-work-clause-attended : goal.returns-in-Ok-work-clause-attended
 returns-in-Ok-work-clause-attended g c = record {
   between = g.N.Links.told c.resume_line.new.net;
   line = c.in-Ok.line;
   resumed = c.in-Ok.ensures.ok;
-  work = work_from _ _ _ _ _ _ _ _ _ _ (past_resumed _ _ c.in-Ok.line.entries _ c.in-Ok-resume_client.ensures.resumed) c.in-Ok-work.ensures.work;
+  work = work_from _ _ _ _ _ _ _ _ (past_resumed _ _ c.in-Ok.line.entries _ c.in-Ok-resume_client.ensures.resumed) c.in-Ok-work.ensures.work;
 }
 
 pub returns-in-Ok-work-clause-causes : goal.returns-in-Ok-work-clause-causes

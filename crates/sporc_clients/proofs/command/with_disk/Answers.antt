@@ -1,14 +1,8 @@
 use Rattle.std.proofs.Common.{◌+◌, [], ◌∷◌, ap, option_map, refl, subst, sym, ◌∙◌}
-use Rattle.sporc_outside.proofs.Returning.{shut_none}
+use Rattle.sporc_clients.proofs.Common.{shut_none, file_name, History, past_of, AsksAtMost, links_for_hints, names_of, no_history, no_leaves, no_session, not_worked, worked}
 use Rattle.sporc_files.proofs.Asking.{AsksOnly-none}
-use Rattle.sporc_files.specs.Names.{file_name}
-use Rattle.sporc_files.specs.declared.file.File.TheVariants.{History}
-use Rattle.sporc_shared.specs.Items.{past_of}
 use Rattle.sporc_clients.proofs.Addresses.{asks_never}
-use Rattle.sporc_clients.specs.Nets.{AsksAtMost}
-use Rattle.sporc_clients.specs.Opening.{links_for_hints}
 use Rattle.sporc_clients.proofs.Asking.{asks_history, asks_history_again}
-use Rattle.sporc_clients.specs.Outcome.{names_of, no_history, no_leaves, no_session, not_worked, worked}
 use Rattle.sporc_clients.proofs.LeafFiles.{kept_to}
 use Rattle.sporc_clients.proofs.Outcomes.{answers_so, attended_at, history_fault, history_says, not_attended_at, saved_as}
 use Rattle.sporc_clients.proofs.command.with_disk.Goals as goal
@@ -28,7 +22,7 @@ returns-in-Err-history_of-clause-outcome g c =
 pub returns-in-Ok-attend-clause-outcome : goal.returns-in-Ok-attend-clause-outcome
 returns-in-Ok-attend-clause-outcome g c =
     let past = past_of c.in-Ok-attend.ended.client in
-    let m = c.args.member in
+    let m = c.args.own.says in
     -- what the disk's laws say in this thread, as in any that it may be sent to
     let told_here = g.met.D.LeafDisk g.world.𝓛 g.world.𝓜 g.world.𝓡 ((λ s allowed. allowed), (λ patient. patient), (λ others. others), λ cuts. cuts) in
     worked (record {
@@ -40,13 +34,12 @@ returns-in-Ok-attend-clause-outcome g c =
       };
       past = past;
       session = c.in-Ok-attend.ended.result;
-      attended = attended_at m.genesis c.args.words.now.device m.ring c.args.words.now.address c.as_str.result.now _ _ _ c.as_str.ensures.value
-          c.args.words.now.rounds c.args.words.now.until m.editors c.as_slice.result.now m.tree c.in-Ok.signer.key _ past _ _ c.in-Ok-attend.ended.result
-          c.as_slice.ensures.value c.in-Ok.ensures.key c.in-Ok-attend.ensures.attended;
+      attended = attended_at m.genesis c.args.words.now.device m.ring c.args.words.now.address c.as_str-address.result.now _ _ c.as_str-address.ensures.value
+          _ m.tree c.in-Ok.signer.key _ past _ c.in-Ok-attend.ended.result c.in-Ok.ensures.key c.in-Ok-attend.ensures.attended;
       causes = c.in-Ok-attend.ensures.causes;
       saved = c.conclude-session.result.saved;
-      saves = saved_as past _ c.as_str-in-Ok-attend.result.now _ _ _ _ _ _ c.conclude-session.result.saved
-          (c.as_str-in-Ok-attend.ensures.value ∙ c.in-Ok-history_of.ensures.name ∙ ap (λ n. file_name n (History c.args.words.now.device)) c.names_of.ensures.value)
+      saves = saved_as past _ c.as_str.result.now _ _ _ _ _ _ c.conclude-session.result.saved
+          (c.as_str.ensures.value ∙ c.in-Ok-history_of.ensures.name ∙ ap (λ n. file_name n (History c.args.words.now.device)) c.names_of.ensures.value)
           c.history_of.ensures.files c.history_of.ensures.kept c.conclude-session.ensures.saved;
       printed = c.conclude-session.result.printed;
       prints = c.conclude-session.ensures.printed;
@@ -57,14 +50,14 @@ returns-in-Ok-attend-clause-outcome g c =
 
 pub returns-clause-outcome : goal.returns-clause-outcome
 returns-clause-outcome g c =
-    let m = c.args.member in
+    let m = c.args.own.says in
     not_worked
     (no_session
     (record {
       opened = c.in-Ok.ensures.ok;
       says = history_says _ c.names_of.result c.args.words.now c.names_of.ensures.value (option_map (λ bytes. bytes.items) c.in-Ok-history_of.both.0) c.in-Ok-history_of.ensures.ok;
     })
-    (not_attended_at m.genesis c.args.words.now.device m.ring c.args.words.now.address c.as_str.result.now _ _ _ c.as_str.ensures.value _ _ c.in-Err-attend.fault
+    (not_attended_at m.genesis c.args.words.now.device m.ring c.args.words.now.address c.as_str-address.result.now _ _ c.as_str-address.ensures.value c.in-Err-attend.fault
     c.in-Err-attend.ensures.err))
     (record { out = record { written = refl; faults = refl }; files = c.history_of.ensures.files; words = ap (λ c. (g.C.Chance.told c).given) c.in-Err-attend.ensures.chance })
     (ap (λ d. (g.D.LeafDisk.told d).stored) c.close-in-Err-attend.ensures.value ∙ ap (λ s. (g.D.LeafDisk.told s.leaves.disk).stored) c.in-Err-attend.ensures.returned ∙ c.in-Ok.ensures.ok.unwritten)
@@ -80,8 +73,8 @@ returns-in-Err-history_of-clause-files_may_ask g c = asks_history c.names_of.res
 
 pub returns-in-Ok-attend-clause-files_may_ask : goal.returns-in-Ok-attend-clause-files_may_ask
 returns-in-Ok-attend-clause-files_may_ask g c =
-    asks_history_again c.names_of.result c.args.words.now c.names_of.ensures.value c.as_str-in-Ok-attend.result.now _ _ _
-    (c.as_str-in-Ok-attend.ensures.value ∙ c.in-Ok-history_of.ensures.name) c.history_of.ensures.may_ask c.conclude-session.ensures.may_ask
+    asks_history_again c.names_of.result c.args.words.now c.names_of.ensures.value c.as_str.result.now _ _ _
+    (c.as_str.ensures.value ∙ c.in-Ok-history_of.ensures.name) c.history_of.ensures.may_ask c.conclude-session.ensures.may_ask
 
 pub returns-clause-files_may_ask : goal.returns-clause-files_may_ask
 returns-clause-files_may_ask g c = asks_history c.names_of.result c.args.words.now c.names_of.ensures.value _ _ c.history_of.ensures.may_ask
@@ -96,11 +89,11 @@ returns-in-Err-history_of-clause-net_may_ask g c = asks_never _ _ c.args.words.n
 
 pub returns-in-Ok-attend-clause-net_may_ask : goal.returns-in-Ok-attend-clause-net_may_ask
 returns-in-Ok-attend-clause-net_may_ask g c =
-    subst (AsksAtMost (links_for_hints c.args.member.ring + 1) (g.N.Links.told c.args.net.now).asked (g.N.Links.told c.attend.new.net).asked) c.as_str.ensures.value c.attend.ensures.may_ask
+    subst (AsksAtMost (links_for_hints c.args.own.says.ring + 1) (g.N.Links.told c.args.net.now).asked (g.N.Links.told c.attend.new.net).asked) c.as_str-address.ensures.value c.attend.ensures.may_ask
 
 pub returns-clause-net_may_ask : goal.returns-clause-net_may_ask
 returns-clause-net_may_ask g c =
-    subst (AsksAtMost (links_for_hints c.args.member.ring + 1) (g.N.Links.told c.args.net.now).asked (g.N.Links.told c.attend.new.net).asked) c.as_str.ensures.value c.attend.ensures.may_ask
+    subst (AsksAtMost (links_for_hints c.args.own.says.ring + 1) (g.N.Links.told c.args.net.now).asked (g.N.Links.told c.attend.new.net).asked) c.as_str-address.ensures.value c.attend.ensures.may_ask
 
 -- ---- links
 

@@ -1,5 +1,5 @@
 use Rattle.std.proofs.Common.{◌≢◌, ℕ, ap, ◌∙◌, refl, subst}
-use Rattle.lms_leaf.specs.LeafFile.{block_count}
+use Rattle.sporc_clients.proofs.Common.{block_count}
 use Rattle.lms_tree.specs.declared.public_key.LmsPublic.{LmsPublic}
 use Rattle.lms_tree.specs.LmsType.{height_of}
 use Rattle.sporc_clients.proofs.LeafFiles.{keeps_passed, kept_to}

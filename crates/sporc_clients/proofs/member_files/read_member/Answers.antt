@@ -1,6 +1,5 @@
 use Rattle.std.proofs.Common.{◌∙◌, arith}
-use Rattle.std.proofs.lemmas.Result.{err_from_is_err_and}
-use Rattle.sporc_files.proofs.FaultCases.{if_err}
+use Rattle.sporc_clients.proofs.Common.{err_from_is_err_and, if_err}
 use Rattle.sporc_clients.proofs.Asking.{asks_genesis, asks_key, asks_ring, asks_scripts}
 use Rattle.sporc_clients.proofs.Members.{key_unread, ring_unread, says_now, scripts_unread}
 use Rattle.sporc_clients.proofs.member_files.read_member.Goals as goal

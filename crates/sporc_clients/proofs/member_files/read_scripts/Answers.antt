@@ -1,6 +1,5 @@
 use Rattle.std.proofs.Common.{◌∙◌, arith}
-use Rattle.std.proofs.lemmas.Result.{err_from_is_err_and}
-use Rattle.sporc_files.proofs.FaultCases.{if_err}
+use Rattle.sporc_clients.proofs.Common.{err_from_is_err_and, if_err}
 use Rattle.sporc_clients.proofs.Asking.{asks_script}
 use Rattle.sporc_clients.proofs.Members.{first_script, next_script, one_longer}
 use Rattle.sporc_clients.proofs.member_files.read_scripts.Goals as goal

@@ -1,7 +1,5 @@
 use Rattle.std.proofs.Common.{◌≡◌, ◌≤◌, length, map}
-use Rattle.sporc_files.specs.Names.{file_name}
-use Rattle.sporc_files.specs.Uses.{AsksOnly}
-use Rattle.sporc_clients.specs.MemberFiles.{SayScripts, script_files}
+use Rattle.sporc_clients.proofs.Common.{file_name, AsksOnly, SayScripts, script_files}
 use Rattle.sporc_clients.proofs.member_files.read_scripts.Given as goal
 
 abbrev pub invariant-loop-read : goal.invariant-loop-read

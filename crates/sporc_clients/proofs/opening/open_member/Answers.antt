@@ -1,20 +1,17 @@
 use Rattle.std.proofs.Common.{ℕ, map, ap, refl, ◌∙◌}
+use Rattle.sporc_clients.proofs.Common.{err_from_is_err_and, shut_none, if_err, no_entries}
 use Rattle.std.specs.Global.{Vec}
-use Rattle.std.proofs.lemmas.Result.{err_from_is_err_and}
-use Rattle.sporc_outside.proofs.Returning.{shut_none}
-use Rattle.sporc_files.proofs.FaultCases.{if_err}
-use Rattle.sporc_clients.specs.Opening.{no_entries}
 use Rattle.sporc_clients.proofs.Addresses.{asks_for_hints, asks_never}
 use Rattle.sporc_clients.proofs.OpenedLines.{founder, joiner, not_opened_by, opened_by}
 use Rattle.sporc_clients.proofs.opening.open_member.Goals as goal
 
 pub returns-in-Some-clause-ok : goal.returns-in-Some-clause-ok
 returns-in-Some-clause-ok g c =
-    opened_by _ _ _ _ (founder _ _ _ _ c.in-Some.is refl (ap (map (λ (e : Vec ℕ). e.items)) (c.as_slice.ensures.value ∙ c.new-none.ensures.items))) c.open_line.result c.open_line.ensures.kit
+    opened_by _ _ _ (founder _ _ _ c.in-Some.is refl (ap (map (λ (e : Vec ℕ). e.items)) (c.as_slice.ensures.value ∙ c.new-none.ensures.items))) c.open_line.result c.open_line.ensures.kit
 
 pub returns-in-Some-clause-err : goal.returns-in-Some-clause-err
 returns-in-Some-clause-err g c =
-    not_opened_by _ _ _ _ (founder _ _ _ _ c.in-Some.is refl (ap (map (λ (e : Vec ℕ). e.items)) (c.as_slice.ensures.value ∙ c.new-none.ensures.items))) _ _ c.open_line.result c.open_line.ensures.kit
+    not_opened_by _ _ _ (founder _ _ _ c.in-Some.is refl (ap (map (λ (e : Vec ℕ). e.items)) (c.as_slice.ensures.value ∙ c.new-none.ensures.items))) c.open_line.result c.open_line.ensures.kit
 
 pub returns-in_err-entries-in-None-clause-err : goal.returns-in_err-entries-in-None-clause-err
 returns-in_err-entries-in-None-clause-err g c =
@@ -23,12 +20,12 @@ returns-in_err-entries-in-None-clause-err g c =
 
 pub returns-in_ok-entries-in-None-clause-ok : goal.returns-in_ok-entries-in-None-clause-ok
 returns-in_ok-entries-in-None-clause-ok g c =
-    opened_by _ _ _ _ (joiner _ _ _ _ c.in_ok-entries-in-None.entries c.in-None.is c.as_slice-in-None.ensures.value c.in_ok-entries-in-None.ensures.ok) c.open_line-in-None.result
+    opened_by _ _ _ (joiner _ _ _ c.in_ok-entries-in-None.entries c.in-None.is c.as_slice-in-None.ensures.value c.in_ok-entries-in-None.ensures.ok) c.open_line-in-None.result
     c.open_line-in-None.ensures.kit
 
 pub returns-in_ok-entries-in-None-clause-err : goal.returns-in_ok-entries-in-None-clause-err
 returns-in_ok-entries-in-None-clause-err g c =
-    not_opened_by _ _ _ _ (joiner _ _ _ _ c.in_ok-entries-in-None.entries c.in-None.is c.as_slice-in-None.ensures.value c.in_ok-entries-in-None.ensures.ok) _ _
+    not_opened_by _ _ _ (joiner _ _ _ c.in_ok-entries-in-None.entries c.in-None.is c.as_slice-in-None.ensures.value c.in_ok-entries-in-None.ensures.ok)
     c.open_line-in-None.result c.open_line-in-None.ensures.kit
 
 pub returns-in-Some-clause-may_ask : goal.returns-in-Some-clause-may_ask

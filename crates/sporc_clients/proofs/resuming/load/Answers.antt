@@ -1,6 +1,6 @@
 use Rattle.std.proofs.Common.{List, ℕ, Err, Some, option_map, ap, sym, ◌∙◌}
+use Rattle.sporc_clients.proofs.Common.{err_from_is_err_and}
 use Rattle.std.specs.Global.{Vec}
-use Rattle.std.proofs.lemmas.Result.{err_from_is_err_and}
 use Rattle.sporc_clients.proofs.Resumed.{stopped_so}
 use Rattle.sporc_clients.proofs.resuming.load.Goals as goal
 

@@ -1,8 +1,5 @@
 use Rattle.std.proofs.Common.{refl}
-use Rattle.std.proofs.lemmas.Result.{err_from_is_err_and}
-use Rattle.sporc_outside.proofs.Returning.{shut_none}
-use Rattle.sporc_files.proofs.FaultCases.{if_err}
-use Rattle.sporc_clients.specs.Attending.{not_opened, not_whole}
+use Rattle.sporc_clients.proofs.Common.{err_from_is_err_and, shut_none, if_err, not_opened, not_whole}
 use Rattle.sporc_clients.proofs.Addresses.{asks_never}
 use Rattle.sporc_clients.proofs.Resumed.{not_resumed_by, resumed}
 use Rattle.sporc_clients.proofs.resuming.resume_line.Goals as goal
@@ -19,13 +16,13 @@ returns-in_err-line-clause-err g c =
 
 pub returns-clause-ok : goal.returns-clause-ok
 returns-clause-ok g c =
-    resumed _ _ _ _ c.in_ok-check_before.ensures.value c.in_ok-line.line.genesis c.in_ok-line.line.kit c.in_ok-line.ensures.ok c.in_ok-line.ensures.genesis c.load.result
+    resumed _ _ _ c.in_ok-check_before.ensures.value c.in_ok-line.line.genesis c.in_ok-line.line.kit c.in_ok-line.ensures.ok c.in_ok-line.ensures.genesis c.load.result
     c.load.ensures.entries c.load.ensures.genesis c.load.ensures.kit
 
 pub returns-clause-err : goal.returns-clause-err
 returns-clause-err g c =
-    not_resumed_by _ _ _ _ c.in_ok-check_before.ensures.value c.in_ok-line.line.genesis c.in_ok-line.line.kit c.in_ok-line.ensures.ok c.in_ok-line.ensures.genesis c.load.result
-    c.load.ensures.entries _ _
+    not_resumed_by _ _ _ c.in_ok-check_before.ensures.value c.in_ok-line.line.genesis c.in_ok-line.line.kit c.in_ok-line.ensures.ok c.in_ok-line.ensures.genesis c.load.result
+    c.load.ensures.entries
 
 pub returns-in_err-check_before-clause-may_ask : goal.returns-in_err-check_before-clause-may_ask
 returns-in_err-check_before-clause-may_ask g c = asks_never _ _ c.args.address.now

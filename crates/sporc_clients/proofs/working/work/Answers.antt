@@ -1,20 +1,16 @@
 use Rattle.std.proofs.Common.{◌≤◌, ℕ, refl, rules, sym, subst, ap, ◌∙◌, arith}
-use Rattle.sporc_outside.specs.Counts.{count_of_both}
-use Rattle.sporc_outside.specs.Told.{AppendsItem, TakesItem}
-use Rattle.sporc_outside.proofs.Returning.{shut_none, shut_one}
+use Rattle.sporc_clients.proofs.Common.{count_of_both, AppendsItem, TakesItem, shut_none, shut_one, out_of_memory, unreached, link_told}
 use Rattle.sporc_clients.proofs.CountsRose.{rose_at_net}
 use Rattle.sporc_clients.proofs.Counting.{as_many, both_kept, one_is_out}
 use Rattle.sporc_clients.proofs.Sessioning.{over_same_link, told_again}
-use Rattle.sporc_clients.specs.Nets.{out_of_memory, unreached}
-use Rattle.sporc_clients.specs.Sessions.{link_told}
 use Rattle.sporc_clients.proofs.working.work.Goals as goal
 
 pub take_back-requires : goal.take_back-requires
-take_back-requires g c = one_is_out (g.N.Links.told c.args.net.now).out (g.N.Links.told c.connect.new.self).out c.in-Ok.ensures.out
+take_back-requires g c = one_is_out (g.N.Links.told c.args.net.now).out (g.N.Links.told c.connect.new.self).out c.in-Ok.ensures.did.out
 
 pub returns-in_default-clause-err : goal.returns-in_default-clause-err
 returns-in_default-clause-err g c =
-    unreached (record { may_ask = c.connect.ensures.may_ask; coming = search rules; returned = c.connect.ensures.returned; counted = c.connect.ensures.links }) (search rules) refl
+    unreached (record { may_ask = c.connect.ensures.may_ask; coming = search rules; returned = c.connect.ensures.did.returned; counted = c.connect.ensures.did.links }) (search rules) refl
 
 pub returns-in-Ok-ended-clause-work : goal.returns-in-Ok-ended-clause-work
 returns-in-Ok-ended-clause-work g c = record {
@@ -22,16 +18,16 @@ returns-in-Ok-ended-clause-work g c = record {
   last = g.N.Link.Stream.told c.shut.new.self;
   uses = record {
     asked = subst (λ asked. AppendsItem (g.N.Links.told c.args.net.now).asked asked c.args.address.now) (sym c.take_back.ensures.asked) c.in-Ok.ensures.asked;
-    came = subst (λ coming. TakesItem (g.N.Links.told c.args.net.now).coming coming (g.N.Link.Stream.told c.in-Ok.link)) (sym c.take_back.ensures.coming) c.in-Ok.ensures.next;
-    fresh = c.in-Ok.ensures.fresh;
-    is_open = c.in-Ok.ensures.open;
+    came = subst (λ coming. TakesItem (g.N.Links.told c.args.net.now).coming coming (g.N.Link.Stream.told c.in-Ok.link)) (sym c.take_back.ensures.coming) c.in-Ok.ensures.did.next;
+    fresh = c.in-Ok.ensures.did.fresh;
+    is_open = c.in-Ok.ensures.did.not_shut;
     ended = g.N.Link.Stream.told c.run_session-ended.new.link;
     still_open = c.run_session-ended.ensures.shut;
     told_then = told_again (link_told (g.N.Link.Stream.told c.run_session-ended.new.link))
         (link_told (g.N.Link.Stream.told c.shut.new.self)) c.shut.ensures.did.written c.shut.ensures.did.left c.shut.ensures.did.count;
     shut = c.shut.ensures.did.shut;
-    back = subst (λ returned. AppendsItem returned (g.N.Links.told c.take_back.new.self).returned (g.N.Link.Stream.told c.shut.new.self)) c.connect.ensures.returned c.take_back.ensures.returned;
-    counted = subst (λ (n : ℕ). count_of_both n (g.N.Link.Stream.told c.shut.new.self).faults ≤ (g.N.Links.told c.take_back.new.self).link_faults) c.connect.ensures.links c.take_back.ensures.links_kept;
+    back = subst (λ returned. AppendsItem returned (g.N.Links.told c.take_back.new.self).returned (g.N.Link.Stream.told c.shut.new.self)) c.connect.ensures.did.returned c.take_back.ensures.returned;
+    counted = subst (λ (n : ℕ). count_of_both n (g.N.Link.Stream.told c.shut.new.self).faults ≤ (g.N.Links.told c.take_back.new.self).link_faults) c.connect.ensures.did.links c.take_back.ensures.links_kept;
   };
   session = over_same_link _ _ _ _ _ _ _ _ c.shut.ensures.did.written c.shut.ensures.did.left c.shut.ensures.did.count c.in-Ok-ended.ensures.session;
 }
@@ -42,16 +38,16 @@ returns-in-Err-clause-err g c = out_of_memory (record {
   last = g.N.Link.Stream.told c.shut.new.self;
   uses = record {
     asked = subst (λ asked. AppendsItem (g.N.Links.told c.args.net.now).asked asked c.args.address.now) (sym c.take_back.ensures.asked) c.in-Ok.ensures.asked;
-    came = subst (λ coming. TakesItem (g.N.Links.told c.args.net.now).coming coming (g.N.Link.Stream.told c.in-Ok.link)) (sym c.take_back.ensures.coming) c.in-Ok.ensures.next;
-    fresh = c.in-Ok.ensures.fresh;
-    is_open = c.in-Ok.ensures.open;
+    came = subst (λ coming. TakesItem (g.N.Links.told c.args.net.now).coming coming (g.N.Link.Stream.told c.in-Ok.link)) (sym c.take_back.ensures.coming) c.in-Ok.ensures.did.next;
+    fresh = c.in-Ok.ensures.did.fresh;
+    is_open = c.in-Ok.ensures.did.not_shut;
     ended = g.N.Link.Stream.told c.run_session-ended.new.link;
     still_open = c.run_session-ended.ensures.shut;
     told_then = told_again (link_told (g.N.Link.Stream.told c.run_session-ended.new.link))
         (link_told (g.N.Link.Stream.told c.shut.new.self)) c.shut.ensures.did.written c.shut.ensures.did.left c.shut.ensures.did.count;
     shut = c.shut.ensures.did.shut;
-    back = subst (λ returned. AppendsItem returned (g.N.Links.told c.take_back.new.self).returned (g.N.Link.Stream.told c.shut.new.self)) c.connect.ensures.returned c.take_back.ensures.returned;
-    counted = subst (λ (n : ℕ). count_of_both n (g.N.Link.Stream.told c.shut.new.self).faults ≤ (g.N.Links.told c.take_back.new.self).link_faults) c.connect.ensures.links c.take_back.ensures.links_kept;
+    back = subst (λ returned. AppendsItem returned (g.N.Links.told c.take_back.new.self).returned (g.N.Link.Stream.told c.shut.new.self)) c.connect.ensures.did.returned c.take_back.ensures.returned;
+    counted = subst (λ (n : ℕ). count_of_both n (g.N.Link.Stream.told c.shut.new.self).faults ≤ (g.N.Links.told c.take_back.new.self).link_faults) c.connect.ensures.did.links c.take_back.ensures.links_kept;
   };
   unused = told_again (link_told (g.N.Link.Stream.told c.run_session-ended.new.link))
       (link_told (g.N.Link.Stream.told c.shut.new.self)) c.shut.ensures.did.written c.shut.ensures.did.left c.shut.ensures.did.count
@@ -59,39 +55,39 @@ returns-in-Err-clause-err g c = out_of_memory (record {
 }) refl
 
 pub returns-in-Ok-ended-clause-links_out : goal.returns-in-Ok-ended-clause-links_out
-returns-in-Ok-ended-clause-links_out g c = as_many (g.N.Links.told c.args.net.now).out (g.N.Links.told c.connect.new.self).out (g.N.Links.told c.take_back.new.self).out c.in-Ok.ensures.out c.take_back.ensures.out
+returns-in-Ok-ended-clause-links_out g c = as_many (g.N.Links.told c.args.net.now).out (g.N.Links.told c.connect.new.self).out (g.N.Links.told c.take_back.new.self).out c.in-Ok.ensures.did.out c.take_back.ensures.out
 
 pub returns-in-Ok-ended-clause-links_kept : goal.returns-in-Ok-ended-clause-links_kept
 returns-in-Ok-ended-clause-links_kept g c =
     both_kept (g.N.Links.told c.args.net.now).link_faults (g.N.Link.Stream.told c.shut.new.self).faults (g.N.Links.told c.take_back.new.self).link_faults (omega (arith, c.link_faults-faults.ensures))
-    (subst (λ (n : ℕ). count_of_both n (g.N.Link.Stream.told c.shut.new.self).faults ≤ (g.N.Links.told c.take_back.new.self).link_faults) c.connect.ensures.links c.take_back.ensures.links_kept)
+    (subst (λ (n : ℕ). count_of_both n (g.N.Link.Stream.told c.shut.new.self).faults ≤ (g.N.Links.told c.take_back.new.self).link_faults) c.connect.ensures.did.links c.take_back.ensures.links_kept)
 
 pub returns-in-Err-clause-links_kept : goal.returns-in-Err-clause-links_kept
 returns-in-Err-clause-links_kept g c =
     both_kept (g.N.Links.told c.args.net.now).link_faults (g.N.Link.Stream.told c.shut.new.self).faults (g.N.Links.told c.take_back.new.self).link_faults (omega (arith, c.link_faults-faults.ensures))
-    (subst (λ (n : ℕ). count_of_both n (g.N.Link.Stream.told c.shut.new.self).faults ≤ (g.N.Links.told c.take_back.new.self).link_faults) c.connect.ensures.links c.take_back.ensures.links_kept)
+    (subst (λ (n : ℕ). count_of_both n (g.N.Link.Stream.told c.shut.new.self).faults ≤ (g.N.Links.told c.take_back.new.self).link_faults) c.connect.ensures.did.links c.take_back.ensures.links_kept)
 
 pub returns-in-Ok-ended-clause-causes : goal.returns-in-Ok-ended-clause-causes
 returns-in-Ok-ended-clause-causes g c =
     rose_at_net (g.N.Link.Stream.told c.in-Ok.link).faults (g.N.Link.Stream.told c.run_session-ended.new.link).faults (g.N.Links.told c.args.net.now).link_faults (g.N.Links.told c.take_back.new.self).link_faults _ _ _
-    c.in-Ok.ensures.fresh
+    c.in-Ok.ensures.did.fresh
     (subst (λ (n : ℕ). count_of_both (g.N.Links.told c.args.net.now).link_faults n ≤ (g.N.Links.told c.take_back.new.self).link_faults) c.shut.ensures.did.count
-    (subst (λ (n : ℕ). count_of_both n (g.N.Link.Stream.told c.shut.new.self).faults ≤ (g.N.Links.told c.take_back.new.self).link_faults) c.connect.ensures.links c.take_back.ensures.links_kept))
+    (subst (λ (n : ℕ). count_of_both n (g.N.Link.Stream.told c.shut.new.self).faults ≤ (g.N.Links.told c.take_back.new.self).link_faults) c.connect.ensures.did.links c.take_back.ensures.links_kept))
     c.in-Ok-ended.ensures.causes
 
 pub returns-in_default-clause-shut : goal.returns-in_default-clause-shut
 returns-in_default-clause-shut g c =
-    shut_none (g.N.Links.told c.args.net.now).returned (g.N.Links.told c.connect.new.self).returned c.connect.ensures.returned
+    shut_none (g.N.Links.told c.args.net.now).returned (g.N.Links.told c.connect.new.self).returned c.connect.ensures.did.returned
 
 pub returns-in-Ok-ended-clause-shut : goal.returns-in-Ok-ended-clause-shut
 returns-in-Ok-ended-clause-shut g c =
     shut_one (g.N.Links.told c.args.net.now).returned (g.N.Links.told c.connect.new.self).returned (g.N.Links.told c.take_back.new.self).returned (g.N.Link.Stream.told c.shut.new.self)
-    c.connect.ensures.returned c.take_back.ensures.returned c.shut.ensures.did.shut
+    c.connect.ensures.did.returned c.take_back.ensures.returned c.shut.ensures.did.shut
 
 pub returns-in-Err-clause-shut : goal.returns-in-Err-clause-shut
 returns-in-Err-clause-shut g c =
     shut_one (g.N.Links.told c.args.net.now).returned (g.N.Links.told c.connect.new.self).returned (g.N.Links.told c.take_back.new.self).returned (g.N.Link.Stream.told c.shut.new.self)
-    c.connect.ensures.returned c.take_back.ensures.returned c.shut.ensures.did.shut
+    c.connect.ensures.did.returned c.take_back.ensures.returned c.shut.ensures.did.shut
 
 pub returns-in-Err-clause-links_out : goal.returns-in-Err-clause-links_out
-returns-in-Err-clause-links_out g c = as_many (g.N.Links.told c.args.net.now).out (g.N.Links.told c.connect.new.self).out (g.N.Links.told c.take_back.new.self).out c.in-Ok.ensures.out c.take_back.ensures.out
+returns-in-Err-clause-links_out g c = as_many (g.N.Links.told c.args.net.now).out (g.N.Links.told c.connect.new.self).out (g.N.Links.told c.take_back.new.self).out c.in-Ok.ensures.did.out c.take_back.ensures.out

@@ -1,7 +1,7 @@
 use Rattle.std.proofs.Common.{◌≡◌, List, ℕ, [], ◌∷◌, ◌++◌, ap, ◌∙◌, sym, take}
-use Rattle.sporc_hash.specs.Chain.{chain, chain_after, genesis_value, last_value, next_value, value_after}
+use Rattle.sporc_commands.proofs.Common.{chain, genesis_value, last_value, next_value, genesis_bytes}
+use Rattle.sporc_hash.specs.Chain.{chain_after, value_after}
 use Rattle.sporc_hash.proofs.ChainLemmas.{chain_push, value_push}
-use Rattle.sporc_entry.specs.Genesis.{genesis_bytes}
 use Rattle.sporc_commands.proofs.Taken.{bytes_of, taken_more}
 use Rattle.sporc_commands.proofs.chains.chain_of.Goals as goal
 

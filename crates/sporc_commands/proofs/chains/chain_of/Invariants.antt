@@ -1,6 +1,5 @@
 use Rattle.std.proofs.Common.{◌≡◌, map, take}
-use Rattle.sporc_hash.specs.Chain.{chain, last_value}
-use Rattle.sporc_entry.specs.Genesis.{genesis_bytes}
+use Rattle.sporc_commands.proofs.Common.{chain, last_value, genesis_bytes}
 use Rattle.sporc_commands.proofs.chains.chain_of.Given as goal
 
 abbrev pub invariant-loop-entry : goal.invariant-loop-entry

@@ -1,8 +1,6 @@
 use Rattle.std.proofs.Common.{Err, ◌≤◌, [], ◌∷◌, ap, ◌∙◌, arith}
-use Rattle.std.proofs.lemmas.Result.{err_from_is_err_and}
+use Rattle.sporc_commands.proofs.Common.{err_from_is_err_and, file_name, asks_first, asks_then}
 use Rattle.sporc_files.specs.declared.file.File.TheVariants as files
-use Rattle.sporc_files.specs.Names.{file_name}
-use Rattle.sporc_files.proofs.Asking.{asks_first, asks_then}
 use Rattle.sporc_commands.proofs.Compared.{both_read, first_fails, genesis_fails, of_one_genesis, second_fails}
 use Rattle.sporc_commands.proofs.comparing.read_chains.Goals as goal
 

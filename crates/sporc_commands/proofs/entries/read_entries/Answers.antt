@@ -1,9 +1,5 @@
 use Rattle.std.proofs.Common.{Err, List, ℕ, ap, ◌∙◌}
-use Rattle.std.proofs.lemmas.Result.{err_from_is_err_and}
-use Rattle.sporc_store.specs.SavedFile.{saved_in}
-use Rattle.sporc_files.specs.Reading.{any_bytes}
-use Rattle.sporc_files.specs.Faults.{whole}
-use Rattle.sporc_commands.specs.Contents.{entries_of}
+use Rattle.sporc_commands.proofs.Common.{err_from_is_err_and, saved_in, any_bytes, whole, entries_of}
 use Rattle.sporc_commands.proofs.ReadFiles.{reads_none, reads_value}
 use Rattle.sporc_commands.proofs.entries.read_entries.Goals as goal
 

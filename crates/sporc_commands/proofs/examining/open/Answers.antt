@@ -1,11 +1,6 @@
 use Rattle.std.proofs.Common.{List, ℕ, map, subst}
-use Rattle.std.specs.Global.{Vec}
-use Rattle.sporc_line.specs.LineModel.{LineModel}
-use Rattle.sporc_files.specs.Faults.{AnswersUnlessOutside}
+use Rattle.sporc_commands.proofs.Common.{Vec, LineModel, AnswersUnlessOutside, tells_behind, entries_of, entries_for_hints}
 use Rattle.sporc_files.specs.Opening.{kit_by}
-use Rattle.sporc_files.proofs.Answering.{tells_behind}
-use Rattle.sporc_commands.specs.Contents.{entries_of}
-use Rattle.sporc_commands.specs.Checking.{entries_for_hints}
 use Rattle.sporc_commands.proofs.examining.open.Goals as goal
 
 pub returns-clause-kit : goal.returns-clause-kit

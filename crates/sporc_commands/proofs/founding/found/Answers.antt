@@ -1,7 +1,5 @@
 use Rattle.std.proofs.Common.{ap, ◌∙◌}
-use Rattle.std.proofs.lemmas.Result.{err_from_is_err_and}
-use Rattle.sporc_outside.specs.Uses.{use_of}
-use Rattle.sporc_files.specs.Names.{names_of_document}
+use Rattle.sporc_commands.proofs.Common.{err_from_is_err_and, use_of, names_of_document}
 use Rattle.sporc_commands.proofs.Asking.{found_asks_all, found_asks_keys}
 use Rattle.sporc_commands.proofs.MayFound.{can_found}
 use Rattle.sporc_commands.proofs.StoreFaults.{write_fails}

@@ -1,7 +1,5 @@
 use Rattle.std.proofs.Common.{◌≡◌, ◌≤◌, map, take}
-use Rattle.sporc_files.specs.Names.{file_name}
-use Rattle.sporc_files.specs.Uses.{AsksOnly}
-use Rattle.sporc_commands.specs.Founding.{AreNamed, keys_read}
+use Rattle.sporc_commands.proofs.Common.{file_name, AsksOnly, AreNamed, keys_read}
 use Rattle.sporc_commands.proofs.founding.read_founders.Given as goal
 
 abbrev pub invariant-loop-participant : goal.invariant-loop-participant

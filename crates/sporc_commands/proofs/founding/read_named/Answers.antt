@@ -1,4 +1,4 @@
-use Rattle.sporc_files.proofs.Asking.{AsksOnly-none}
+use Rattle.sporc_commands.proofs.Common.{AsksOnly-none}
 use Rattle.sporc_commands.proofs.founding.read_named.Goals as goal
 
 pub returns-in-Joiner-clause-may_ask : goal.returns-in-Joiner-clause-may_ask

@@ -1,10 +1,6 @@
 use Rattle.std.proofs.Common.{[], ◌∷◌, map}
-use Rattle.sporc_entry.specs.Genesis.{genesis_bytes}
+use Rattle.sporc_commands.proofs.Common.{genesis_bytes, file_name, file_with, AsksOnly-none, asks_first, asks_then, founding_files, names_in, ring_of_founding}
 use Rattle.sporc_files.specs.declared.file.File.TheVariants as files
-use Rattle.sporc_files.specs.Names.{file_name}
-use Rattle.sporc_files.specs.Writing.{file_with}
-use Rattle.sporc_files.proofs.Asking.{AsksOnly-none, asks_first, asks_then}
-use Rattle.sporc_commands.specs.Founding.{founding_files, names_in, ring_of_founding}
 use Rattle.sporc_commands.proofs.StoreFaults.{behind_err}
 use Rattle.sporc_commands.proofs.founding.write_founding.Goals as goal
 

@@ -1,8 +1,6 @@
 use Rattle.std.proofs.Common.{◌∙◌, refl, arith}
-use Rattle.std.proofs.lemmas.Result.{err_from_is_err_and}
-use Rattle.sporc_files.proofs.Asking.{AsksOnly-none}
+use Rattle.sporc_commands.proofs.Common.{err_from_is_err_and, AsksOnly-none, if_err}
 use Rattle.sporc_commands.proofs.Asking.{asks_ring}
-use Rattle.sporc_files.proofs.FaultCases.{if_err}
 use Rattle.sporc_commands.proofs.RingLoop.{others_not, ring_fails, ring_more}
 use Rattle.sporc_commands.proofs.Storing.{none_yet}
 use Rattle.sporc_commands.proofs.founding.write_rings.Goals as goal

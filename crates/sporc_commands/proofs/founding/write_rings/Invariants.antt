@@ -1,7 +1,5 @@
 use Rattle.std.proofs.Common.{◌≡◌, ◌≤◌, map, take}
-use Rattle.sporc_files.specs.Uses.{AsksOnly}
-use Rattle.sporc_files.specs.Writing.{Stores}
-use Rattle.sporc_commands.specs.Founding.{names_in, ring_of_founding}
+use Rattle.sporc_commands.proofs.Common.{AsksOnly, Stores, names_in, ring_of_founding}
 use Rattle.sporc_commands.proofs.founding.write_rings.Given as goal
 
 abbrev pub invariant-loop-ring : goal.invariant-loop-ring

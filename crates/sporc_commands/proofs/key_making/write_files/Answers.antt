@@ -1,7 +1,6 @@
 use Rattle.std.proofs.Common.{[], ◌∷◌, ◌∙◌}
+use Rattle.sporc_commands.proofs.Common.{file_name, asks_first, asks_then}
 use Rattle.sporc_files.specs.declared.file.File.TheVariants as files
-use Rattle.sporc_files.specs.Names.{file_name}
-use Rattle.sporc_files.proofs.Asking.{asks_first, asks_then}
 use Rattle.sporc_commands.proofs.KeyFiles.{both_written, on_ok}
 use Rattle.sporc_commands.proofs.key_making.write_files.Goals as goal
 

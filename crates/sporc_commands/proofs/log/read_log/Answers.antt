@@ -1,14 +1,6 @@
 use Rattle.std.proofs.Common.{ℕ, List, Option, None, Some, Err, Ok, ◌∙◌, ap, sym, subst}
-use Rattle.std.specs.Prelude.{option_map}
-use Rattle.std.specs.Global.{Vec}
-use Rattle.std.proofs.lemmas.Result.{err_from_is_err_and}
-use Rattle.sporc_order.specs.OrderModel.{OrderModel}
+use Rattle.sporc_commands.proofs.Common.{option_map, Vec, err_from_is_err_and, OrderModel, file_name, SaysFileIfThere, any_bytes, AnswersUnlessOutside, logged_in, tells_memory}
 use Rattle.sporc_files.specs.declared.file.File.TheVariants as files
-use Rattle.sporc_files.specs.Names.{file_name}
-use Rattle.sporc_files.specs.Reading.{SaysFileIfThere, any_bytes}
-use Rattle.sporc_files.specs.Faults.{AnswersUnlessOutside}
-use Rattle.sporc_commands.specs.Serving.{logged_in}
-use Rattle.sporc_files.proofs.Answering.{tells_memory}
 use Rattle.sporc_commands.proofs.Logs.{log_fails, log_read, no_log, order_is}
 use Rattle.sporc_commands.proofs.log.read_log.Goals as goal
 

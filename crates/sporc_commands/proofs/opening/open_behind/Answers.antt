@@ -1,4 +1,4 @@
-use Rattle.sporc_commands.specs.declared.opening.LoggedOrder.{LoggedOrder}
+use Rattle.sporc_commands.proofs.Common.{LoggedOrder}
 use Rattle.sporc_commands.proofs.Opened.{behind_fails, behind_log}
 use Rattle.sporc_commands.proofs.opening.open_behind.Goals as goal
 

@@ -1,13 +1,8 @@
 use Rattle.std.proofs.Common.{List, Option, Err, ◌≡◌, [], ◌∷◌, ap, subst, ◌∙◌}
-use Rattle.std.specs.Prelude.{OnErr, OnOk, option_map}
-use Rattle.std.proofs.lemmas.Result.{err_from_is_err_and}
-use Rattle.sporc_outside.specs.declared.named_file.NamedFile.{NamedFile}
-use Rattle.sporc_outside.specs.Files.{ChangesFile, made_in}
+use Rattle.sporc_commands.proofs.Common.{option_map, err_from_is_err_and, NamedFile, ChangesFile, made_in, file_name, asks_first, asks_then, OpenedOrder}
+use Rattle.std.specs.Prelude.{OnErr, OnOk}
 use Rattle.sporc_files.specs.declared.file.File.TheVariants as files
-use Rattle.sporc_files.specs.Names.{file_name}
-use Rattle.sporc_files.proofs.Asking.{asks_first, asks_then}
 use Rattle.sporc_files.proofs.Written.{any_err}
-use Rattle.sporc_commands.specs.declared.opening.OpenedOrder.{OpenedOrder}
 use Rattle.sporc_commands.proofs.Opened.{changes_same, genesis_fails, order_of_genesis}
 use Rattle.sporc_commands.proofs.opening.open_order.Goals as goal
 

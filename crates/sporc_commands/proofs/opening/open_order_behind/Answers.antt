@@ -1,13 +1,7 @@
 use Rattle.std.proofs.Common.{ℕ, List, sym, Err, [], ◌∷◌, ap, refl, subst, ◌∙◌, arith}
-use Rattle.std.proofs.lemmas.Result.{err_from_is_err_and}
-use Rattle.sporc_outside.specs.Files.{TakesFile}
+use Rattle.sporc_commands.proofs.Common.{err_from_is_err_and, TakesFile, file_name, AsksOnly, asks_first, asks_then, LoggedOrder, OpenedOrder}
 use Rattle.sporc_files.specs.declared.file.File.TheVariants as files
-use Rattle.sporc_files.specs.Names.{file_name}
-use Rattle.sporc_files.specs.Uses.{AsksOnly}
-use Rattle.sporc_files.proofs.Asking.{asks_first, asks_then}
 use Rattle.sporc_files.proofs.Written.{any_err}
-use Rattle.sporc_commands.specs.declared.opening.LoggedOrder.{LoggedOrder}
-use Rattle.sporc_commands.specs.declared.opening.OpenedOrder.{OpenedOrder}
 use Rattle.sporc_commands.proofs.Opened.{changes_back, order_fails, order_found, rose_back, taking_fails, within_file}
 use Rattle.sporc_commands.proofs.opening.open_order_behind.Goals as goal
 

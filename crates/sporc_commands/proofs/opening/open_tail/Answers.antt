@@ -1,6 +1,5 @@
 use Rattle.std.proofs.Common.{◌∙◌, subst, sym}
-use Rattle.sporc_commands.specs.declared.opening.LoggedOrder.{LoggedOrder}
-use Rattle.sporc_commands.specs.Tails.{KeepsBehind, LogTailModel}
+use Rattle.sporc_commands.proofs.Common.{LoggedOrder, KeepsBehind, LogTailModel}
 use Rattle.sporc_commands.proofs.Opened.{tail_fails, tail_taken}
 use Rattle.sporc_commands.proofs.Tails.{opened_keeps}
 use Rattle.sporc_commands.proofs.opening.open_tail.Goals as goal

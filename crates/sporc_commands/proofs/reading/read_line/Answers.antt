@@ -1,13 +1,7 @@
 use Rattle.std.proofs.Common.{Err, List, ℕ, ◌≤◌, Option, [], ◌∷◌, ap, subst, ◌∙◌, arith}
-use Rattle.std.proofs.lemmas.Result.{err_from_is_err_and}
-use Rattle.sporc_outside.specs.declared.named_file.NamedFile.{NamedFile}
-use Rattle.sporc_keys.specs.RingFile.{ring_file_of_member}
+use Rattle.sporc_commands.proofs.Common.{err_from_is_err_and, NamedFile, ring_file_of_member, file_name, IsFileFault, SaysFile, any_bytes, own_key_file, AnswersUnlessOutside, checked_line, examined}
+use Rattle.sporc_commands.proofs.Common.{asks_first, asks_then}
 use Rattle.sporc_files.specs.declared.file.File.TheVariants as files
-use Rattle.sporc_files.specs.Names.{file_name}
-use Rattle.sporc_files.specs.Reading.{IsFileFault, SaysFile, any_bytes, own_key_file}
-use Rattle.sporc_files.specs.Faults.{AnswersUnlessOutside}
-use Rattle.sporc_commands.specs.Checking.{checked_line, examined}
-use Rattle.sporc_files.proofs.Asking.{asks_first, asks_then}
 use Rattle.sporc_commands.proofs.Examined.{all_read, genesis_fails, history_fails, key_fails, ring_fails}
 use Rattle.sporc_commands.proofs.reading.read_line.Goals as goal
 

@@ -1,8 +1,7 @@
 use Rattle.std.proofs.Common.{[], ◌∷◌, ◌∙◌, arith}
+use Rattle.sporc_commands.proofs.Common.{file_name, AsksOnly-trans}
 use Rattle.sporc_outside.proofs.Returning.{shut_then}
 use Rattle.sporc_files.specs.declared.file.File.TheVariants as kinds
-use Rattle.sporc_files.specs.Names.{file_name}
-use Rattle.sporc_files.proofs.Asking.{AsksOnly-trans}
 use Rattle.sporc_commands.proofs.Roundabout.{all_rounds, asks_more, asks_once, asks_within, ended_early, first_round, next_round}
 use Rattle.sporc_commands.proofs.rounds.serve_rounds.Goals as goal
 
@@ -29,8 +28,7 @@ rounds-preserved g c = record {
   within = omega arith;
   tail = c.serve_round-last-in-rounds.ensures.tail;
   lent = c.serve_round-last-in-rounds.ensures.lent ∙ c.rounds.invariant.lent;
-  asked = AsksOnly-trans (file_name c.args.names.now kinds.Log ∷ []) (g.F.Folder.told c.args.files.now).asked (g.F.Folder.told c.rounds.files).asked
-      (g.F.Folder.told c.serve_round-last-in-rounds.new.files).asked c.rounds.invariant.asked c.serve_round-last-in-rounds.ensures.files_may_ask;
+  asked = AsksOnly-trans (file_name c.args.rounds.now.names.now kinds.Log ∷ []) _ _ _ c.rounds.invariant.asked c.serve_round-last-in-rounds.ensures.files_may_ask;
   kept = omega (arith, c.rounds.invariant.kept, c.serve_round-last-in-rounds.ensures.files_kept);
   net_asked = asks_more _ _ _ _ _ c.rounds.invariant.net_asked c.serve_round-last-in-rounds.ensures.net_may_ask;
   shut = shut_then (g.N.Links.told c.args.net.now).returned (g.N.Links.told c.rounds.net).returned

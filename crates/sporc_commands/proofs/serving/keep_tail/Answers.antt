@@ -1,6 +1,5 @@
 use Rattle.std.proofs.Common.{rules, ◌≡◌, ◌∙◌, ℕ, List, length, ap, arith, subst, sym}
-use Rattle.std.specs.Prelude.{IfSome}
-use Rattle.sporc_commands.specs.Tails.{GivesAll}
+use Rattle.sporc_commands.proofs.Common.{IfSome, GivesAll}
 use Rattle.sporc_commands.proofs.Given.{gives_kept}
 use Rattle.sporc_commands.proofs.serving.keep_tail.Goals as goal
 

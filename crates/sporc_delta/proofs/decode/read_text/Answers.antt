@@ -1,5 +1,5 @@
 use Rattle.std.proofs.Common.{refl}
-use Rattle.std.proofs.lemmas.Str.{is_utf8-from_IsUtf8}
+use Rattle.sporc_delta.proofs.Common.{is_utf8-from_IsUtf8}
 use Rattle.sporc_delta.specs.Reading.{text_at}
 use Rattle.sporc_delta.proofs.Counted.{is_utf8-false}
 use Rattle.sporc_delta.proofs.decode.read_text.Goals as goal

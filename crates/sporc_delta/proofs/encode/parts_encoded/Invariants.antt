@@ -1,7 +1,5 @@
 use Rattle.std.proofs.Common.{◌≡◌, ◌++◌, drop, take}
-use Rattle.std.specs.List.{AllByRecursion}
-use Rattle.sporc_delta.specs.Format.{parts_bytes}
-use Rattle.sporc_delta.specs.Typed.{IsTypedPart}
+use Rattle.sporc_delta.proofs.Common.{AllByRecursion, parts_bytes, IsTypedPart}
 use Rattle.sporc_delta.proofs.encode.parts_encoded.Given as goal
 
 abbrev pub invariant-loop-part : goal.invariant-loop-part

@@ -1,5 +1,5 @@
 use Rattle.std.proofs.Common.{◌≡◌, ◌+◌, ◌*◌, ◌^◌, ◌<◌, drop, length}
-use Rattle.sporc_delta.specs.Format.{parts_bytes}
+use Rattle.sporc_delta.proofs.Common.{parts_bytes}
 use Rattle.sporc_delta.proofs.encode.parts_len.Given as goal
 
 abbrev pub invariant-loop-part : goal.invariant-loop-part

@@ -1,8 +1,5 @@
 use Rattle.std.proofs.Common.{◌≡◌, ◌<◌, ◌^◌, length, true, sym, ap, subst, ◌∙◌, arith}
-use Rattle.std.proofs.lemmas.Str.{scalars-chars}
-use Rattle.std.specs.Str.{all_scalars, encode_utf8_all}
-use Rattle.sporc_delta.specs.declared.part.Part.{Part}
-use Rattle.sporc_delta.specs.Typed.{IsTypedPart}
+use Rattle.sporc_delta.proofs.Common.{scalars-chars, all_scalars, encode_utf8_all, Part, IsTypedPart}
 use Rattle.sporc_delta.proofs.encode.put_part.Goals as goal
 
 pub returns-in_ok-extend_from_slice-in-Insert-clause-typed : goal.returns-in_ok-extend_from_slice-in-Insert-clause-typed

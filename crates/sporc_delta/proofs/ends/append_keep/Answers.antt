@@ -1,5 +1,5 @@
 use Rattle.std.proofs.Common.{◌<◌, length, arith, sym, ◌∙◌, ap}
-use Rattle.sporc_delta.specs.Parts.{kept_at_end}
+use Rattle.sporc_delta.proofs.Common.{kept_at_end}
 use Rattle.sporc_delta.proofs.Appended.{kept_fits, kept_grown, keep_pushed}
 use Rattle.sporc_delta.proofs.ends.append_keep.Goals as goal
 

@@ -1,5 +1,5 @@
 use Rattle.std.proofs.Common.{◌<◌, length, arith, sym, ◌∙◌, ap}
-use Rattle.sporc_delta.specs.Parts.{removed_at_end}
+use Rattle.sporc_delta.proofs.Common.{removed_at_end}
 use Rattle.sporc_delta.proofs.Appended.{removed_fits, removed_grown, remove_pushed}
 use Rattle.sporc_delta.proofs.ends.append_remove.Goals as goal
 

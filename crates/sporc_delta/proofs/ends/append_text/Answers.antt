@@ -1,6 +1,6 @@
 use Rattle.std.proofs.Common.{◌≡◌, ◌∙◌, ℕ, List, ◌∷◌, ◌++◌, [], ap, sym, false}
+use Rattle.sporc_delta.proofs.Common.{text_at_end}
 use Rattle.sporc_delta.specs.declared.part.Part.TheVariants.{Insert}
-use Rattle.sporc_delta.specs.Parts.{text_at_end}
 use Rattle.sporc_delta.proofs.Appended.{text_pushed}
 use Rattle.sporc_delta.proofs.ends.append_text.Goals as goal
 

@@ -1,5 +1,6 @@
 use Rattle.std.proofs.Common.{◌≡◌, ◌++◌, ◌∷◌, [], arith}
-use Rattle.sporc_delta.specs.declared.part.Part.TheVariants.{Keep, Insert, Remove}
+use Rattle.sporc_delta.proofs.Common.{Remove}
+use Rattle.sporc_delta.specs.declared.part.Part.TheVariants.{Keep, Insert}
 use Rattle.sporc_delta.proofs.Appended.{text_fits, text_put_back, not_kept_end, not_removed_end}
 use Rattle.sporc_delta.proofs.ends.grow_text.Goals as goal
 

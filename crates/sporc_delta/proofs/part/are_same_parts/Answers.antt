@@ -1,5 +1,5 @@
 use Rattle.std.proofs.Common.{◌<◌, length, arith, sym, ◌∙◌}
-use Rattle.sporc_delta.specs.Same.{same_part}
+use Rattle.sporc_delta.proofs.Common.{same_part}
 use Rattle.sporc_delta.proofs.SameLists.{one_more_different}
 use Rattle.sporc_delta.proofs.part.are_same_parts.Goals as goal
 

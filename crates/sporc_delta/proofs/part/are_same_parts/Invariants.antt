@@ -1,5 +1,5 @@
 use Rattle.std.proofs.Common.{◌≡◌, length, drop}
-use Rattle.sporc_delta.specs.Same.{same_parts}
+use Rattle.sporc_delta.proofs.Common.{same_parts}
 use Rattle.sporc_delta.proofs.part.are_same_parts.Given as goal
 
 abbrev pub invariant-loop-i : goal.invariant-loop-i

@@ -1,6 +1,5 @@
 use Rattle.std.proofs.Common.{◌-◌, List, length, refl, ap}
-use Rattle.sporc_delta.specs.declared.part.Part.{Part}
-use Rattle.sporc_delta.specs.declared.shift.Shift.TheVariants.{First, Last}
+use Rattle.sporc_delta.proofs.Common.{Part, First, Last}
 use Rattle.sporc_delta.proofs.Shifted.{put_there}
 use Rattle.sporc_delta.proofs.shift.shift_parts.Goals as goal
 

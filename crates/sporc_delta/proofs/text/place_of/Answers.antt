@@ -1,5 +1,5 @@
 use Rattle.std.proofs.Common.{◌≡◌, ◌<◌, length, ap, arith}
-use Rattle.std.specs.Str.{chars}
+use Rattle.sporc_delta.proofs.Common.{chars}
 use Rattle.sporc_delta.proofs.Counted.{Walked-start, Walked-next, Walked-len}
 use Rattle.sporc_delta.proofs.text.place_of.Goals as goal
 

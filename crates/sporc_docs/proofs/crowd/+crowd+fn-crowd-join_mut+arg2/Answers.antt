@@ -1,13 +1,7 @@
 use Rattle.std.proofs.Common.{◌≡◌, ◌∷◌, List, Option, rules, sym, subst, subst₂}
+use Rattle.sporc_docs.proofs.Common.{AreShutBehind, StreamTold, visit, Hand, IsCrowd, AllHands, HavePasses, LogsBegin, Sits}
 use Rattle.sporc_outside.specs.Told.{IsTrueIfTold}
 use Rattle.sporc_outside.proofs.Returning.{shut_more}
-use Rattle.sporc_outside.specs.Nets.{AreShutBehind}
-use Rattle.sporc_outside.specs.Streams.{StreamTold}
-use Rattle.sporc_serve.specs.Visits.{visit}
-use Rattle.sporc_docs.specs.declared.hands.Hand.{Hand}
-use Rattle.sporc_docs.specs.Crowds.{IsCrowd}
-use Rattle.sporc_docs.specs.Hands.{AllHands, HavePasses, LogsBegin}
-use Rattle.sporc_docs.specs.Sessions.{Sits}
 use Rattle.sporc_docs.proofs.Crowding.{crowd_none, crowd_failed, crowd_more}
 use Rattle.sporc_docs.proofs.crowd.+crowd+fn-crowd-join_mut+arg2.Goals as goal
 
@@ -21,7 +15,7 @@ returns-in_default-accept-clause-crowd g t c logs =
     crowd_failed c.args.turns.now c.args.documents.now c.args.hands.now _
     (g.N.Links.told c.args.net.now)
     (g.N.Links.told c.accept.new.self) (sym c.in-Some.ensures.cases.0)
-    c.in_default-accept.ensures.coming_unchanged c.accept.ensures.returned c.in_default-accept.ensures.count.failed
+    c.in_default-accept.ensures.did.coming_unchanged c.accept.ensures.did.returned c.in_default-accept.ensures.did.count.failed
 
 pub returns-clause-crowd : goal.returns-clause-crowd
 returns-clause-crowd g t c logs =
@@ -50,7 +44,7 @@ returns-clause-crowd g t c logs =
     (hand ∷ others) before after c.with_end.result) (sym c.in-Some.ensures.cases.0)
     (crowd_more c.args.turns.now c.args.documents.now c.in-Some.hand.now hand
     c.in-Some.others.now others (g.N.Link.Stream.told c.in-Ok.link) (g.N.Link.Stream.told link) r.1 before came left after r.0 c.with_end.result have.0 have' c.requires.one_length
-    logs'.0 sits crowd c.in-Ok.ensures.next c.in-Ok.ensures.open c.accept.ensures.returned c.accept.ensures.count.kept c.take_back.ensures.coming c.take_back.ensures.returned
+    logs'.0 sits crowd c.in-Ok.ensures.did.next c.in-Ok.ensures.did.not_shut c.accept.ensures.did.returned c.accept.ensures.did.count.kept c.take_back.ensures.coming c.take_back.ensures.returned
     c.take_back.ensures.kept c.with_end.ensures)
 
 pub returns-clause-shut : goal.returns-clause-shut
@@ -62,6 +56,6 @@ returns-clause-shut g t c =
     let shut = subst (λ (l : g.row.N-Link.Denot). IsTrueIfTold (g.N.Link.Stream.told l).is_shut) (sym same_link) c.join_mut-rest.ensures.1.met.1.2 in
     let rest = subst (λ (n : g.row.N.Denot). AreShutBehind (g.N.Links.told c.accept.new.self).returned (g.N.Links.told n).returned) (sym same_net)
     c.join_mut-rest.ensures.0.met.1.2 in
-    let before = subst (λ (r : Option (List StreamTold)). AreShutBehind r (g.N.Links.told net).returned) c.accept.ensures.returned rest in
+    let before = subst (λ (r : Option (List StreamTold)). AreShutBehind r (g.N.Links.told net).returned) c.accept.ensures.did.returned rest in
     shut_more (g.N.Links.told c.args.net.now).returned (g.N.Links.told net).returned (g.N.Links.told c.take_back.new.self).returned (g.N.Link.Stream.told link) before
     c.take_back.ensures.returned shut

@@ -1,7 +1,5 @@
 use Rattle.std.proofs.Common.{◌∙◌, ap, sym, refl, arith, bytes_eq}
-use Rattle.std.specs.List.{position_from}
-use Rattle.std.proofs.lemmas.List.{drop_all}
-use Rattle.sporc_docs.specs.Lists.{is_of}
+use Rattle.sporc_docs.proofs.Common.{position_from, drop_all, is_of}
 use Rattle.sporc_docs.proofs.Places.{at_place, not_at_place}
 use Rattle.sporc_docs.proofs.docs.place_in.Goals as goal
 

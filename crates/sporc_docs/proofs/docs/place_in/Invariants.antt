@@ -1,6 +1,5 @@
 use Rattle.std.proofs.Common.{◌≡◌, drop}
-use Rattle.std.specs.List.{position_from}
-use Rattle.sporc_docs.specs.Lists.{is_of, place_of}
+use Rattle.sporc_docs.proofs.Common.{position_from, is_of, place_of}
 use Rattle.sporc_docs.proofs.docs.place_in.Given as goal
 
 abbrev pub invariant-loop-place : goal.invariant-loop-place

@@ -1,6 +1,5 @@
 use Rattle.std.proofs.Common.{List, sym, subst}
-use Rattle.sporc_docs.specs.declared.hands.Hand.{Hand}
-use Rattle.sporc_docs.specs.Hands.{JoinsAt, column, pass_at}
+use Rattle.sporc_docs.proofs.Common.{Hand, JoinsAt, column, pass_at}
 use Rattle.sporc_docs.proofs.Passes.{joins_then}
 use Rattle.sporc_docs.proofs.hands.+join_hands.Goals as goal
 

@@ -1,6 +1,5 @@
 use Rattle.std.proofs.Common.{◌≡◌, ℕ, suc, List, length, subst, arith}
-use Rattle.sporc_docs.specs.declared.hands.Hand.{Hand}
-use Rattle.sporc_docs.specs.Hands.{AllHands, Both, IsEmpty, HaveRoom, column, pass_at}
+use Rattle.sporc_docs.proofs.Common.{Hand, AllHands, Both, IsEmpty, HaveRoom, column, pass_at}
 use Rattle.sporc_docs.proofs.Passes.{both_ok, splits_then, have_less, have_left}
 use Rattle.sporc_docs.proofs.hands.+split_hands.Goals as goal
 

@@ -1,6 +1,5 @@
 use Rattle.std.proofs.Common.{◌≡◌, ◌∷◌, ◌∙◌, ◌+◌, [], None, List, ap, length, length-append, replicate, sym, subst, arith}
-use Rattle.sporc_docs.specs.declared.hands.Hand.{Hand}
-use Rattle.sporc_docs.specs.Hands.{AllHands}
+use Rattle.sporc_docs.proofs.Common.{Hand, AllHands}
 use Rattle.sporc_docs.proofs.Opening.{hands_more}
 use Rattle.sporc_docs.proofs.hands.empty_hands.Goals as goal
 

@@ -1,5 +1,5 @@
 use Rattle.std.proofs.Common.{◌≡◌, ◌≤◌, None, length, replicate, vec_capacity}
-use Rattle.sporc_docs.specs.Hands.{AllHands}
+use Rattle.sporc_docs.proofs.Common.{AllHands}
 use Rattle.sporc_docs.proofs.hands.empty_hands.Given as goal
 
 abbrev pub invariant-loop : goal.invariant-loop

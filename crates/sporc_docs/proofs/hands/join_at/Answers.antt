@@ -1,7 +1,5 @@
 use Rattle.std.proofs.Common.{◌≡◌, ◌∷◌, [], Option, Some, refl, subst₂}
-use Rattle.sporc_turn.specs.declared.pass.Pass.{Pass}
-use Rattle.sporc_serve.specs.declared.item.Item.{Item}
-use Rattle.sporc_docs.specs.Hands.{JoinsAt}
+use Rattle.sporc_docs.proofs.Common.{Pass, Item, JoinsAt}
 use Rattle.sporc_docs.proofs.hands.join_at.Goals as goal
 
 pub returns-clause-joins : goal.returns-clause-joins

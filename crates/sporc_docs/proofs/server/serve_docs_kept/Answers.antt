@@ -1,8 +1,6 @@
 use Rattle.std.proofs.Common.{◌∙◌, List, Result, Err, ap, subst, sym, arith}
-use Rattle.sporc_order.specs.OrderModel.{OrderModel}
-use Rattle.sporc_serve.specs.declared.fault.ServeFault.{ServeFault}
+use Rattle.sporc_docs.proofs.Common.{OrderModel, ServeFault, AreKept, AreServed, IsServedDocument, as_served}
 use Rattle.sporc_serve.specs.declared.fault.ServeFault.TheVariants as faults
-use Rattle.sporc_docs.specs.Served.{AreKept, AreServed, IsServedDocument, as_served}
 use Rattle.sporc_docs.proofs.Opening.{both_length}
 use Rattle.sporc_docs.proofs.Served.{serves_none, serves_before, apart_kept}
 use Rattle.sporc_docs.proofs.server.serve_docs_kept.Goals as goal
@@ -11,7 +9,7 @@ pub returns-in_default-clause-served : goal.returns-in_default-clause-served
 returns-in_default-clause-served g c =
     serves_none (g.N.Links.told c.args.net.now)
     (g.N.Links.told c.listen.new.self) c.args.sessions (Err faults.ListenFault)
-    c.args.docs c.listen.ensures.coming c.listen.ensures.returned c.in_default.ensures.count.failed
+    c.args.kept.docs c.listen.ensures.coming c.listen.ensures.returned c.in_default.ensures.count.failed
 
 pub of-requires-clause-apart : goal.of-requires-clause-apart
 of-requires-clause-apart g c =
@@ -38,7 +36,7 @@ returns-clause-served g c =
 
 pub serve_orders-answer-requires-clause-tails : goal.serve_orders-answer-requires-clause-tails
 serve_orders-answer-requires-clause-tails g c κs within =
-    subst (λ (os : List OrderModel). AreKept g.T.Tail.keeps c.args.tails.items os) (sym c.into_orders-orders.ensures.value) c.requires.tails
+    subst (λ (os : List OrderModel). AreKept g.T.Tail.keeps c.args.kept.tails.items os) (sym c.into_orders-orders.ensures.value) c.requires.tails
 
 pub returns-clause-tails : goal.returns-clause-tails
 returns-clause-tails g c =

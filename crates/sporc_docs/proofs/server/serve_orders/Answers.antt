@@ -1,9 +1,6 @@
 use Rattle.std.proofs.Common.{◌≡◌, ◌∙◌, ◌++◌, ℕ, List, [], length, map, reverse, Err, refl, ap, sym, subst, arith}
-use Rattle.sporc_order.specs.OrderModel.{OrderModel}
+use Rattle.sporc_docs.proofs.Common.{OrderModel, Hand, AllHands, Both, IsEmpty, KnowsFirst, AreEnding}
 use Rattle.sporc_serve.specs.declared.fault.ServeFault.TheVariants as faults
-use Rattle.sporc_docs.specs.declared.hands.Hand.{Hand}
-use Rattle.sporc_docs.specs.Hands.{AllHands, Both, IsEmpty}
-use Rattle.sporc_docs.specs.Locks.{KnowsFirst, AreEnding}
 use Rattle.sporc_docs.proofs.Opening.{empty_all, kept_length}
 use Rattle.sporc_docs.proofs.Served.{serves_none, serves_opened, serves_all, room_first, open_lengths, opened_back, opened_all, room_back, ok_then}
 use Rattle.sporc_docs.proofs.server.serve_orders.Goals as goal

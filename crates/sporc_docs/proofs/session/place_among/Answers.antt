@@ -1,6 +1,5 @@
 use Rattle.std.proofs.Common.{◌∙◌, ap, sym, refl, arith, bytes_eq}
-use Rattle.std.specs.List.{position_from}
-use Rattle.std.proofs.lemmas.List.{drop_all}
+use Rattle.sporc_docs.proofs.Common.{position_from, drop_all}
 use Rattle.sporc_docs.proofs.Places.{read_at_place, not_read_at_place}
 use Rattle.sporc_docs.proofs.session.place_among.Goals as goal
 

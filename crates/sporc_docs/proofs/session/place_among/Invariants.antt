@@ -1,5 +1,5 @@
 use Rattle.std.proofs.Common.{◌≡◌, drop, bytes_eq}
-use Rattle.std.specs.List.{position_from}
+use Rattle.sporc_docs.proofs.Common.{position_from}
 use Rattle.sporc_docs.proofs.session.place_among.Given as goal
 
 abbrev pub invariant-loop-place : goal.invariant-loop-place

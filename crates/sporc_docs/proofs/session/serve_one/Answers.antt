@@ -1,15 +1,6 @@
-use Rattle.std.proofs.Common.{◌≡◌, ◌∙◌, ℕ, [], Some, None, Result, Ok, Err, false, set, slice_index_or, refl, ap, sym, subst, subst₂, arith}
-use Rattle.sporc_wire.specs.declared.to_server.ToServer.{ToServer}
-use Rattle.sporc_wire.specs.Messages.{Unread, stream_of, next}
-use Rattle.sporc_wire.specs.ToServer.{to_server_of}
-use Rattle.sporc_turn.specs.declared.pass.Pass.{Pass}
-use Rattle.sporc_turn.specs.Passes.{known_of, read_of}
-use Rattle.sporc_serve.specs.declared.end.SessionEnd.{SessionEnd}
-use Rattle.sporc_serve.specs.declared.item.Item.{Item}
-use Rattle.sporc_serve.specs.Endings.{inlet_at, IsFirst}
-use Rattle.sporc_serve.specs.Traces.{stand_at, Leads}
+use Rattle.std.proofs.Common.{◌≡◌, ◌∙◌, ℕ, [], Some, None, Result, Ok, Err, set, slice_index_or, refl, ap, sym, subst, subst₂, arith}
+use Rattle.sporc_docs.proofs.Common.{ToServer, Unread, stream_of, Pass, known_of, read_of, SessionEnd, Item, inlet_at, IsFirst, LeadsFrom, pass_at}
 use Rattle.sporc_serve.specs.Turns.{HasReadLast}
-use Rattle.sporc_docs.specs.Hands.{pass_at}
 use Rattle.sporc_docs.proofs.Sessions.{have_length, have_at, have_set, became_here, kept_elsewhere, serves_from}
 use Rattle.sporc_docs.proofs.session.serve_one.Goals as goal
 
@@ -101,11 +92,9 @@ returns-clause-session g c =
                     c.serve_at-end.ensures.as_shut
                     c.shut-2.ensures.did
                     genesis (known_of p) (known_of p') c.serve_at-end.result log
-                    (became_here (λ (q q' : Pass Item). (unread : Unread) → (next to_server_of unread).answer ≡ Ok (Some c.in-Ok.first)
-                    → c.first_message.new.frames ≡ (next to_server_of unread).after
-                    → Leads (stand_at (known_of q) (g.L.Stream.told c.first_message.new.link) unread false)
-                    (stand_at (known_of q') (g.L.Stream.told c.serve_at-end.new.link) (stream_of []) false)
-                    (Some c.serve_at-end.result)) hand place old new p p' read at_old' at_new' c.serve_at-end.ensures.goes),
+                    (became_here (λ (q q' : Pass Item). LeadsFrom c.in-Ok.first c.first_message.new.frames
+                    (g.L.Stream.told c.first_message.new.link) (g.L.Stream.told c.serve_at-end.new.link)
+                    c.serve_at-end.result (known_of q) (known_of q')) hand place old new p p' read at_old' at_new' c.serve_at-end.ensures.goes),
               )),
           λ apart. kept_elsewhere hand place i new p p' apart at_old at_new,
         );

@@ -1,6 +1,5 @@
 use Rattle.std.proofs.Common.{◌≡◌, ◌++◌, take}
-use Rattle.std.specs.List.{flat_map}
-use Rattle.sporc_entry.specs.ChangeBody.{wrap_bytes}
+use Rattle.sporc_entry.proofs.Common.{flat_map, wrap_bytes}
 use Rattle.sporc_entry.proofs.change.put_wraps.Given as goal
 
 abbrev pub invariant-loop-wrap : goal.invariant-loop-wrap

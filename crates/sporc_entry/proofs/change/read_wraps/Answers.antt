@@ -1,9 +1,5 @@
 use Rattle.std.proofs.Common.{ap}
-use Rattle.std.proofs.lemmas.Result.{err_from_is_err_and}
-use Rattle.sporc_bytes.specs.Fields.{fault_as, values_at}
-use Rattle.sporc_entry.specs.declared.fault.EntryFault.TheVariants.{Malformed}
-use Rattle.sporc_entry.specs.ChangeBody.{wrap_at}
-use Rattle.sporc_bytes.proofs.Lists.{goes_on, ends, is_done}
+use Rattle.sporc_entry.proofs.Common.{err_from_is_err_and, fault_as, values_at, Malformed, wrap_at, goes_on, ends, is_done}
 use Rattle.sporc_entry.proofs.change.read_wraps.Goals as goal
 
 pub returns-in_err-wrap : goal.returns-in_err-wrap

@@ -1,7 +1,5 @@
 use Rattle.std.proofs.Common.{◌≡◌, ◌-◌}
-use Rattle.sporc_bytes.specs.Fields.{values_at}
-use Rattle.sporc_entry.specs.ChangeBody.{wrap_at}
-use Rattle.sporc_bytes.proofs.Lists.{with_front}
+use Rattle.sporc_entry.proofs.Common.{values_at, wrap_at, with_front}
 use Rattle.sporc_entry.proofs.change.read_wraps.Given as goal
 
 abbrev pub invariant-loop : goal.invariant-loop

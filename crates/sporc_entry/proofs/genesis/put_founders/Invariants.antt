@@ -1,6 +1,5 @@
 use Rattle.std.proofs.Common.{◌≡◌, ◌++◌, take}
-use Rattle.std.specs.List.{flat_map}
-use Rattle.sporc_entry.specs.Genesis.{founder_bytes}
+use Rattle.sporc_entry.proofs.Common.{flat_map, founder_bytes}
 use Rattle.sporc_entry.proofs.genesis.put_founders.Given as goal
 
 abbrev pub invariant-loop-founder : goal.invariant-loop-founder

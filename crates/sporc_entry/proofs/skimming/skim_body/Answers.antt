@@ -1,5 +1,5 @@
 use Rattle.std.proofs.Common.{◌∙◌}
-use Rattle.std.proofs.lemmas.Result.{err_from_is_err_and}
+use Rattle.sporc_entry.proofs.Common.{err_from_is_err_and}
 use Rattle.sporc_entry.proofs.Skimmed.{body_ends, body_fails}
 use Rattle.sporc_entry.proofs.skimming.skim_body.Goals as goal
 

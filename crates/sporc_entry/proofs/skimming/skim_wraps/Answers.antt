@@ -1,7 +1,4 @@
-use Rattle.std.proofs.lemmas.Result.{err_from_is_err_and}
-use Rattle.sporc_bytes.specs.Fields.{values_at}
-use Rattle.sporc_entry.specs.ChangeBody.{wrap_at}
-use Rattle.sporc_entry.specs.Skimming.{left_by}
+use Rattle.sporc_entry.proofs.Common.{err_from_is_err_and, values_at, wrap_at, left_by}
 use Rattle.sporc_entry.proofs.Skimmed.{skims_on, skim_ends, skim_done}
 use Rattle.sporc_entry.proofs.skimming.skim_wraps.Goals as goal
 

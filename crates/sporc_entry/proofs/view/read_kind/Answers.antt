@@ -1,8 +1,6 @@
 use Rattle.std.proofs.Common.{arith, ap, sym}
+use Rattle.sporc_entry.proofs.Common.{Malformed, change_body_from, fault_as_ok}
 use Rattle.std.specs.Result.{result_ok}
-use Rattle.sporc_entry.specs.declared.fault.EntryFault.TheVariants.{Malformed}
-use Rattle.sporc_entry.specs.ChangeBody.{change_body_from}
-use Rattle.sporc_bytes.proofs.Fields.{fault_as_ok}
 use Rattle.sporc_entry.proofs.ViewLaws.{change_anywhere}
 use Rattle.sporc_entry.proofs.view.read_kind.Goals as goal
 

@@ -1,8 +1,5 @@
 use Rattle.std.proofs.Common.{◌≡◌, true, false, [], Ok, ◌-◌, take, ap, sym, ◌∙◌, append-nil}
-use Rattle.std.specs.FinMap.{insert}
-use Rattle.sporc_cipher.specs.Mask.{mask_of}
-use Rattle.sporc_epoch.specs.Streams.{previous_stream}
-use Rattle.sporc_epoch.specs.Hints.{is_of, is_committed}
+use Rattle.sporc_epoch.proofs.Common.{insert, mask_of, previous_stream, is_of, is_committed}
 use Rattle.sporc_epoch.proofs.WalkBack.{walked, passed_over, wrong_key, stepped_back}
 use Rattle.sporc_epoch.proofs.hints.keys_back.Goals as goal
 

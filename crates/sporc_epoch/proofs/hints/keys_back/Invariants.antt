@@ -1,6 +1,5 @@
 use Rattle.std.proofs.Common.{◌≡◌, reverse, vec_len}
-use Rattle.std.specs.FinMap.{empty}
-use Rattle.sporc_epoch.specs.Hints.{keys_back, ring_of}
+use Rattle.sporc_epoch.proofs.Common.{empty, keys_back, ring_of}
 use Rattle.sporc_epoch.proofs.hints.keys_back.Given as goal
 
 abbrev pub invariant-loop-start : goal.invariant-loop-start

@@ -1,7 +1,6 @@
 use Rattle.std.proofs.Common.{length, arith, ap, ◌∙◌}
+use Rattle.sporc_epoch.proofs.Common.{length-mask_from, pairs_in}
 use Rattle.sha2.proofs.Facts256.{length-sha256}
-use Rattle.sporc_cipher.proofs.Stream.{length-mask_from}
-use Rattle.sporc_epoch.specs.Keys.{pairs_in}
 use Rattle.sporc_epoch.proofs.SpelledBodies.{all_small, spelled_with}
 use Rattle.sporc_epoch.proofs.seal.seal_change_at.Goals as goal
 

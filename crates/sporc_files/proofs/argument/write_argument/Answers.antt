@@ -1,5 +1,4 @@
-use Rattle.sporc_outside.proofs.Prefixes.{AppendsPrefix-first, AppendsPrefix-then}
-use Rattle.sporc_files.specs.Arguments.{argument_text, space_of, stem_before, text_bytes}
+use Rattle.sporc_files.proofs.Common.{AppendsPrefix-first, AppendsPrefix-then, argument_text, space_of, stem_before, text_bytes}
 use Rattle.sporc_files.proofs.Written.{any_err, cut_as, on_err, said}
 use Rattle.sporc_files.proofs.argument.write_argument.Goals as goal
 

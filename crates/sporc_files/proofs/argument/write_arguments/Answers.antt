@@ -1,5 +1,5 @@
+use Rattle.sporc_files.proofs.Common.{argument_bytes}
 use Rattle.sporc_files.specs.declared.argument.Argument.TheVariants.{Nothing}
-use Rattle.sporc_files.specs.Arguments.{argument_bytes}
 use Rattle.sporc_files.proofs.Written.{any_err, cut_off}
 use Rattle.sporc_files.proofs.argument.write_arguments.Goals as goal
 

@@ -1,7 +1,6 @@
 use Rattle.std.proofs.Common.{◌≤◌, take}
+use Rattle.sporc_files.proofs.Common.{flat_map, argument_bytes}
 use Rattle.std.specs.Io.KnownBytes.{Appends}
-use Rattle.std.specs.List.{flat_map}
-use Rattle.sporc_files.specs.Arguments.{argument_bytes}
 use Rattle.sporc_files.proofs.argument.write_arguments.Given as goal
 
 abbrev pub invariant-loop-argument : goal.invariant-loop-argument

@@ -1,7 +1,6 @@
 use Rattle.std.proofs.Common.{codes}
+use Rattle.sporc_files.proofs.Common.{AppendsPrefix-first, AppendsPrefix-then, device_text}
 use Rattle.std.specs.Fmt.{decimal}
-use Rattle.sporc_outside.proofs.Prefixes.{AppendsPrefix-first, AppendsPrefix-then}
-use Rattle.sporc_script.specs.Spelling.{device_text}
 use Rattle.sporc_files.proofs.Written.{any_err, cut_as, further_text, on_err, said}
 use Rattle.sporc_files.proofs.text.write_device.Goals as goal
 

@@ -1,4 +1,4 @@
-use Rattle.sporc_outside.proofs.Prefixes.{AppendsPrefix-first, AppendsPrefix-then}
+use Rattle.sporc_files.proofs.Common.{AppendsPrefix-first, AppendsPrefix-then}
 use Rattle.sporc_files.proofs.Written.{any_err, cut_as, on_err, said}
 use Rattle.sporc_files.proofs.text.write_text.Goals as goal
 

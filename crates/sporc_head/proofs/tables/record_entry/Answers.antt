@@ -1,8 +1,5 @@
 use Rattle.std.proofs.Common.{◌+◌, ℕ, eqb, ap, ◌∙◌, arith, Some}
-use Rattle.std.specs.Prelude.{cond, nat_eq}
-use Rattle.std.specs.HashMap.{get}
-use Rattle.sporc_head.specs.declared.tables.Tally.{Tally}
-use Rattle.sporc_head.specs.TablesMatch.{rank_of}
+use Rattle.sporc_head.proofs.Common.{cond, nat_eq, get, Tally, rank_of}
 use Rattle.sporc_head.proofs.OnceChecked.{ok_of}
 use Rattle.sporc_head.proofs.tables.record_entry.Goals as goal
 

@@ -1,5 +1,5 @@
 use Rattle.std.proofs.Common.{rules, arith}
-use Rattle.sporc_commands.specs.Tails.{KeepsBehind}
+use Rattle.sporc_hosting.proofs.Common.{KeepsBehind}
 use Rattle.sporc_hosting.proofs.Back.{front_left, last_keeps, one_left, others_keep}
 use Rattle.sporc_hosting.proofs.Saved.{as_many_left}
 use Rattle.sporc_hosting.proofs.giving.+give_back_all.Goals as goal

@@ -1,5 +1,5 @@
+use Rattle.sporc_hosting.proofs.Common.{file_name}
 use Rattle.sporc_files.specs.declared.file.File.TheVariants as files
-use Rattle.sporc_files.specs.Names.{file_name}
 use Rattle.sporc_hosting.proofs.Loaded.{held_last, log_first}
 use Rattle.sporc_hosting.proofs.loading.fault_of_held.Goals as goal
 

@@ -1,12 +1,7 @@
 use Rattle.std.proofs.Common.{List, [], ◌∷◌, Err, ap, refl, subst, ◌∙◌}
-use Rattle.std.proofs.lemmas.Result.{err_from_is_err_and}
-use Rattle.std.specs.Prelude.{string_bytes}
+use Rattle.sporc_hosting.proofs.Common.{err_from_is_err_and, string_bytes, OrderModel, FileNames, file_name, names_of_document, AnswersUnlessOutside, added, opened_to}
 use Rattle.sporc_outside.specs.Uses.{use_of}
-use Rattle.sporc_order.specs.OrderModel.{OrderModel}
 use Rattle.sporc_files.specs.declared.file.File.TheVariants as files
-use Rattle.sporc_files.specs.Names.{FileNames, file_name, names_of_document}
-use Rattle.sporc_files.specs.Faults.{AnswersUnlessOutside}
-use Rattle.sporc_hosting.specs.Loading.{added, opened_to}
 use Rattle.sporc_hosting.proofs.Changed.{added_changes, added_made, failed_changes, tails_same}
 use Rattle.sporc_hosting.proofs.Opened.{added_open, document_adds, document_fails, none_tried, still_open}
 use Rattle.sporc_hosting.proofs.Rooms.{one_added, own_asked}

@@ -1,13 +1,8 @@
 use Rattle.std.proofs.Common.{◌≡◌, List, Option, Err, [], ◌∷◌, ap, sym, subst, ◌∙◌}
-use Rattle.std.specs.Prelude.{OnErr, OnOk, option_map}
-use Rattle.std.proofs.lemmas.Result.{err_from_is_err_and}
-use Rattle.sporc_outside.specs.declared.named_file.NamedFile.{NamedFile}
+use Rattle.sporc_hosting.proofs.Common.{OnErr, OnOk, option_map, err_from_is_err_and, NamedFile, file_name, asks_first, asks_then, changes_same}
 use Rattle.sporc_outside.specs.Files.{ChangesFile, made_in}
 use Rattle.sporc_files.specs.declared.file.File.TheVariants as files
-use Rattle.sporc_files.specs.Names.{file_name}
-use Rattle.sporc_files.proofs.Asking.{asks_first, asks_then}
 use Rattle.sporc_files.proofs.Written.{any_err}
-use Rattle.sporc_commands.proofs.Opened.{changes_same}
 use Rattle.sporc_hosting.proofs.Loaded.{free_found, genesis_fails, held_found}
 use Rattle.sporc_commands.specs.declared.opening.OpenedOrder.{OpenedOrder}
 use Rattle.sporc_hosting.proofs.loading.open_unless_held.Goals as goal

@@ -1,6 +1,6 @@
 use Rattle.std.proofs.Common.{◌∙◌, arith}
+use Rattle.sporc_hosting.proofs.Common.{AsksOnly-trans, logs_of}
 use Rattle.sporc_outside.proofs.Returning.{shut_then}
-use Rattle.sporc_files.proofs.Asking.{AsksOnly-trans}
 use Rattle.sporc_commands.proofs.Roundabout.{all_rounds, asks_more, asks_once, asks_within, ended_early, first_round, next_round}
 use Rattle.sporc_hosting.proofs.rounds.serve_rounds.Goals as goal
 
@@ -10,8 +10,6 @@ rounds-init g c = record {
   some = omega arith;
   within = c.requires.times_positive;
   tails = c.serve_round-last.ensures.tails;
-  logs = c.serve_round-last.ensures.logs;
-  each = c.serve_round-last.ensures.each;
   lent = c.serve_round-last.ensures.lent;
   asked = c.serve_round-last.ensures.files_may_ask;
   kept = c.serve_round-last.ensures.files_kept;
@@ -28,10 +26,8 @@ rounds-preserved g c = record {
   some = omega arith;
   within = omega arith;
   tails = c.serve_round-last-in-rounds.ensures.tails;
-  logs = c.serve_round-last-in-rounds.ensures.logs ∙ c.rounds.invariant.logs;
-  each = c.serve_round-last-in-rounds.ensures.each;
   lent = c.serve_round-last-in-rounds.ensures.lent ∙ c.rounds.invariant.lent;
-  asked = AsksOnly-trans _ _ _ _ c.rounds.invariant.asked c.serve_round-last-in-rounds.ensures.files_may_ask;
+  asked = AsksOnly-trans (logs_of c.args.rounds.now.names.now.words.now) _ _ _ c.rounds.invariant.asked c.serve_round-last-in-rounds.ensures.files_may_ask;
   kept = omega (arith, c.rounds.invariant.kept, c.serve_round-last-in-rounds.ensures.files_kept);
   net_asked = asks_more _ _ _ _ _ c.rounds.invariant.net_asked c.serve_round-last-in-rounds.ensures.net_may_ask;
   shut = shut_then (g.N.Links.told c.args.net.now).returned (g.N.Links.told c.rounds.net).returned

@@ -1,5 +1,5 @@
 use Rattle.std.proofs.Common.{arith}
-use Rattle.std.proofs.lemmas.Result.{err_from_is_err_and}
+use Rattle.sporc_keys.proofs.Common.{err_from_is_err_and}
 use Rattle.sporc_keys.proofs.Drawing.{no_rows, rows_more, rows_up_to, all_rows}
 use Rattle.sporc_keys.proofs.draw.draw_pairs.Goals as goal
 

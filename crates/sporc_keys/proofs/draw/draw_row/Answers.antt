@@ -1,5 +1,5 @@
 use Rattle.std.proofs.Common.{◌≡◌, [], ◌∷◌, length, arith}
-use Rattle.std.proofs.lemmas.Result.{err_from_is_err_and}
+use Rattle.sporc_keys.proofs.Common.{err_from_is_err_and}
 use Rattle.sporc_keys.proofs.Drawing.{draws_nothing, draws_one, row_more, row_up_to, row_whole}
 use Rattle.sporc_keys.proofs.draw.draw_row.Goals as goal
 

@@ -1,5 +1,5 @@
 use Rattle.std.proofs.Common.{◌≤◌, take}
-use Rattle.sporc_keys.specs.Founding.{SharesMore, row}
+use Rattle.sporc_keys.proofs.Common.{SharesMore, row}
 use Rattle.sporc_keys.proofs.draw.draw_row.Given as goal
 
 abbrev pub invariant-loop-second : goal.invariant-loop-second

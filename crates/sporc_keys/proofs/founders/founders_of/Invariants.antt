@@ -1,6 +1,5 @@
 use Rattle.std.proofs.Common.{◌≡◌, take}
-use Rattle.std.specs.List.{AllByRecursion}
-use Rattle.sporc_keys.specs.Founding.{IsKnownKey, founders_in}
+use Rattle.sporc_keys.proofs.Common.{AllByRecursion, IsKnownKey, founders_in}
 use Rattle.sporc_keys.proofs.founders.founders_of.Given as goal
 
 abbrev pub invariant-loop-one : goal.invariant-loop-one

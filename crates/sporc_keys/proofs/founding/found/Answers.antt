@@ -1,8 +1,5 @@
 use Rattle.std.proofs.Common.{◌≡◌, ℕ, List, [], ◌∷◌, length, map, take, ap, ap₂, ◌∙◌, arith}
-use Rattle.std.proofs.lemmas.Result.{err_from_is_err_and}
-use Rattle.sporc_keys.specs.declared.named.Named.{Named}
-use Rattle.sporc_keys.specs.declared.pair.SharedKey.{SharedKey}
-use Rattle.sporc_keys.specs.Founding.{genesis_of, in_order, numbers_of, pairs_of, ring_of, words_for}
+use Rattle.sporc_keys.proofs.Common.{err_from_is_err_and, Named, SharedKey, genesis_of, in_order, numbers_of, pairs_of, ring_of, words_for}
 use Rattle.sporc_keys.proofs.Drawing.{draws_nothing, draws_one, draws_two, made_not_failed, up_to_then}
 use Rattle.sporc_keys.proofs.Foundings.{AreInOrder, Words, all_drawn, are_in_order, are_ring_files, is_founding, is_genesis, words_are}
 use Rattle.sporc_keys.proofs.founding.found.Goals as goal

@@ -1,5 +1,5 @@
 use Rattle.std.proofs.Common.{◌≡◌, ℕ, List, [], ◌∷◌, length, ap, ◌∙◌, arith}
-use Rattle.std.proofs.lemmas.Result.{err_from_is_err_and}
+use Rattle.sporc_keys.proofs.Common.{err_from_is_err_and}
 use Rattle.sporc_keys.specs.NewKey.{made_of}
 use Rattle.sporc_keys.proofs.Drawing.{draws_nothing, draws_one, draws_two}
 use Rattle.sporc_keys.proofs.new_key.keygen.Goals as goal

@@ -1,6 +1,6 @@
 use Rattle.std.proofs.Common.{◌≡◌, take}
+use Rattle.sporc_keys.proofs.Common.{pair_keys}
 use Rattle.sporc_epoch.specs.Keys.{pairs_in}
-use Rattle.sporc_keys.specs.RingFile.{pair_keys}
 use Rattle.sporc_keys.proofs.ring_file.keys_by_member.Given as goal
 
 abbrev pub invariant-loop-pair : goal.invariant-loop-pair

@@ -1,6 +1,5 @@
 use Rattle.std.proofs.Common.{◌≡◌, ◌++◌, take}
-use Rattle.std.specs.List.{flat_map}
-use Rattle.sporc_keys.specs.RingFile.{pair_bytes}
+use Rattle.sporc_keys.proofs.Common.{flat_map, pair_bytes}
 use Rattle.sporc_keys.proofs.ring_file.put_pairs.Given as goal
 
 abbrev pub invariant-loop-pair : goal.invariant-loop-pair

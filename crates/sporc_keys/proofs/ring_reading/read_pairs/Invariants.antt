@@ -1,8 +1,6 @@
-use Rattle.std.proofs.Common.{◌≡◌, ◌-◌}
-use Rattle.sporc_bytes.specs.Fields.{values_at}
-use Rattle.sporc_bytes.proofs.Lists.{with_front}
-use Rattle.sporc_keys.specs.RingFile.{next_pair}
+use Rattle.sporc_keys.proofs.Common.{pair_at}
+use Rattle.sporc_bytes.proofs.Lists.{AreSoFar}
 use Rattle.sporc_keys.proofs.ring_reading.read_pairs.Given as goal
 
 abbrev pub invariant-loop : goal.invariant-loop
-invariant-loop l = with_front l.pairs.items (values_at next_pair (l.count - l.counter) (l.least, l.cursor)) ≡ values_at next_pair l.count (0, l.fn.cursor)
+invariant-loop l = AreSoFar pair_at (λ p. p.member) 0 l.count l.fn.cursor l.pairs.items l.counter l.least l.cursor

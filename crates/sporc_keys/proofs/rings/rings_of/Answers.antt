@@ -1,4 +1,4 @@
-use Rattle.sporc_keys.specs.Founding.{ring_of}
+use Rattle.sporc_keys.proofs.Common.{ring_of}
 use Rattle.sporc_keys.proofs.Naming.{made_more, made_all}
 use Rattle.sporc_keys.proofs.rings.rings_of.Goals as goal
 

@@ -1,5 +1,5 @@
 use Rattle.std.proofs.Common.{◌≡◌, map, take}
-use Rattle.sporc_keys.specs.Founding.{ring_of}
+use Rattle.sporc_keys.proofs.Common.{ring_of}
 use Rattle.sporc_keys.proofs.rings.rings_of.Given as goal
 
 abbrev pub invariant-loop-one : goal.invariant-loop-one

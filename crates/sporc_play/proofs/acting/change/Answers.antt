@@ -1,5 +1,5 @@
 use Rattle.std.proofs.Common.{ap, codes}
-use Rattle.sporc_client.specs.ClientModel.{ClientModel}
+use Rattle.sporc_play.proofs.Common.{ClientModel}
 use Rattle.sporc_play.proofs.ShownForms.{events_told}
 use Rattle.sporc_play.proofs.Told.{event_told}
 use Rattle.sporc_play.proofs.acting.change.Goals as goal

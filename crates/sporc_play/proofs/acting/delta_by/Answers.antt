@@ -1,8 +1,5 @@
 use Rattle.std.proofs.Common.{◌≡◌, ℕ, ◌<◌, ◌≤◌, length, Some, refl, sym, ap, ◌∙◌, subst}
-use Rattle.sporc_delta.specs.declared.limits.TheConstants.{MAX_COUNT}
-use Rattle.sporc_client.specs.ClientModel.{state_of}
-use Rattle.sporc_client.specs.declared.limits.TheConstants.{MAX_EVENTS}
-use Rattle.sporc_play.specs.Scene.{marks_of}
+use Rattle.sporc_play.proofs.Common.{MAX_COUNT, state_of, MAX_EVENTS, marks_of}
 use Rattle.sporc_play.proofs.ShortTexts.{short_texts}
 use Rattle.sporc_play.proofs.ShownForms.{journal_count, shown_count}
 use Rattle.sporc_play.proofs.Told.{ahead, not_below, within}

@@ -1,5 +1,5 @@
 use Rattle.std.proofs.Common.{rules}
-use Rattle.sporc_client.specs.ClientModel.{state_of}
+use Rattle.sporc_play.proofs.Common.{state_of}
 use Rattle.sporc_play.proofs.Told.{left_event, taken_event}
 use Rattle.sporc_play.proofs.acting.give_client.Goals as goal
 

@@ -1,7 +1,5 @@
 use Rattle.std.proofs.Common.{codes}
-use Rattle.sporc_report.specs.Names.{submit_fault_name}
-use Rattle.sporc_script.specs.Spelling.{device_text}
-use Rattle.sporc_report.proofs.Parts.{told_in_parts}
+use Rattle.sporc_play.proofs.Common.{submit_fault_name, device_text, told_in_parts}
 use Rattle.sporc_play.proofs.acting.push_refused.Goals as goal
 
 pub returns-clause-line : goal.returns-clause-line

@@ -1,5 +1,5 @@
 use Rattle.std.proofs.Common.{Global, Option, Some, None, Vec, ℕ, sym, ap, ◌∙◌, option_map}
-use Rattle.std.specs.Option.{option_to_list}
+use Rattle.sporc_play.proofs.Common.{option_to_list}
 use Rattle.sporc_play.proofs.Submitted.{has_submitted}
 use Rattle.sporc_play.proofs.acting.submit.Goals as goal
 

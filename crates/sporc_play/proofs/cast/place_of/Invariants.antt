@@ -1,6 +1,5 @@
 use Rattle.std.proofs.Common.{◌≡◌, ◌+◌, drop}
-use Rattle.sporc_member.specs.Lists.{place_among}
-use Rattle.sporc_member.specs.Roster.{founder_numbers}
+use Rattle.sporc_play.proofs.Common.{place_among, founder_numbers}
 use Rattle.sporc_play.proofs.cast.place_of.Given as goal
 
 abbrev pub invariant-loop-i : goal.invariant-loop-i

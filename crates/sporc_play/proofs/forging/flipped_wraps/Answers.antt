@@ -1,7 +1,5 @@
 use Rattle.std.proofs.Common.{◌≡◌, ℕ, ◌+◌, ◌<◌, ◌++◌, [], ◌∷◌, List, length, map, take, get_or, ap, sym, ◌∙◌}
-use Rattle.std.proofs.lemmas.List.{map_more}
-use Rattle.sporc_entry.specs.declared.wrap.Wrap.{Wrap}
-use Rattle.sporc_play.specs.Forged.{wrap_flipped}
+use Rattle.sporc_play.proofs.Common.{map_more, Wrap, wrap_flipped}
 use Rattle.sporc_play.proofs.forging.flipped_wraps.Goals as goal
 
 flipped_more : (member : ℕ) (wraps kept grown : List Wrap) (i : ℕ) (w d : Wrap) → grown ≡ kept ++ w ∷ [] → kept ≡ map (wrap_flipped member) (take i wraps)

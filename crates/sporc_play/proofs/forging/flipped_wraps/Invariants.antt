@@ -1,5 +1,5 @@
 use Rattle.std.proofs.Common.{◌≡◌, map, take}
-use Rattle.sporc_play.specs.Forged.{wrap_flipped}
+use Rattle.sporc_play.proofs.Common.{wrap_flipped}
 use Rattle.sporc_play.proofs.forging.flipped_wraps.Given as goal
 
 abbrev pub invariant-loop-wrap : goal.invariant-loop-wrap

@@ -1,15 +1,6 @@
-use Rattle.std.proofs.Common.{◌≡◌, ◌+◌, ◌<◌, ◌≤◌, ◌^◌, Bool, true, false, List, ℕ, Err, arith, refl, ap, sym, subst, ◌∙◌}
-use Rattle.std.specs.Prelude.{IsTrue}
-use Rattle.lms_leaf.specs.Leaves.{LeavesModel}
-use Rattle.lms_sign.specs.Signer.{SignerModel}
-use Rattle.lms_tree.specs.LmsPrivate.{LmsPrivate}
-use Rattle.lms_tree.specs.LmsType.{height_of}
-use Rattle.sporc_member.specs.declared.device.Device.{Device}
-use Rattle.sporc_client.specs.ClientModel.{state_of}
-use Rattle.sporc_play.specs.Derived.{random_of}
-use Rattle.sporc_play.specs.Forged.{signed_by}
-use Rattle.sporc_play.specs.Seats.{AreDrawn}
-use Rattle.sporc_play.proofs.Forgeries.{forged_none, forged_signed, leaf_drawn, leaf_none}
+use Rattle.std.proofs.Common.{◌+◌, ◌<◌, ◌^◌, List, ℕ, Err, arith, ap, sym, subst, ◌∙◌}
+use Rattle.sporc_play.proofs.Common.{SignerModel, LmsPrivate, height_of, Device, state_of, random_of, signed_by, AreDrawn}
+use Rattle.sporc_play.proofs.Forgeries.{forged_none, forged_signed, leaf_drawn, leaf_none, drawn_more}
 use Rattle.sporc_play.proofs.forging.forge.Goals as goal
 
 pub returns-in_ok-bytes-in-Ok-clause-entry : goal.returns-in_ok-bytes-in-Ok-clause-entry
@@ -30,15 +21,6 @@ returns-in-Err-Exhausted-clause-entry c = λ s own is.
 
 pub sign_with-requires-clause-ticket_limit : goal.sign_with-requires-clause-ticket_limit
 sign_with-requires-clause-ticket_limit c = subst (λ (key : LmsPrivate). c.in-Ok.ticket < 2 ^ height_of key.lms) (sym c.in-Ok.ensures.key) c.in-Ok.ensures.within
-
-not_faulty : (faulty : Bool) → (IsTrue faulty → ⊥) → faulty ≡ false
-not_faulty true works = absurd (works refl)
-not_faulty false works = refl
-
-drawn_more : {D : Type 0} (key : LmsPrivate) (old new : LeavesModel D) (count : ℕ) → AreDrawn key old.next old
-    → new.next ≡ old.next + count → old.next + count ≤ old.leaf_count → new.leaf_count ≡ old.leaf_count → (IsTrue new.faulty → ⊥) → AreDrawn key (old.next + count) new
-drawn_more key old new count was next within same works =
-    record { next = next; within = omega (arith, within, was.count); count = same ∙ was.count; works = not_faulty new.faulty works }
 
 pub returns-in_ok-bytes-in-Ok-clause-drawn : goal.returns-in_ok-bytes-in-Ok-clause-drawn
 returns-in_ok-bytes-in-Ok-clause-drawn c =

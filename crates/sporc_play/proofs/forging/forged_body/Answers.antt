@@ -1,16 +1,12 @@
 use Rattle.std.proofs.Common.{◌≡◌, sym, subst}
+use Rattle.sporc_play.proofs.Common.{state_of, Setup, What, forged_body, IsCastOf}
 use Rattle.std.specs.Prelude.{IfOk}
-use Rattle.sporc_client.specs.ClientModel.{state_of}
-use Rattle.sporc_client.specs.Run.{Setup}
-use Rattle.sporc_script.specs.declared.sign.What.{What}
-use Rattle.sporc_play.specs.Forged.{forged_body}
-use Rattle.sporc_play.specs.Stage.{IsCastOf}
-use Rattle.sporc_play.proofs.Results.{if_ok}
 use Rattle.sporc_play.proofs.forging.forged_body.Goals as goal
+use Rattle.std.proofs.lemmas.Result.{IfOk-weaker}
 
 pub returns-in-Insert-clause-value : goal.returns-in-Insert-clause-value
 returns-in-Insert-clause-value c =
     let f = c.args.forgery.now in
     let P : What → Type 0 = λ what. IfOk c.insertion_body.result (λ body. (s : Setup) → IsCastOf s c.args.cast.now
     → body.items ≡ forged_body s (state_of c.args.client.now) f.signed.suffix c.args.header.now c.args.new_key.now what) in
-    subst P (sym c.in-Insert.is) (if_ok c.insertion_body.result _ _ (λ v e. λ s is. e s f.signed.suffix c.args.new_key.now) c.insertion_body.ensures.value)
+    subst P (sym c.in-Insert.is) (IfOk-weaker c.insertion_body.result _ _ (λ v e. λ s is. e s f.signed.suffix c.args.new_key.now) c.insertion_body.ensures.value)

@@ -1,12 +1,5 @@
 use Rattle.std.proofs.Common.{List, ℕ, ◌+◌, length, ap, sym, ◌∙◌}
-use Rattle.sporc_entry.specs.declared.genesis.Genesis.{Genesis}
-use Rattle.sporc_head.specs.History.{count_of, epoch_of, roster_of}
-use Rattle.sporc_member.specs.Device.{first_device}
-use Rattle.sporc_member.specs.Roster.{Roster}
-use Rattle.sporc_client.specs.ClientModel.{state_of}
-use Rattle.sporc_client.specs.PlainClient.{Opening}
-use Rattle.sporc_client.proofs.Calls.{replay_opening}
-use Rattle.sporc_play.specs.Forged.{base_by, epoch_by, number_by, version_by}
+use Rattle.sporc_play.proofs.Common.{Genesis, count_of, epoch_of, roster_of, first_device, Roster, state_of, Opening, replay_opening, base_by, epoch_by, number_by, version_by}
 use Rattle.sporc_play.proofs.Forgeries.{header_same}
 use Rattle.sporc_play.proofs.forging.forged_header.Goals as goal
 

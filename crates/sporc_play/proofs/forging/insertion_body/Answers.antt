@@ -1,6 +1,5 @@
 use Rattle.std.proofs.Common.{◌≡◌, List, ap, length, ◌∙◌, arith}
-use Rattle.sporc_delta.specs.Format.{delta_bytes}
-use Rattle.sporc_delta.specs.Marks.{Mark, insertion}
+use Rattle.sporc_play.proofs.Common.{delta_bytes, Mark, insertion}
 use Rattle.sporc_play.proofs.Insertions.{insertion_short}
 use Rattle.sporc_play.proofs.forging.insertion_body.Goals as goal
 

@@ -1,10 +1,5 @@
 use Rattle.std.proofs.Common.{List, ℕ, Option, ap, sym, ◌∙◌}
-use Rattle.std.specs.Prelude.{replicate, unwrap_or}
-use Rattle.sporc_head.specs.History.{epoch_of}
-use Rattle.sporc_line.specs.Keys.{epoch_key}
-use Rattle.sporc_client.specs.ClientModel.{state_of}
-use Rattle.sporc_client.specs.PlainClient.{Opening}
-use Rattle.sporc_client.proofs.Calls.{replay_opening}
+use Rattle.sporc_play.proofs.Common.{replicate, unwrap_or, epoch_of, epoch_key, state_of, Opening, replay_opening}
 use Rattle.sporc_play.proofs.forging.key_there.Goals as goal
 
 pub returns-in-Some : goal.returns-in-Some

@@ -1,7 +1,5 @@
 use Rattle.std.proofs.Common.{◌≡◌, ℕ, ◌+◌, ◌<◌, Bool, cond, eqb, eq-eqb, not, List, [], ◌∷◌, ◌++◌, append-nil, length, take, filter, get_or, Global, Vec, ap, sym, ◌∙◌}
-use Rattle.std.proofs.lemmas.Bool.{ne_eqb}
-use Rattle.std.proofs.lemmas.List.Elements.{filter_more}
-use Rattle.sporc_entry.specs.declared.wrap.Wrap.{Wrap}
+use Rattle.sporc_play.proofs.Common.{ne_eqb, filter_more, Wrap}
 use Rattle.sporc_play.proofs.forging.other_wraps.Goals.{then-wrap-member+in_ok-push, else-wrap-member}
 use Rattle.sporc_play.proofs.forging.other_wraps.Goals as goal
 

@@ -1,6 +1,5 @@
 use Rattle.std.proofs.Common.{◌≡◌, take}
-use Rattle.sporc_epoch.specs.Keys.{pairs_in}
-use Rattle.sporc_play.specs.Forged.{derived_pairs}
+use Rattle.sporc_play.proofs.Common.{pairs_in, derived_pairs}
 use Rattle.sporc_play.proofs.forging.pairs_with.Given as goal
 
 abbrev pub invariant-loop-member : goal.invariant-loop-member

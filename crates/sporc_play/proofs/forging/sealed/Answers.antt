@@ -1,14 +1,8 @@
 use Rattle.std.proofs.Common.{◌≡◌, ◌≤◌, ℕ, List, Err, ap, sym, subst, ◌∙◌, length, arith}
-use Rattle.sporc_member.specs.declared.limits.TheConstants.{MAX_MEMBERS}
-use Rattle.sporc_entry.specs.declared.genesis.Genesis.{Genesis}
+use Rattle.sporc_play.proofs.Common.{MAX_MEMBERS, Genesis, epoch_of, roster_of, state_of, Opening, replay_opening, IsSmallBody, derived_pairs, sealed_for}
 use Rattle.sporc_epoch.specs.declared.fault.SealFault.{SealFault}
 use Rattle.sporc_epoch.specs.declared.fault.SealFault.TheVariants.{Memory, NoPairKey}
-use Rattle.sporc_head.specs.History.{epoch_of, roster_of}
 use Rattle.sporc_head.proofs.Grows.{epoch_le}
-use Rattle.sporc_client.specs.ClientModel.{state_of}
-use Rattle.sporc_client.specs.PlainClient.{Opening}
-use Rattle.sporc_client.proofs.Calls.{replay_opening}
-use Rattle.sporc_play.specs.Forged.{IsSmallBody, derived_pairs, sealed_for}
 use Rattle.sporc_play.proofs.Forgeries.{forged_paired, forged_same, forged_small}
 use Rattle.sporc_play.proofs.forging.sealed.Goals as goal
 

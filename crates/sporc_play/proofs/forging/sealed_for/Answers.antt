@@ -1,14 +1,8 @@
 use Rattle.std.proofs.Common.{◌≤◌, List, ℕ, length, sym, subst, ◌∙◌}
-use Rattle.sporc_member.specs.declared.limits.TheConstants.{MAX_MEMBERS}
-use Rattle.sporc_entry.specs.Genesis.{IsGenesis}
-use Rattle.sporc_head.specs.History.{roster_of}
-use Rattle.sporc_line.specs.Good.{Good}
-use Rattle.sporc_client.specs.ClientModel.{state_of}
-use Rattle.sporc_client.specs.PlainClient.{Opening}
-use Rattle.sporc_client.proofs.Calls.{replay_opening}
+use Rattle.sporc_play.proofs.Common.{MAX_MEMBERS, IsGenesis, roster_of, Good, state_of, Opening, replay_opening}
 use Rattle.sporc_play.proofs.Forgeries.{accepted_members, few_sealed, refused_members}
-use Rattle.sporc_play.proofs.Results.{if_ok}
 use Rattle.sporc_play.proofs.forging.sealed_for.Goals as goal
+use Rattle.std.proofs.lemmas.Result.{IfOk-weaker}
 
 pub returns-in-Ok-clause-within : goal.returns-in-Ok-clause-within
 returns-in-Ok-clause-within c =
@@ -20,7 +14,7 @@ returns-in-Ok-clause-within c =
     let few = few_sealed client.opening.genesis client.opening.kit entries c.args.change.now is good in
     let members = accepted_members c.roster-roster.result.now.roster (roster_of client.opening.genesis entries) c.args.change.now c.roster-roster.ensures.value c.in-Ok.ensures.value in
     let AreFew : List ℕ → Type 0 = λ numbers. length numbers ≤ MAX_MEMBERS in
-    if_ok c.members_after.result _ _ (λ v e. subst AreFew (sym (e ∙ members)) few) c.members_after.ensures.ok
+    IfOk-weaker c.members_after.result _ _ (λ v e. subst AreFew (sym (e ∙ members)) few) c.members_after.ensures.ok
 
 pub returns-in-Err-clause-within : goal.returns-in-Err-clause-within
 returns-in-Err-clause-within c =
@@ -32,4 +26,4 @@ returns-in-Err-clause-within c =
     let few = few_sealed client.opening.genesis client.opening.kit entries c.args.change.now is good in
     let members = refused_members c.roster-roster.result.now.roster (roster_of client.opening.genesis entries) c.args.change.now _ c.roster-roster.ensures.value c.in-Err.ensures.value in
     let AreFew : List ℕ → Type 0 = λ numbers. length numbers ≤ MAX_MEMBERS in
-    if_ok c.from_slice.result _ _ (λ v e. subst AreFew (sym (e ∙ c.members.ensures.value ∙ members)) few) c.from_slice.ensures.items
+    IfOk-weaker c.from_slice.result _ _ (λ v e. subst AreFew (sym (e ∙ c.members.ensures.value ∙ members)) few) c.from_slice.ensures.items

@@ -1,8 +1,5 @@
 use Rattle.std.proofs.Common.{List, ℕ, ap, ◌∙◌}
-use Rattle.sporc_entry.specs.declared.header.Header.{Header}
-use Rattle.sporc_entry.specs.Version.{fits_version}
-use Rattle.sporc_client.specs.ClientModel.{state_of}
-use Rattle.sporc_play.specs.Forged.{forged_body}
+use Rattle.sporc_play.proofs.Common.{Header, fits_version, state_of, forged_body}
 use Rattle.sporc_play.proofs.Forgeries.{header_fits, unsigned_same}
 use Rattle.sporc_play.proofs.forging.unsigned_by.Goals as goal
 

@@ -1,9 +1,5 @@
 use Rattle.std.proofs.Common.{List, ℕ, take, length, ap, sym, ◌∙◌, arith}
-use Rattle.sporc_entry.specs.declared.genesis.Genesis.{Genesis}
-use Rattle.sporc_head.specs.History.{hash_of}
-use Rattle.sporc_client.specs.ClientModel.{state_of}
-use Rattle.sporc_client.specs.PlainClient.{Opening}
-use Rattle.sporc_client.proofs.Calls.{replay_opening}
+use Rattle.sporc_play.proofs.Common.{Genesis, hash_of, state_of, Opening, replay_opening}
 use Rattle.sporc_play.proofs.Forgeries.{value_there}
 use Rattle.sporc_play.proofs.forging.value_at.Goals as goal
 

@@ -1,7 +1,5 @@
 use Rattle.std.proofs.Common.{◌≡◌, ◌+◌, ℕ, map, flat_map, arith, ap, subst}
-use Rattle.sporc_play.specs.Batches.{Performs}
-use Rattle.sporc_base.specs.Numbers.{up_to}
-use Rattle.sporc_play.specs.Generated.{gives}
+use Rattle.sporc_play.proofs.Common.{Performs, up_to, gives}
 use Rattle.sporc_play.proofs.Batched.{flats_more, has_room, length-gives}
 use Rattle.sporc_play.proofs.generated.accept_all.Goals as goal
 

@@ -1,7 +1,5 @@
 use Rattle.std.proofs.Common.{◌+◌, flat_map, map}
-use Rattle.sporc_play.specs.Batches.{Performs}
-use Rattle.sporc_base.specs.Numbers.{up_to}
-use Rattle.sporc_play.specs.Generated.{gives}
+use Rattle.sporc_play.proofs.Common.{Performs, up_to, gives}
 use Rattle.sporc_play.proofs.generated.accept_all.Given as goal
 
 abbrev pub invariant-loop-a : goal.invariant-loop-a

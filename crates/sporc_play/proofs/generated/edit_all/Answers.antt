@@ -1,8 +1,6 @@
-use Rattle.std.proofs.Common.{◌≡◌, ◌+◌, ℕ, map, arith, subst}
-use Rattle.sporc_play.specs.Batches.{Performs}
-use Rattle.sporc_base.specs.Numbers.{up_to}
-use Rattle.sporc_play.specs.Generated.{edits}
-use Rattle.sporc_play.proofs.Batched.{can_edit, mapped_room, maps_more}
+use Rattle.std.proofs.Common.{◌+◌, arith}
+use Rattle.sporc_play.proofs.Common.{edits}
+use Rattle.sporc_play.proofs.Batched.{can_edit, mapped_room, maps_more, all_done}
 use Rattle.sporc_play.proofs.generated.edit_all.Goals as goal
 
 pub edit_of-requires-clause-room : goal.edit_of-requires-clause-room
@@ -18,7 +16,4 @@ pub loop-a-preserved : goal.loop-a-preserved
 loop-a-preserved c = maps_more c.args.state.now c.loop-a.state c.perform.new.state (edits c.args.batch) c.loop-a.a c.in_ok-edit.edit c.loop-a.invariant c.in_ok-edit.ensures c.in_ok-perform.ensures
 
 pub returns : goal.returns
-returns c =
-    let all : c.loop-a.a ≡ c.args.authors = omega arith in
-    let IsDone : ℕ → Type 0 = λ n. Performs c.args.state.now (map (edits c.args.batch) (up_to n)) c.loop-a.state in
-    subst IsDone all c.loop-a.invariant
+returns c = all_done c.args.state.now c.loop-a.state (edits c.args.batch) c.loop-a.a c.args.authors (omega arith) c.loop-a.invariant

@@ -1,7 +1,4 @@
-use Rattle.sporc_play.specs.Cast.{setup_of}
-use Rattle.sporc_play.specs.Generated.{batches, generated_cast}
-use Rattle.sporc_play.specs.Scene.{after_each, opening}
-use Rattle.sporc_play.specs.Stage.{StandsFor}
+use Rattle.sporc_play.proofs.Common.{setup_of, batches, generated_cast, after_each, opening, StandsFor}
 use Rattle.sporc_play.proofs.generated.generated_run.Given as goal
 
 abbrev pub invariant-loop-k : goal.invariant-loop-k

@@ -1,10 +1,7 @@
-use Rattle.std.proofs.Common.{◌≡◌, ◌+◌, ℕ, map, arith, ap₂, subst}
-use Rattle.sporc_member.specs.declared.device.Device.{Device}
+use Rattle.std.proofs.Common.{◌+◌, ℕ, arith, ap₂}
+use Rattle.sporc_play.proofs.Common.{Device, gives}
 use Rattle.sporc_script.specs.declared.command.Command.TheVariants.{Give}
-use Rattle.sporc_play.specs.Batches.{Performs}
-use Rattle.sporc_base.specs.Numbers.{up_to}
-use Rattle.sporc_play.specs.Generated.{gives}
-use Rattle.sporc_play.proofs.Batched.{can_give, mapped_room, maps_more}
+use Rattle.sporc_play.proofs.Batched.{can_give, mapped_room, maps_more, all_done}
 use Rattle.sporc_play.proofs.generated.give_all.Goals as goal
 
 pub perform-requires : goal.perform-requires
@@ -18,7 +15,4 @@ loop-m-preserved c =
     c.loop-m.invariant (λ scene stands. ap₂ (λ (who : Device) (entry : ℕ). Give (record { device = who; position = c.args.number; entry = entry })) c.first.ensures.value c.from.ensures) c.in_ok-perform.ensures
 
 pub returns : goal.returns
-returns c =
-    let all : c.loop-m.m ≡ 3 = omega arith in
-    let IsDone : ℕ → Type 0 = λ n. Performs c.args.state.now (map (gives c.args.number) (up_to n)) c.loop-m.state in
-    subst IsDone all c.loop-m.invariant
+returns c = all_done c.args.state.now c.loop-m.state (gives c.args.number) c.loop-m.m 3 (omega arith) c.loop-m.invariant

@@ -1,12 +1,5 @@
 use Rattle.std.proofs.Common.{◌≡◌, List, ℕ, String, string_bytes, true, false, ap, sym, ◌∙◌}
-use Rattle.std.proofs.lemmas.Str.{chars_from_encodes, IsUtf8-string_bytes}
-use Rattle.std.specs.Str.{chars, encode_utf8_all}
-use Rattle.sporc_entry.specs.Genesis.{genesis_bytes}
-use Rattle.sporc_hash.specs.Chain.{chain}
-use Rattle.sporc_client.specs.ClientModel.{ClientModel, state_of}
-use Rattle.sporc_client.specs.PlainClient.{Opening, shown_of}
-use Rattle.sporc_client.proofs.Calls.{replay_opening}
-use Rattle.sporc_play.specs.Report.{hashes_of}
+use Rattle.sporc_play.proofs.Common.{chars_from_encodes, IsUtf8-string_bytes, chars, encode_utf8_all, genesis_bytes, chain, ClientModel, state_of, Opening, shown_of, replay_opening, hashes_of}
 use Rattle.sporc_play.proofs.generated.is_same.Goals as goal
 
 pub returns-then-not-are_same_texts : goal.returns-then-not-are_same_texts

@@ -1,7 +1,5 @@
 use Rattle.std.proofs.Common.{◌≡◌, ◌+◌, ◌++◌, ◌<◌, ℕ, zero, suc, List, [], ◌∷◌, string_bytes, ap, ◌∙◌, arith}
-use Rattle.std.specs.Char.{encode_utf8}
-use Rattle.std.specs.Str.{IsAscii, chars}
-use Rattle.std.proofs.lemmas.Str.{chars-IsAscii}
+use Rattle.sporc_play.proofs.Common.{encode_utf8, IsAscii, chars, chars-IsAscii}
 use Rattle.sporc_play.proofs.generated.letter.Goals as goal
 
 one_ascii : (c : ℕ) → c < 128 → IsAscii (c ∷ [])

@@ -1,8 +1,5 @@
 use Rattle.std.proofs.Common.{◌+◌, ◌/◌, ◌++◌, flat_map, map, arith, length-append}
-use Rattle.std.proofs.lemmas.List.{length-map}
-use Rattle.std.proofs.lemmas.Result.{on_ok_weaker}
-use Rattle.sporc_base.specs.Numbers.{up_to}
-use Rattle.sporc_play.specs.Generated.{edits, gives, submits}
+use Rattle.sporc_play.proofs.Common.{length-map, on_ok_weaker, up_to, edits, gives, submits}
 use Rattle.sporc_play.proofs.Batched.{has_room, length-up_to, mapped_room, performs_both}
 use Rattle.sporc_play.proofs.generated.perform_batch.Goals as goal
 

@@ -1,7 +1,5 @@
 use Rattle.std.proofs.Common.{map}
-use Rattle.sporc_play.specs.Batches.{Performs}
-use Rattle.sporc_base.specs.Numbers.{up_to}
-use Rattle.sporc_play.specs.Generated.{submits}
+use Rattle.sporc_play.proofs.Common.{Performs, up_to, submits}
 use Rattle.sporc_play.proofs.generated.submit_all.Given as goal
 
 abbrev pub invariant-loop-a : goal.invariant-loop-a

@@ -1,6 +1,5 @@
 use Rattle.std.proofs.Common.{◌++◌, List, ℕ, ap, ◌∙◌}
-use Rattle.sporc_client.specs.ClientModel.{state_of}
-use Rattle.sporc_play.specs.Generated.{summary_line}
+use Rattle.sporc_play.proofs.Common.{state_of, summary_line}
 use Rattle.sporc_play.proofs.generated.summary.Goals as goal
 
 pub returns : goal.returns

@@ -1,10 +1,5 @@
 use Rattle.std.proofs.Common.{◌++◌, List, ℕ, Option, map, option_map, string_bytes, ap, sym, ◌∙◌, Vec, Global}
-use Rattle.std.specs.Prelude.{Result}
-use Rattle.sporc_memory.specs.MemoryDisk.{MemoryDiskModel}
-use Rattle.sporc_client.specs.ClientModel.{ClientModel, state_of}
-use Rattle.sporc_play.specs.Joined.{seat_joined, seat_with}
-use Rattle.sporc_play.specs.Report.{join_line, joined_line}
-use Rattle.sporc_play.specs.Scene.{entries_at}
+use Rattle.sporc_play.proofs.Common.{Result, MemoryDiskModel, ClientModel, state_of, seat_joined, seat_with, join_line, joined_line, entries_at}
 use Rattle.sporc_play.proofs.Becoming.{ok_then}
 use Rattle.sporc_play.proofs.Found.{all_found, none_there}
 use Rattle.sporc_play.proofs.joining.join.Goals as goal

@@ -1,10 +1,5 @@
 use Rattle.std.proofs.Common.{◌≡◌, ◌++◌, None, Option, ap, string_bytes, subst, sym, ◌∙◌}
-use Rattle.std.specs.FinMap.{get}
-use Rattle.sporc_base.specs.FirstFault.{first_of}
-use Rattle.sporc_entry.specs.declared.genesis.Genesis.{Genesis}
-use Rattle.sporc_line.specs.Openings.{open_checks}
-use Rattle.sporc_line.specs.declared.fault.LineOpenFault.{LineOpenFault}
-use Rattle.sporc_play.specs.Report.{open_line}
+use Rattle.sporc_play.proofs.Common.{get, first_of, Genesis, open_checks, LineOpenFault, open_line}
 use Rattle.sporc_play.proofs.Becoming.{ok_then}
 use Rattle.sporc_play.proofs.joining.open_with.Goals as goal
 

@@ -1,8 +1,5 @@
 use Rattle.std.proofs.Common.{codes, string_bytes}
-use Rattle.std.proofs.lemmas.Result.{on_ok_weaker}
-use Rattle.sporc_report.specs.Names.{hint_fault_name}
-use Rattle.sporc_script.specs.Spelling.{device_text}
-use Rattle.sporc_report.proofs.Parts.{told_in_parts}
+use Rattle.sporc_play.proofs.Common.{on_ok_weaker, hint_fault_name, device_text, told_in_parts}
 use Rattle.sporc_play.proofs.joining.push_no_hints.Goals as goal
 
 pub returns-clause-line : goal.returns-clause-line

@@ -1,5 +1,4 @@
-use Rattle.sporc_play.proofs.GeneratedPlays.{generated_genuine}
-use Rattle.sporc_play.proofs.GeneratedRun.{generated_one, generated_typed}
+use Rattle.sporc_play.proofs.GeneratedRun.{generated_one, generated_typed, generated_genuine}
 use Rattle.sporc_play.proofs.laws.the_generated_run_is_one.Goals as goal
 
 pub returns : goal.returns

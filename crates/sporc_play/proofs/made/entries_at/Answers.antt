@@ -1,6 +1,5 @@
 use Rattle.std.proofs.Common.{◌≡◌, ◌+◌, ◌++◌, [], ◌∷◌, ℕ, List, map, drop, sym, ap, ◌∙◌, Vec, Global}
-use Rattle.std.proofs.lemmas.List.{map-append}
-use Rattle.sporc_play.specs.Scene.{entries_at}
+use Rattle.sporc_play.proofs.Common.{map-append, entries_at}
 use Rattle.sporc_play.proofs.Found.{behind, found_more}
 use Rattle.sporc_play.proofs.made.entries_at.Goals as goal
 

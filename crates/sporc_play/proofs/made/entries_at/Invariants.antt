@@ -1,5 +1,5 @@
 use Rattle.std.proofs.Common.{◌≡◌, drop, map}
-use Rattle.sporc_play.specs.Scene.{entries_at}
+use Rattle.sporc_play.proofs.Common.{entries_at}
 use Rattle.sporc_play.proofs.Found.{behind}
 use Rattle.sporc_play.proofs.made.entries_at.Given as goal
 

@@ -1,5 +1,5 @@
 use Rattle.std.proofs.Common.{Some, List, ℕ, ap, sym, ◌∙◌}
-use Rattle.std.proofs.lemmas.Bool.{ltb-true}
+use Rattle.sporc_play.proofs.Common.{ltb-true}
 use Rattle.sporc_play.proofs.Found.{entry_there}
 use Rattle.sporc_play.proofs.made.entry_at.Goals as goal
 

@@ -1,7 +1,5 @@
 use Rattle.std.proofs.Common.{ap, refl, subst, ◌∙◌}
-use Rattle.sporc_member.specs.declared.device.Device.{Device}
-use Rattle.sporc_play.specs.Cast.{public_of}
-use Rattle.sporc_play.specs.Opening.{HasSat}
+use Rattle.sporc_play.proofs.Common.{Device, public_of, HasSat}
 use Rattle.sporc_play.proofs.Becoming.{ok_then}
 use Rattle.sporc_play.proofs.Declared.{device_declared, joiner_declared, member_declared, none_declared, rogue_declared, unpaired_declared}
 use Rattle.sporc_play.proofs.opening.declare.Goals as goal

@@ -1,6 +1,5 @@
 use Rattle.std.proofs.Common.{ap, ◌∙◌}
-use Rattle.sporc_epoch.specs.Keys.{Keys}
-use Rattle.sporc_play.specs.Joined.{seat_open}
+use Rattle.sporc_play.proofs.Common.{Keys, seat_open}
 use Rattle.sporc_play.proofs.opening.open_founder.Goals as goal
 
 pub returns-in-Ok : goal.returns-in-Ok

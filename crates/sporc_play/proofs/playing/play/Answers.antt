@@ -1,6 +1,5 @@
 use Rattle.std.proofs.Common.{ℕ, List, sym, subst}
-use Rattle.sporc_script.specs.Grammar.{IsPlayScript}
-use Rattle.sporc_script.specs.declared.play_line.PlayLine.{PlayLine}
+use Rattle.sporc_play.proofs.Common.{IsPlayScript, PlayLine}
 use Rattle.sporc_play.proofs.Played.{played}
 use Rattle.sporc_play.proofs.playing.play.Goals as goal
 

@@ -1,5 +1,5 @@
 use Rattle.std.proofs.Common.{◌++◌, ℕ, List, ap, ◌∙◌, subst}
-use Rattle.std.specs.Io.KnownBytes.{Appends}
+use Rattle.sporc_play.proofs.Common.{Appends}
 use Rattle.sporc_outside.specs.Writing.{AppendsPrefix}
 use Rattle.sporc_play.proofs.playing.write_line.Goals as goal
 

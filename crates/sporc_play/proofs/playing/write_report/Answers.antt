@@ -1,8 +1,6 @@
 use Rattle.std.proofs.Common.{Err, ◌++◌, sym, ap, subst, arith}
-use Rattle.std.proofs.lemmas.Result.{err_from_is_err_and}
+use Rattle.sporc_play.proofs.Common.{err_from_is_err_and, Scene, scene_at, StandsFor}
 use Rattle.std.proofs.KnownBytes.{Appends-trans}
-use Rattle.sporc_play.specs.Scene.{Scene, scene_at}
-use Rattle.sporc_play.specs.Stage.{StandsFor}
 use Rattle.sporc_play.proofs.Founders.{are_declared, has_admin_later}
 use Rattle.sporc_play.proofs.Ready.{next_can}
 use Rattle.sporc_play.proofs.Reported.{reports_all, reports_failed, reports_more, reports_none, scene_more}

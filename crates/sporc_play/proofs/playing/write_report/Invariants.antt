@@ -1,9 +1,5 @@
 use Rattle.std.proofs.Common.{ℕ, ◌≤◌, List, take}
-use Rattle.std.specs.Io.KnownBytes.{Appends}
-use Rattle.sporc_play.specs.Cast.{setup_of}
-use Rattle.sporc_play.specs.Report.{ReportsFrom}
-use Rattle.sporc_play.specs.Scene.{opening, scene_at}
-use Rattle.sporc_play.specs.Stage.{StandsFor}
+use Rattle.sporc_play.proofs.Common.{Appends, setup_of, ReportsFrom, opening, scene_at, StandsFor}
 use Rattle.sporc_play.proofs.playing.write_report.Given as goal
 
 abbrev pub invariant-loop-line : goal.invariant-loop-line

@@ -1,5 +1,5 @@
 use Rattle.std.proofs.Common.{refl, sym, ap, ◌∙◌}
-use Rattle.sporc_play.specs.declared.seat.Seat.{Seat}
+use Rattle.sporc_play.proofs.Common.{Seat}
 use Rattle.sporc_play.proofs.Becoming.{seat_read}
 use Rattle.sporc_play.proofs.seat.client_of.Goals as goal
 

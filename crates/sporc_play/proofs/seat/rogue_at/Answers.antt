@@ -1,8 +1,5 @@
 use Rattle.std.proofs.Common.{◌≡◌, true, false, ap, sym, ◌∙◌}
-use Rattle.sporc_member.specs.declared.device.Device.{Device}
-use Rattle.sporc_member.specs.Device.{same_device}
-use Rattle.sporc_member.proofs.SameDevice.{one_same, same_one}
-use Rattle.sporc_play.specs.declared.seat.Rogue.{Rogue}
+use Rattle.sporc_play.proofs.Common.{Device, same_device, one_same, same_one, Rogue}
 use Rattle.sporc_play.proofs.Places.{element, not_in_more, nowhere}
 use Rattle.sporc_play.proofs.seat.rogue_at.Goals as goal
 

@@ -1,9 +1,5 @@
 use Rattle.std.proofs.Common.{◌++◌, Bool, List, ℕ, ap, ◌∙◌, string_bytes}
-use Rattle.sporc_member.specs.declared.device.Device.{Device}
-use Rattle.sporc_member.specs.Device.{first_device}
-use Rattle.sporc_client.specs.ClientModel.{state_of}
-use Rattle.sporc_play.specs.Scene.{leaf_after}
-use Rattle.sporc_play.specs.Signing.{signed_line}
+use Rattle.sporc_play.proofs.Common.{Device, first_device, state_of, leaf_after, signed_line}
 use Rattle.sporc_play.proofs.Signed.{signing_is}
 use Rattle.sporc_play.proofs.signing.sign.Goals as goal
 

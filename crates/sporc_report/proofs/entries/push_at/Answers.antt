@@ -1,5 +1,5 @@
 use Rattle.std.proofs.Common.{◌-◌, ◌<◌, length, string_bytes, arith}
-use Rattle.std.proofs.lemmas.Result.{on_ok_weaker}
+use Rattle.sporc_report.proofs.Common.{on_ok_weaker}
 use Rattle.sporc_report.proofs.Beginnings.{begins_either}
 use Rattle.sporc_report.proofs.Committed.{entry_at, is_read, one_line}
 use Rattle.sporc_report.proofs.entries.push_at.Goals as goal

@@ -1,5 +1,5 @@
 use Rattle.std.proofs.Common.{◌≡◌, ◌++◌, take, string_bytes}
-use Rattle.sporc_report.specs.JournalLines.{journal_lines}
+use Rattle.sporc_report.proofs.Common.{journal_lines}
 use Rattle.sporc_report.proofs.journal.push_journal.Given as goal
 
 abbrev pub invariant-loop-event : goal.invariant-loop-event

@@ -1,5 +1,5 @@
 use Rattle.std.proofs.Common.{◌≡◌, ◌++◌, flat_map, take, string_bytes}
-use Rattle.sporc_report.specs.JournalLines.{spaced_part}
+use Rattle.sporc_report.proofs.Common.{spaced_part}
 use Rattle.sporc_report.proofs.journal.push_spaced.Given as goal
 
 abbrev pub invariant-loop-part : goal.invariant-loop-part

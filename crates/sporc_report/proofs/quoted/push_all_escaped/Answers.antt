@@ -1,8 +1,8 @@
 use Rattle.std.proofs.Common.{◌≡◌, ℕ, List, [], ◌∷◌, ◌++◌, append_assoc, append-nil, flat_map, string_bytes, map-id, sym, ap, ◌∙◌}
+use Rattle.sporc_report.proofs.Common.{escape}
 use Rattle.std.proofs.lemmas.Grind.{flat_map-append}
 use Rattle.std.proofs.lemmas.Iterator.{YieldsList-from_chars}
 use Rattle.std.proofs.lemmas.Iterator.Consumers.{YieldsList-end}
-use Rattle.sporc_script.specs.Quoted.{escape}
 use Rattle.sporc_report.proofs.quoted.push_all_escaped.Goals as goal
 
 pub loop-c-preserved : goal.loop-c-preserved

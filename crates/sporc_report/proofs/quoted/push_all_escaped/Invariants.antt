@@ -1,5 +1,5 @@
 use Rattle.std.proofs.Common.{◌≡◌, ◌++◌, flat_map, string_bytes}
-use Rattle.sporc_script.specs.Quoted.{escape}
+use Rattle.sporc_report.proofs.Common.{escape}
 use Rattle.sporc_report.proofs.quoted.push_all_escaped.Given as goal
 
 abbrev pub invariant-loop-c : goal.invariant-loop-c

@@ -1,7 +1,6 @@
 use Rattle.std.proofs.Common.{ap, ◌∙◌, arith}
-use Rattle.std.proofs.lemmas.List.{take_all}
+use Rattle.sporc_report.proofs.Common.{take_all, hash_of}
 use Rattle.sporc_entry.specs.declared.genesis.Genesis.{Genesis}
-use Rattle.sporc_head.specs.History.{hash_of}
 use Rattle.sporc_report.proofs.showing.last_hash.Goals as goal
 
 pub returns : goal.returns

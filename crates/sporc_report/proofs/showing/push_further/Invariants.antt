@@ -1,5 +1,5 @@
 use Rattle.std.proofs.Common.{◌≡◌, ◌++◌, flat_map, take, string_bytes}
-use Rattle.sporc_report.specs.ClientLines.{further_text}
+use Rattle.sporc_report.proofs.Common.{further_text}
 use Rattle.sporc_report.proofs.showing.push_further.Given as goal
 
 abbrev pub invariant-loop-number : goal.invariant-loop-number

@@ -1,11 +1,6 @@
 use Rattle.std.proofs.Common.{◌≡◌, ◌++◌, string_bytes, codes, ap, sym, ◌∙◌}
-use Rattle.sporc_client.specs.ClientModel.{state_of}
-use Rattle.sporc_client.specs.PlainClient.{Opening}
+use Rattle.sporc_report.proofs.Common.{state_of, Opening, roster_of, Device, device_text, members_text}
 use Rattle.sporc_client.proofs.Calls.{replay_opening}
-use Rattle.sporc_head.specs.History.{roster_of}
-use Rattle.sporc_member.specs.declared.device.Device.{Device}
-use Rattle.sporc_script.specs.Spelling.{device_text}
-use Rattle.sporc_report.specs.ClientLines.{members_text}
 use Rattle.sporc_report.proofs.Parts.{told_by_last}
 use Rattle.sporc_report.proofs.showing.push_members.Goals as goal
 

@@ -1,8 +1,6 @@
 use Rattle.std.proofs.Common.{ℕ, List, ◌++◌, flat_map, string_bytes, subst, ap, ◌∙◌}
+use Rattle.sporc_report.proofs.Common.{take_all, Roster, member_at, members_text, text_of_member}
 use Rattle.std.specs.List.Sorted.{IsStrictlyIncreasing}
-use Rattle.std.proofs.lemmas.List.{take_all}
-use Rattle.sporc_member.specs.Roster.{Roster, member_at}
-use Rattle.sporc_report.specs.ClientLines.{members_text, text_of_member}
 use Rattle.sporc_report.proofs.Rosters.{numbered_texts}
 use Rattle.sporc_report.proofs.showing.push_roster.Goals as goal
 

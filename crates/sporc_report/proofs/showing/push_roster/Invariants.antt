@@ -1,6 +1,5 @@
 use Rattle.std.proofs.Common.{◌≡◌, ◌++◌, flat_map, take, string_bytes}
-use Rattle.sporc_member.specs.Roster.{member_at}
-use Rattle.sporc_report.specs.ClientLines.{text_of_member}
+use Rattle.sporc_report.proofs.Common.{member_at, text_of_member}
 use Rattle.sporc_report.proofs.showing.push_roster.Given as goal
 
 abbrev pub invariant-loop-number : goal.invariant-loop-number

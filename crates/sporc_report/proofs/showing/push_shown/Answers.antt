@@ -1,9 +1,6 @@
 use Rattle.std.proofs.Common.{◌++◌, List, ℕ, string_bytes, sym, ap, ◌∙◌}
+use Rattle.sporc_report.proofs.Common.{on_ok_weaker, state_of, shown_of, quoted}
 use Rattle.std.proofs.lemmas.Str.{chars_from_encodes}
-use Rattle.std.proofs.lemmas.Result.{on_ok_weaker}
-use Rattle.sporc_client.specs.ClientModel.{state_of}
-use Rattle.sporc_client.specs.PlainClient.{shown_of}
-use Rattle.sporc_script.specs.Quoted.{quoted}
 use Rattle.sporc_report.proofs.showing.push_shown.Goals as goal
 
 pub returns-clause-ok : goal.returns-clause-ok

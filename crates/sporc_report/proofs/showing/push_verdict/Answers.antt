@@ -1,9 +1,7 @@
 use Rattle.std.proofs.Common.{◌++◌, ℕ, List, string_bytes, codes, append_assoc, ap, sym, ◌∙◌}
+use Rattle.sporc_report.proofs.Common.{on_ok_weaker, device_text, compare_line}
 use Rattle.std.specs.Fmt.{decimal}
-use Rattle.std.proofs.lemmas.Result.{on_ok_weaker}
 use Rattle.sporc_hash.specs.declared.verdict.Verdict.{Verdict}
-use Rattle.sporc_script.specs.Spelling.{device_text}
-use Rattle.sporc_report.specs.ClientLines.{compare_line}
 use Rattle.sporc_report.proofs.showing.push_verdict.Goals as goal
 
 pub returns-in-ForkedAfter-clause-ok : goal.returns-in-ForkedAfter-clause-ok

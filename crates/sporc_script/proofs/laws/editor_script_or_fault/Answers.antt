@@ -1,7 +1,4 @@
-use Rattle.sporc_script.specs.declared.editor_line.EditorCommand.{EditorCommand}
-use Rattle.sporc_script.specs.declared.editor_line.EditorLine.{EditorLine}
-use Rattle.sporc_script.specs.Grammar.{editor_line}
-use Rattle.sporc_script.specs.Lines.{lines_of}
+use Rattle.sporc_script.proofs.Common.{EditorCommand, EditorLine, editor_line, lines_of}
 use Rattle.sporc_script.proofs.EditorReaders.{IsEditorNext, editor_or_none}
 use Rattle.sporc_script.proofs.ScriptLines.{script_or_fault}
 use Rattle.sporc_script.proofs.laws.editor_script_or_fault.Goals as goal

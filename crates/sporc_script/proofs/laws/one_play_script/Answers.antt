@@ -1,7 +1,4 @@
-use Rattle.sporc_script.specs.declared.command.Command.{Command}
-use Rattle.sporc_script.specs.declared.play_line.PlayLine.{PlayLine}
-use Rattle.sporc_script.specs.Grammar.{IsNext, play_line}
-use Rattle.sporc_script.specs.Lines.{lines_of}
+use Rattle.sporc_script.proofs.Common.{Command, PlayLine, IsNext, play_line, lines_of}
 use Rattle.sporc_script.proofs.PlayLines.{next_not_skipped, one_next}
 use Rattle.sporc_script.proofs.ScriptLines.{one_reading}
 use Rattle.sporc_script.proofs.laws.one_play_script.Goals as goal

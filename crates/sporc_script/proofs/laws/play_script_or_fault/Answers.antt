@@ -1,7 +1,4 @@
-use Rattle.sporc_script.specs.declared.command.Command.{Command}
-use Rattle.sporc_script.specs.declared.play_line.PlayLine.{PlayLine}
-use Rattle.sporc_script.specs.Grammar.{IsNext, play_line}
-use Rattle.sporc_script.specs.Lines.{lines_of}
+use Rattle.sporc_script.proofs.Common.{Command, PlayLine, IsNext, play_line, lines_of}
 use Rattle.sporc_script.proofs.PlayLines.{next_or_none}
 use Rattle.sporc_script.proofs.ScriptLines.{script_or_fault}
 use Rattle.sporc_script.proofs.laws.play_script_or_fault.Goals as goal

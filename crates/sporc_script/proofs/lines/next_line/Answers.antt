@@ -1,5 +1,5 @@
 use Rattle.std.proofs.Common.{ap, ◌∙◌}
-use Rattle.sporc_script.specs.Lines.{lines_of}
+use Rattle.sporc_script.proofs.Common.{lines_of}
 use Rattle.sporc_script.proofs.TextLines.{lines_of-last, lines_of-split}
 use Rattle.sporc_script.proofs.lines.next_line.Goals as goal
 

@@ -1,5 +1,5 @@
 use Rattle.std.proofs.Common.{◌≡◌, true, false, ap, sym, ◌∙◌}
-use Rattle.sporc_script.specs.Declarations.{may_follow}
+use Rattle.sporc_script.proofs.Common.{may_follow}
 use Rattle.sporc_script.proofs.PlayLines.{command_missing, command_spelled, one_command}
 use Rattle.sporc_script.proofs.play_script.next_command.Goals as goal
 

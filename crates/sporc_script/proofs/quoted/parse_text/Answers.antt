@@ -1,7 +1,5 @@
 use Rattle.std.proofs.Common.{◌≡◌, ℕ, string_bytes, Some, Vec, Global, true, false, sym, ap, flat_map, ◌∙◌}
-use Rattle.std.specs.Str.{chars, encode_utf8_all}
-use Rattle.std.proofs.lemmas.Str.{IsUtf8-string_bytes, scalars-chars}
-use Rattle.sporc_script.specs.Quoted.{escape}
+use Rattle.sporc_script.proofs.Common.{chars, encode_utf8_all, IsUtf8-string_bytes, scalars-chars, escape}
 use Rattle.sporc_script.proofs.Escapes.{body_of, quoted_of, no_text, same_text}
 use Rattle.sporc_script.proofs.Exact.{read_is, read_none}
 use Rattle.sporc_script.proofs.TextWords.{rest_of, text_exact}

@@ -1,5 +1,5 @@
 use Rattle.std.proofs.Common.{◌≡◌, ◌++◌, false, drop, option_map}
-use Rattle.sporc_script.specs.Unescape.{unescape}
+use Rattle.sporc_script.proofs.Common.{unescape}
 use Rattle.sporc_script.proofs.quoted.unescaped.Given as goal
 
 abbrev pub invariant-loop-b : goal.invariant-loop-b

@@ -1,5 +1,5 @@
 use Rattle.std.proofs.Common.{sym, ◌∙◌}
-use Rattle.sporc_script.specs.Words.{cut}
+use Rattle.sporc_script.proofs.Common.{cut}
 use Rattle.sporc_script.proofs.Cuts.{behind_none, cut_here, cut_more, cut_nowhere}
 use Rattle.sporc_script.proofs.words.cut.Goals as goal
 

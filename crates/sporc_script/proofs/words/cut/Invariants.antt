@@ -1,5 +1,5 @@
 use Rattle.std.proofs.Common.{◌≡◌, take, drop, option_map}
-use Rattle.sporc_script.specs.Words.{cut, cut_at}
+use Rattle.sporc_script.proofs.Common.{cut, cut_at}
 use Rattle.sporc_script.proofs.Cuts.{behind}
 use Rattle.sporc_script.proofs.words.cut.Given as goal
 

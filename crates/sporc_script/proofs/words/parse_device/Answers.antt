@@ -1,5 +1,5 @@
 use Rattle.std.proofs.Common.{None, Some, refl, ◌∙◌}
-use Rattle.sporc_script.specs.Readers.{further_number_of}
+use Rattle.sporc_script.proofs.Common.{further_number_of}
 use Rattle.sporc_script.proofs.DeviceWords.{device_split}
 use Rattle.sporc_script.proofs.words.parse_device.Goals as goal
 

@@ -1,6 +1,5 @@
 use Rattle.std.proofs.Common.{◌≡◌, ℕ, List, true, false, sym, subst, ◌∙◌}
-use Rattle.std.specs.Str.Parse.{ParsesUnsigned}
-use Rattle.sporc_script.specs.Words.{IsPlain}
+use Rattle.sporc_script.proofs.Common.{ParsesUnsigned, IsPlain}
 use Rattle.sporc_script.proofs.Numerals.{decimal_plain, number_from_parse, no_number_from_parse, decimal_utf8}
 use Rattle.sporc_script.proofs.Exact.{read_is, read_none}
 use Rattle.sporc_script.proofs.TextWords.{number_exact}

@@ -1,12 +1,7 @@
 use Rattle.std.proofs.Common.{◌≡◌, ◌-◌, suc, List, Option, arith, rules, ap, sym, subst, refl}
+use Rattle.sporc_serve.proofs.Common.{AreShutBehind, StreamTold, known_of, read_of, OfDocument, visit, IsServedSession, IsCrowd}
 use Rattle.sporc_outside.specs.Told.{IsTrueIfTold}
 use Rattle.sporc_outside.proofs.Returning.{shut_none, shut_more}
-use Rattle.sporc_outside.specs.Nets.{AreShutBehind}
-use Rattle.sporc_outside.specs.Streams.{StreamTold}
-use Rattle.sporc_turn.specs.Passes.{known_of, read_of}
-use Rattle.sporc_serve.specs.Logs.{OfDocument}
-use Rattle.sporc_serve.specs.Visits.{visit, IsServedSession}
-use Rattle.sporc_serve.specs.Crowds.{IsCrowd}
 use Rattle.sporc_serve.proofs.Crowding.{crowd_none, crowd_failed, crowd_unserved, crowd_joined}
 use Rattle.sporc_serve.proofs.crowd.+crowd+fn-crowd-join_mut+arg2.Goals as goal
 
@@ -20,7 +15,7 @@ returns-in_default-clause-crowd g t c genesis log =
     crowd_failed genesis (known_of c.args.first) (read_of c.args.first)
     (g.N.Links.told c.args.net.now)
     (g.N.Links.told c.accept.new.self) c.args.sessions
-    c.in_default.ensures.coming_unchanged c.accept.ensures.returned c.in_default.ensures.count.failed
+    c.in_default.ensures.did.coming_unchanged c.accept.ensures.did.returned c.in_default.ensures.did.count.failed
 
 pub returns-in-Err-clause-crowd : goal.returns-in-Err-clause-crowd
 returns-in-Err-clause-crowd g t c genesis log =
@@ -28,8 +23,8 @@ returns-in-Err-clause-crowd g t c genesis log =
     (g.N.Links.told c.args.net.now)
     (g.N.Links.told c.accept.new.self)
     (g.N.Links.told c.take_back.new.self) c.args.sessions
-    (g.N.Link.Stream.told c.in-Ok.link) (g.N.Link.Stream.told c.shut.new.self) (ap known_of c.in-Err.ensures.returned) c.in-Ok.ensures.next c.take_back.ensures.coming c.accept.ensures.returned
-    c.take_back.ensures.returned c.in-Ok.ensures.open
+    (g.N.Link.Stream.told c.in-Ok.link) (g.N.Link.Stream.told c.shut.new.self) (ap known_of c.in-Err.ensures.returned) c.in-Ok.ensures.did.next c.take_back.ensures.coming c.accept.ensures.did.returned
+    c.take_back.ensures.returned c.in-Ok.ensures.did.not_shut
     c.shut.ensures.did
 
 pub returns-clause-crowd : goal.returns-clause-crowd
@@ -52,7 +47,7 @@ returns-clause-crowd g t c genesis log =
     (g.N.Links.told c.args.net.now) came left
     (g.N.Links.told c.take_back-2.new.self) others c.args.sessions
     (g.N.Link.Stream.told c.in-Ok.link) (g.N.Link.Stream.told link) r.1.0 r.0.0 c.joined.result.0 log c.in-Ok-split.ensures.old c.in-Ok-split.ensures.new session crowd c.join_mut-rest.ensures.1.met.1.4 c.joined.ensures.read number c.joined.ensures.known
-    c.joined.ensures.begins.0 c.joined.ensures.begins.1 c.joined.ensures.agrees c.in-Ok.ensures.next c.in-Ok.ensures.open c.accept.ensures.returned c.accept.ensures.count.kept
+    c.joined.ensures.begins.0 c.joined.ensures.begins.1 c.joined.ensures.agrees c.in-Ok.ensures.did.next c.in-Ok.ensures.did.not_shut c.accept.ensures.did.returned c.accept.ensures.did.count.kept
     c.take_back-2.ensures.coming c.take_back-2.ensures.returned c.take_back-2.ensures.kept size c.joined.ensures.answer
 
 pub returns-then-sessions-eq0-clause-shut : goal.returns-then-sessions-eq0-clause-shut
@@ -60,12 +55,12 @@ returns-then-sessions-eq0-clause-shut g t c = shut_none (g.N.Links.told c.args.n
 
 pub returns-in_default-clause-shut : goal.returns-in_default-clause-shut
 returns-in_default-clause-shut g t c =
-    shut_none (g.N.Links.told c.args.net.now).returned (g.N.Links.told c.accept.new.self).returned c.accept.ensures.returned
+    shut_none (g.N.Links.told c.args.net.now).returned (g.N.Links.told c.accept.new.self).returned c.accept.ensures.did.returned
 
 pub returns-in-Err-clause-shut : goal.returns-in-Err-clause-shut
 returns-in-Err-clause-shut g t c =
     shut_more (g.N.Links.told c.args.net.now).returned (g.N.Links.told c.accept.new.self).returned (g.N.Links.told c.take_back.new.self).returned (g.N.Link.Stream.told c.shut.new.self)
-    (shut_none (g.N.Links.told c.args.net.now).returned (g.N.Links.told c.accept.new.self).returned c.accept.ensures.returned)
+    (shut_none (g.N.Links.told c.args.net.now).returned (g.N.Links.told c.accept.new.self).returned c.accept.ensures.did.returned)
     c.take_back.ensures.returned c.shut.ensures.did.shut
 
 pub returns-clause-shut : goal.returns-clause-shut
@@ -76,6 +71,6 @@ returns-clause-shut g t c =
     let same_net : net ≡ c.join_mut-rest.new.f.2.now = search rules in
     let shut = subst (λ (l : g.row.N-Link.Denot). IsTrueIfTold (g.N.Link.Stream.told l).is_shut) (sym same_link) c.join_mut-rest.ensures.1.met.1.3 in
     let rest = subst (λ (n : g.row.N.Denot). AreShutBehind (g.N.Links.told c.accept.new.self).returned (g.N.Links.told n).returned) (sym same_net) c.join_mut-rest.ensures.0.met.1.3 in
-    let before = subst (λ (r : Option (List StreamTold)). AreShutBehind r (g.N.Links.told net).returned) c.accept.ensures.returned rest in
+    let before = subst (λ (r : Option (List StreamTold)). AreShutBehind r (g.N.Links.told net).returned) c.accept.ensures.did.returned rest in
     shut_more (g.N.Links.told c.args.net.now).returned (g.N.Links.told net).returned (g.N.Links.told c.take_back-2.new.self).returned (g.N.Link.Stream.told link) before
     c.take_back-2.ensures.returned shut

@@ -1,5 +1,5 @@
 use Rattle.std.proofs.Common.{[], Ok, Err, Some, refl, ap, ◌∙◌, arith}
-use Rattle.sporc_serve.specs.Endings.{Inlet, inlet_at}
+use Rattle.sporc_serve.proofs.Common.{Inlet, inlet_at}
 use Rattle.sporc_serve.proofs.Waiting.{waits_none, waits_more, first_found, first_ends}
 use Rattle.sporc_serve.proofs.first.first_message.Goals as goal
 

@@ -1,5 +1,5 @@
 use Rattle.std.proofs.Common.{◌≡◌, ◌≤◌, ℕ, List}
-use Rattle.sporc_serve.specs.Endings.{inlet_at, Waits}
+use Rattle.sporc_serve.proofs.Common.{inlet_at, Waits}
 use Rattle.sporc_serve.proofs.first.first_message.Given as goal
 
 abbrev pub invariant-loop : goal.invariant-loop

@@ -1,4 +1,4 @@
-use Rattle.sporc_turn.specs.Passes.{known_of}
+use Rattle.sporc_serve.proofs.Common.{known_of}
 use Rattle.sporc_serve.proofs.Looking.{turn_after}
 use Rattle.sporc_serve.proofs.replying.reply_to.Goals as goal
 

@@ -1,4 +1,4 @@
-use Rattle.sporc_turn.specs.Passes.{known_of, read_of}
+use Rattle.sporc_serve.proofs.Common.{known_of, read_of}
 use Rattle.sporc_serve.proofs.Stepping.{answer_goes, answer_ends}
 use Rattle.sporc_serve.proofs.session.answer.Goals as goal
 

@@ -1,7 +1,5 @@
 use Rattle.std.proofs.Common.{None, Some, Option, refl, subst, ◌∙◌}
-use Rattle.sporc_turn.specs.Passes.{known_of}
-use Rattle.sporc_serve.specs.declared.end.SessionEnd.{SessionEnd}
-use Rattle.sporc_serve.specs.Traces.{ServerStand, stand_at, Carries}
+use Rattle.sporc_serve.proofs.Common.{known_of, SessionEnd, ServerStand, stand_at, Carries}
 use Rattle.sporc_serve.proofs.Stepping.{leads_same, leads_then}
 use Rattle.sporc_serve.proofs.session.go_on.Goals as goal
 

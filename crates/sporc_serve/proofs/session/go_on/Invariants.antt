@@ -1,11 +1,10 @@
 use Rattle.std.proofs.Common.{◌≡◌, None}
-use Rattle.sporc_turn.specs.Passes.{known_of, IsPassOf}
-use Rattle.sporc_serve.specs.Traces.{stand_at, Leads}
+use Rattle.sporc_serve.proofs.Common.{known_of, IsPassOf, stand_at, Leads}
 use Rattle.sporc_serve.proofs.session.go_on.Given as goal
 
 abbrev pub invariant-loop : goal.invariant-loop
 invariant-loop g l = record {
-  lock : IsPassOf l.turn l.pass;
+  lock : IsPassOf l.service.turn.now l.pass;
   number : (known_of l.pass).number ≡ (known_of l.initial.pass).number;
   as_shut : (g.L.Stream.told l.link).is_shut ≡ (g.L.Stream.told l.initial.link).is_shut;
   trace : Leads

@@ -1,8 +1,6 @@
 use Rattle.std.proofs.Common.{◌≡◌, Ok, Err, None, sym, subst, ap, ◌∙◌}
+use Rattle.sporc_serve.proofs.Common.{Unread, next, to_server_of, inlet_at, IsNext}
 use Rattle.std.proofs.lemmas.Result.{err_from_is_err_and}
-use Rattle.sporc_wire.specs.Messages.{Unread, next}
-use Rattle.sporc_wire.specs.ToServer.{to_server_of}
-use Rattle.sporc_serve.specs.Endings.{inlet_at, IsNext}
 use Rattle.sporc_serve.proofs.Stepping.{next_none}
 use Rattle.sporc_serve.proofs.session.next_message.Goals as goal
 

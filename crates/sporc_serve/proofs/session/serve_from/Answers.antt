@@ -1,8 +1,5 @@
 use Rattle.std.proofs.Common.{None, Some, [], false, subst, sym}
-use Rattle.sporc_turn.specs.Passes.{known_of}
-use Rattle.sporc_wire.specs.Messages.{Unread, next, stream_of}
-use Rattle.sporc_wire.specs.ToServer.{to_server_of}
-use Rattle.sporc_serve.specs.Traces.{ServerStand, stand_at, Carries, Leads}
+use Rattle.sporc_serve.proofs.Common.{known_of, Unread, next, stream_of, to_server_of, ServerStand, stand_at, Carries, Leads}
 use Rattle.sporc_serve.proofs.Stepping.{first_leads}
 use Rattle.sporc_serve.proofs.session.serve_from.Goals as goal
 

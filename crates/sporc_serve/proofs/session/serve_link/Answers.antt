@@ -1,6 +1,5 @@
 use Rattle.std.proofs.Common.{[], false, Some}
-use Rattle.sporc_turn.specs.Passes.{known_of}
-use Rattle.sporc_wire.specs.Messages.{stream_of}
+use Rattle.sporc_serve.proofs.Common.{known_of, stream_of}
 use Rattle.sporc_serve.proofs.Stepping.{begins_leads, session_ended}
 use Rattle.sporc_serve.proofs.session.serve_link.Goals as goal
 

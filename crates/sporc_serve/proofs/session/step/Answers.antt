@@ -1,6 +1,5 @@
 use Rattle.std.proofs.Common.{Ok, ap, ◌∙◌}
-use Rattle.sporc_turn.specs.Passes.{known_of, read_of}
-use Rattle.sporc_serve.specs.Endings.{inlet_at}
+use Rattle.sporc_serve.proofs.Common.{known_of, read_of, inlet_at}
 use Rattle.sporc_serve.proofs.Stepping.{found_framed, found_unworn, step_ends, step_waits, step_answers}
 use Rattle.sporc_serve.proofs.session.step.Goals as goal
 

@@ -1,5 +1,5 @@
 use Rattle.std.proofs.Common.{Result, IsOkUnless, subst}
-use Rattle.sporc_wire.specs.declared.fault.FrameFault.{FrameFault}
+use Rattle.sporc_serve.proofs.Common.{FrameFault}
 use Rattle.sporc_wire.specs.declared.fault.FrameFault.TheVariants as faults
 use Rattle.sporc_serve.proofs.Stepping.{fed_unless}
 use Rattle.sporc_serve.proofs.session.take_piece.Goals as goal

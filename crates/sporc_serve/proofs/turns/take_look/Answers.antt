@@ -1,6 +1,5 @@
 use Rattle.std.proofs.Common.{[], refl, sym, ◌∙◌, append-nil}
-use Rattle.sporc_turn.specs.Passes.{known_of, known_held, value_of}
-use Rattle.sporc_serve.specs.Logs.{log_of}
+use Rattle.sporc_serve.proofs.Common.{known_of, known_held, value_of, log_of}
 use Rattle.sporc_serve.proofs.Turning.{adds_none, extends_after, held_is}
 use Rattle.sporc_serve.proofs.turns.take_look.Goals as goal
 

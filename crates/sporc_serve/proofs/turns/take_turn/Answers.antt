@@ -1,5 +1,4 @@
-use Rattle.sporc_turn.specs.Passes.{known_of, known_held, value_of}
-use Rattle.sporc_serve.specs.Logs.{log_of, added_of, if_answered}
+use Rattle.sporc_serve.proofs.Common.{known_of, known_held, value_of, log_of, added_of, if_answered}
 use Rattle.sporc_serve.proofs.Turning.{held_is, extends_after, turn_done, turn_worn}
 use Rattle.sporc_serve.proofs.Stepping.{turn_sendable}
 use Rattle.sporc_serve.proofs.turns.take_turn.Goals as goal

@@ -1,8 +1,6 @@
 use Rattle.std.proofs.Common.{◌≡◌, ℕ, List, length, take, ap, ◌∙◌, arith}
-use Rattle.std.proofs.lemmas.List.{take_all}
+use Rattle.sporc_shared.proofs.Common.{take_all, hash_of, state_of}
 use Rattle.sporc_entry.specs.declared.genesis.Genesis.{Genesis}
-use Rattle.sporc_head.specs.History.{hash_of}
-use Rattle.sporc_client.specs.ClientModel.{state_of}
 use Rattle.sporc_shared.proofs.look.look_at.Goals as goal
 
 hash_is : (found opened : Genesis) (entries all : List (List ℕ)) (n : ℕ) (hash : List ℕ) → hash ≡ hash_of found (take n entries) → found ≡ opened → entries ≡ all → n ≡ length entries

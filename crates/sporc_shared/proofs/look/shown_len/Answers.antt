@@ -1,7 +1,6 @@
 use Rattle.std.proofs.Common.{◌≡◌, ◌≤◌, ◌^◌, ℕ, length, ap, ◌∙◌, arith}
+use Rattle.sporc_shared.proofs.Common.{state_of, committed_of, shown_after, shown_of}
 use Rattle.sporc_client.specs.declared.limits.TheConstants.{MAX_PENDING}
-use Rattle.sporc_client.specs.ClientModel.{state_of}
-use Rattle.sporc_client.specs.PlainClient.{committed_of, shown_after, shown_of}
 use Rattle.sporc_shared.proofs.Journals.{shown_last}
 use Rattle.sporc_shared.proofs.Lengths.{shown_short}
 use Rattle.sporc_shared.proofs.look.shown_len.Goals as goal

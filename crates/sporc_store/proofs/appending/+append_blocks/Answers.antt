@@ -1,8 +1,5 @@
 use Rattle.std.proofs.Common.{◌≡◌, ◌++◌, ℕ, List, None, length, refl, sym, ap, ◌∙◌, true, arith, rules}
-use Rattle.std.specs.Prelude.{◌==◌}
-use Rattle.std.proofs.lemmas.List.{nil_from_length}
-use Rattle.std.proofs.lemmas.Bool.Decides.{nat_tests}
-use Rattle.sporc_store.specs.Loading.{accepted_from, AppendsPart}
+use Rattle.sporc_store.proofs.Common.{◌==◌, nil_from_length, nat_tests, accepted_from, AppendsPart}
 use Rattle.sporc_store.proofs.Taking.{ends_empty, goes_behind, if_ok_to, on_err_to}
 use Rattle.sporc_store.proofs.appending.+append_blocks.Goals as goal
 

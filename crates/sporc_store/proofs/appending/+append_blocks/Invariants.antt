@@ -1,5 +1,5 @@
 use Rattle.std.proofs.Common.{length, ◌+◌, ◌*◌}
-use Rattle.std.specs.Prelude.{nat_eq, if◌then◌else◌}
+use Rattle.sporc_store.proofs.Common.{nat_eq, if◌then◌else◌}
 use Rattle.sporc_store.proofs.appending.+append_blocks.Given as goal
 
 -- at first no entry is examined; from then on the front of them is

@@ -1,8 +1,5 @@
 use Rattle.std.proofs.Common.{◌≡◌, ◌++◌, ℕ, List, Option, take, ap₂, ◌∙◌, sym, subst, rules}
-use Rattle.std.specs.Prelude.{IfOk}
-use Rattle.std.proofs.lemmas.List.{take-append-drop}
-use Rattle.sporc_head.specs.declared.examined.Verdict.{Verdict}
-use Rattle.sporc_store.specs.Verdicts.{AreExact}
+use Rattle.sporc_store.proofs.Common.{IfOk, take-append-drop, Verdict, AreExact}
 use Rattle.sporc_store.proofs.Exactly.{exact_both}
 use Rattle.sporc_store.proofs.appending.append_beside.Goals as goal
 

@@ -1,7 +1,5 @@
 use Rattle.std.proofs.Common.{[], None, Some, refl, ◌∙◌, subst, rules}
-use Rattle.std.proofs.lemmas.List.{append-nil}
-use Rattle.sporc_store.specs.SavedFile.{Taken, IsPrefix}
-use Rattle.sporc_store.specs.Loading.{AppendsPart, AppendsSome}
+use Rattle.sporc_store.proofs.Common.{append-nil, Taken, IsPrefix, AppendsPart, AppendsSome}
 use Rattle.sporc_store.proofs.Taking.{ends_refused, ends_whole, from_none, some_of}
 use Rattle.sporc_store.proofs.appending.append_entries.Goals as goal
 

@@ -1,6 +1,5 @@
 use Rattle.std.proofs.Common.{◌≡◌, ◌≤◌, ◌+◌, ◌++◌, ℕ, List, drop, length}
-use Rattle.sporc_store.specs.Loading.{accepted_from}
-use Rattle.sporc_store.specs.declared.stop.Stop.{Stop}
+use Rattle.sporc_store.proofs.Common.{accepted_from, Stop}
 use Rattle.sporc_store.proofs.appending.append_part.Given as goal
 
 abbrev pub invariant-loop-taken : goal.invariant-loop-taken

@@ -1,5 +1,5 @@
 use Rattle.std.proofs.Common.{[]}
-use Rattle.sporc_store.specs.SavedFile.{saved_in}
+use Rattle.sporc_store.proofs.Common.{saved_in}
 use Rattle.sporc_store.proofs.Prefixes.{is_longest, next_refused}
 use Rattle.sporc_store.proofs.laws.longest_accepted_prefix.Goals as goal
 

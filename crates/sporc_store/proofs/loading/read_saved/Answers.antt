@@ -1,5 +1,5 @@
 use Rattle.std.proofs.Common.{◌≡◌, sym, ap, ◌∙◌, subst}
-use Rattle.sporc_store.specs.SavedFile.{Taken, saved_in, IsUnchecked}
+use Rattle.sporc_store.proofs.Common.{Taken, saved_in, IsUnchecked}
 use Rattle.sporc_store.proofs.Taking.{loaded-nobody, saved_unchecked}
 use Rattle.sporc_store.proofs.loading.read_saved.Goals as goal
 

@@ -1,5 +1,5 @@
 use Rattle.std.proofs.Common.{sym, subst, ◌∙◌}
-use Rattle.sporc_store.specs.SavedFile.{IsUnchecked}
+use Rattle.sporc_store.proofs.Common.{IsUnchecked}
 use Rattle.sporc_store.proofs.Taking.{saved_unchecked, stop_opened, stop_unopened}
 use Rattle.sporc_store.proofs.loading.saved_stop.Goals as goal
 

@@ -1,5 +1,5 @@
 use Rattle.std.proofs.Common.{◌≡◌, ◌++◌, ◌∷◌, [], ◌-◌, ◌+◌, ℕ, List, length, length-append, ap, subst, sym, arith, ◌∙◌}
-use Rattle.sporc_store.specs.SavedFile.{read_to, entries_at}
+use Rattle.sporc_store.proofs.Common.{read_to, entries_at}
 use Rattle.sporc_store.proofs.Taking.{read_from, reads_on, reads_cut, reads_behind}
 use Rattle.sporc_store.proofs.reading.counted_entries.Goals as goal
 

@@ -1,5 +1,5 @@
 use Rattle.std.proofs.Common.{◌≡◌, ◌≤◌, ◌-◌, length}
-use Rattle.sporc_store.specs.SavedFile.{entries_at}
+use Rattle.sporc_store.proofs.Common.{entries_at}
 use Rattle.sporc_store.proofs.Taking.{read_from}
 use Rattle.sporc_store.proofs.reading.counted_entries.Given as goal
 

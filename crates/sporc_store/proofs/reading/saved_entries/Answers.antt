@@ -1,6 +1,5 @@
 use Rattle.std.proofs.Common.{◌≡◌, List, ℕ, sym, subst, ap, ◌∙◌}
-use Rattle.std.specs.Prelude.{IfOk}
-use Rattle.sporc_store.specs.SavedFile.{Taken, read_to}
+use Rattle.sporc_store.proofs.Common.{IfOk, Taken, read_to}
 use Rattle.sporc_store.proofs.Taking.{is_opened, is_stopped}
 use Rattle.sporc_store.proofs.reading.saved_entries.Goals as goal
 

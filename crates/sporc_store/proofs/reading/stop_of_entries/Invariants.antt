@@ -1,5 +1,5 @@
 use Rattle.std.proofs.Common.{◌≡◌, ◌-◌}
-use Rattle.sporc_store.specs.SavedFile.{entries_at}
+use Rattle.sporc_store.proofs.Common.{entries_at}
 use Rattle.sporc_store.proofs.reading.stop_of_entries.Given as goal
 
 abbrev pub invariant-loop : goal.invariant-loop

@@ -1,8 +1,7 @@
 use Rattle.std.proofs.Common.{ℕ, length, arith, ap, length-append}
+use Rattle.sporc_store.proofs.Common.{w32, to_be_bytes, counted}
 use Rattle.std.proofs.lemmas.List.Folds.{length-flat_map-take}
 use Rattle.std.specs.Global.{Vec}
-use Rattle.std.specs.Int.{w32, to_be_bytes}
-use Rattle.sporc_bytes.specs.Fields.{counted}
 use Rattle.sporc_store.proofs.saving.put_entries.Goals as goal
 
 pub put_counted-requires : goal.put_counted-requires

@@ -1,6 +1,5 @@
 use Rattle.std.proofs.Common.{◌≡◌, ◌++◌, take}
-use Rattle.std.specs.List.{flat_map}
-use Rattle.sporc_bytes.specs.Fields.{counted}
+use Rattle.sporc_store.proofs.Common.{flat_map, counted}
 use Rattle.sporc_store.proofs.saving.put_entries.Given as goal
 
 abbrev pub invariant-loop-entry : goal.invariant-loop-entry

@@ -1,5 +1,5 @@
 use Rattle.std.proofs.Common.{◌≡◌, Ok, map, sym, ap, ◌∙◌}
-use Rattle.sporc_store.specs.SavedFile.{saved_bytes}
+use Rattle.sporc_store.proofs.Common.{saved_bytes}
 use Rattle.sporc_store.proofs.SavedLengths.{items, is_too_long, is_whole, is_written}
 use Rattle.sporc_store.proofs.saving.save.Goals as goal
 

@@ -1,6 +1,5 @@
 use Rattle.std.proofs.Common.{◌≡◌, ◌+◌, length, take}
-use Rattle.std.specs.List.{flat_map}
-use Rattle.sporc_bytes.specs.Fields.{counted}
+use Rattle.sporc_store.proofs.Common.{flat_map, counted}
 use Rattle.sporc_wire.specs.Messages.{counted_to_end}
 use Rattle.sporc_store.proofs.saving.saved_len.Given as goal
 

@@ -1,7 +1,5 @@
 use Rattle.std.proofs.Common.{◌∙◌, List, ap, subst, sym, ℕ}
-use Rattle.sporc_entry.specs.declared.genesis.Genesis.{Genesis}
-use Rattle.sporc_store.specs.TailBytes.{tail_behind, taken_to}
-use Rattle.sporc_store.specs.TailFiles.{OpensBehind, tail_on}
+use Rattle.sporc_store.proofs.Common.{Genesis, tail_behind, taken_to, OpensBehind, tail_on}
 use Rattle.sporc_store.proofs.TailOpens.{on_err, told_still}
 use Rattle.sporc_store.proofs.TailSettles.{same_stays, settles_with, stays_then}
 use Rattle.sporc_store.proofs.tail_file.begin.Goals as goal

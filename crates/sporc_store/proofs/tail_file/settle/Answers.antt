@@ -1,7 +1,6 @@
 use Rattle.std.proofs.Common.{◌≡◌, Err, ℕ, Ok, length, rules, subst}
+use Rattle.sporc_store.proofs.Common.{taken_to, Cuts, Writes, head_behind}
 use Rattle.sporc_outside.specs.declared.counted.Failed.{Failed}
-use Rattle.sporc_store.specs.TailBytes.{taken_to}
-use Rattle.sporc_store.specs.TailFiles.{Cuts, Writes, head_behind}
 use Rattle.sporc_store.proofs.TailSettles.{settled, uncut}
 use Rattle.sporc_store.proofs.tail_file.settle.Goals as goal
 

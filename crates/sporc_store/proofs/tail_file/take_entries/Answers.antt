@@ -1,6 +1,5 @@
 use Rattle.std.proofs.Common.{List, None, Option, Some, ℕ, subst}
-use Rattle.sporc_store.specs.declared.stop.Stop.{Stop}
-use Rattle.sporc_store.specs.Loading.{AppendsPart, an_order}
+use Rattle.sporc_store.proofs.Common.{Stop, AppendsPart, an_order}
 use Rattle.sporc_store.proofs.TailOpens.{parts_end, refused_at, takes_all}
 use Rattle.sporc_store.proofs.tail_file.take_entries.Goals as goal
 

@@ -1,9 +1,5 @@
 use Rattle.std.proofs.Common.{◌≡◌, ◌-◌, ◌∙◌, ap, Ok, Result, map, subst, sym, arith}
-use Rattle.std.specs.Prelude.{IfErr, IfOk}
-use Rattle.std.proofs.lemmas.List.{drop-map, length-map}
-use Rattle.sporc_store.specs.declared.tail_fault.TailFault.{TailFault}
-use Rattle.sporc_store.specs.declared.tail_head.TheConstants.{TAIL_HEAD_LEN}
-use Rattle.sporc_store.specs.TailBytes.{IsUnread, TailTaken, taken_to}
+use Rattle.sporc_store.proofs.Common.{IfErr, IfOk, drop-map, length-map, TailFault, TAIL_HEAD_LEN, IsUnread, TailTaken, taken_to}
 use Rattle.sporc_store.proofs.TailSteps.{begins_at, slice_from}
 use Rattle.sporc_store.proofs.tail_reading.read_records.Goals as goal
 

@@ -1,6 +1,5 @@
 use Rattle.std.proofs.Common.{◌+◌, ◌-◌, ◌<◌, ap, length, map, Result, subst, arith}
-use Rattle.sporc_store.specs.declared.tail_fault.TailFault.{TailFault}
-use Rattle.sporc_store.specs.TailBytes.{IsUnread, TailTaken, taken_to}
+use Rattle.sporc_store.proofs.Common.{TailFault, IsUnread, TailTaken, taken_to}
 use Rattle.sporc_store.proofs.TailSteps.{ends, goes_on, one_left, stops}
 use Rattle.sporc_store.proofs.tail_reading.records_from.Goals as goal
 

@@ -1,5 +1,5 @@
 use Rattle.std.proofs.Common.{◌≡◌, ◌+◌, ◌-◌, ◌≤◌, length, map}
-use Rattle.sporc_store.specs.TailBytes.{records_behind}
+use Rattle.sporc_store.proofs.Common.{records_behind}
 use Rattle.sporc_store.proofs.TailSteps.{taken_from}
 use Rattle.sporc_store.proofs.tail_reading.records_from.Given as goal
 

@@ -1,5 +1,5 @@
 use Rattle.std.proofs.Common.{take}
-use Rattle.sporc_store.specs.Verdicts.{AreExact}
+use Rattle.sporc_store.proofs.Common.{AreExact}
 use Rattle.sporc_store.proofs.workers.examine_part.Given as goal
 
 abbrev pub invariant-loop-i : goal.invariant-loop-i

@@ -1,5 +1,5 @@
 use Rattle.std.proofs.Common.{ℕ, List, get_or, None, sym, subst}
-use Rattle.std.specs.Prelude.{IfSome}
+use Rattle.sporc_store.proofs.Common.{IfSome}
 use Rattle.sporc_head.specs.Examined.{IsExact}
 use Rattle.sporc_store.proofs.Exactly.{exact_first}
 use Rattle.sporc_store.proofs.workers.tell.Goals as goal

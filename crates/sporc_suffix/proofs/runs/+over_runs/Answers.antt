@@ -1,6 +1,5 @@
 use Rattle.std.proofs.Common.{◌≡◌, ◌<◌, ◌+◌, ◌-◌, ◌/◌, ◌%◌, suc, drop, refl, arith}
-use Rattle.sporc_suffix.specs.Forms.{later_over}
-use Rattle.sporc_suffix.specs.Runs.{forms_in, runs_of}
+use Rattle.sporc_suffix.proofs.Common.{later_over, forms_in, runs_of}
 use Rattle.sporc_suffix.proofs.Composed.{length-pairs, few_left}
 use Rattle.sporc_suffix.proofs.Kept.{halves, two_more}
 use Rattle.sporc_suffix.proofs.runs.+over_runs.Goals as goal

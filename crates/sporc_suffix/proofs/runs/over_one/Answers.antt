@@ -1,7 +1,5 @@
 use Rattle.std.proofs.Common.{[], List, ap, sym, subst, ◌∙◌, arith}
-use Rattle.sporc_delta.specs.Marks.{Mark}
-use Rattle.sporc_suffix.specs.Forms.{Fits, later_over}
-use Rattle.sporc_suffix.specs.Runs.{forms_in, runs_of}
+use Rattle.sporc_suffix.proofs.Common.{Mark, Fits, later_over, forms_in, runs_of}
 use Rattle.sporc_suffix.proofs.Kept.{one_place}
 use Rattle.sporc_suffix.proofs.Passing.{passes}
 use Rattle.sporc_suffix.proofs.runs.over_one.Goals as goal

@@ -1,6 +1,5 @@
 use Rattle.std.proofs.Common.{sym, ◌∙◌, arith}
-use Rattle.std.proofs.lemmas.List.{length-map}
-use Rattle.sporc_suffix.specs.Runs.{ReadyModel, forms_in}
+use Rattle.sporc_suffix.proofs.Common.{length-map, ReadyModel, forms_in}
 use Rattle.sporc_suffix.proofs.Kept.{ends_within, form_kept, run_kept}
 use Rattle.sporc_suffix.proofs.runs.run_at.Goals as goal
 

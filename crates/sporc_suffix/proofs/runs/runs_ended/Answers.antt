@@ -1,8 +1,5 @@
 use Rattle.std.proofs.Common.{◌≡◌, ◌-◌, ◌∷◌, ◌++◌, ℕ, [], suc, Some, get_or, length, ap, refl, sym, ◌∙◌, arith}
-use Rattle.std.specs.List.{slice_get}
-use Rattle.std.proofs.lemmas.List.{length-append, length-map}
-use Rattle.sporc_delta.specs.Transforms.{compose}
-use Rattle.sporc_suffix.specs.Runs.{ReadyModel, forms_in, runs_of}
+use Rattle.sporc_suffix.proofs.Common.{slice_get, length-append, length-map, compose, ReadyModel, forms_in, runs_of}
 use Rattle.sporc_suffix.proofs.Composed.{length-pairs, few_left}
 use Rattle.sporc_suffix.proofs.Kept.{ended_more, ended_all, next_follow}
 use Rattle.sporc_suffix.proofs.runs.runs_ended.Goals as goal

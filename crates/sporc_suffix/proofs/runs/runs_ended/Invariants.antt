@@ -1,5 +1,5 @@
 use Rattle.std.proofs.Common.{◌≡◌, ◌+◌, ◌≤◌, length}
-use Rattle.sporc_suffix.specs.Runs.{forms_in, runs_of}
+use Rattle.sporc_suffix.proofs.Common.{forms_in, runs_of}
 use Rattle.sporc_suffix.proofs.Kept.{Ended}
 use Rattle.sporc_suffix.proofs.runs.runs_ended.Given as goal
 

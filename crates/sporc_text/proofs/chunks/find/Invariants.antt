@@ -1,5 +1,5 @@
 use Rattle.std.proofs.Common.{◌≡◌, ◌+◌, length, take}
-use Rattle.std.specs.List.{concat}
+use Rattle.sporc_text.proofs.Common.{concat}
 use Rattle.sporc_text.proofs.chunks.find.Given as goal
 
 abbrev pub invariant-loop-i : goal.invariant-loop-i

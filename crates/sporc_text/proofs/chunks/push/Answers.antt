@@ -1,6 +1,5 @@
 use Rattle.std.proofs.Common.{ℕ, ◌-◌, List, ◌++◌, length, set, ap, sym, ◌∙◌, arith}
-use Rattle.std.proofs.lemmas.Bool.{false≢true}
-use Rattle.sporc_text.specs.Chunks.{Joins}
+use Rattle.sporc_text.proofs.Common.{false≢true, Joins}
 use Rattle.sporc_text.proofs.ChunkLemmas.{AreJoined, few_chunks, joined, pushed}
 use Rattle.sporc_text.proofs.chunks.push.Goals as goal
 

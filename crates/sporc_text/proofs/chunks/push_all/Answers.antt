@@ -1,8 +1,5 @@
 use Rattle.std.proofs.Common.{ℕ, List, ◌++◌, length, take, ap, sym, ◌∙◌, append_assoc, arith, length-append, length-drop, option_to_list}
-use Rattle.std.proofs.lemmas.Bool.{eqb-false}
-use Rattle.std.proofs.lemmas.List.{take-append-drop}
-use Rattle.std.specs.List.{concat}
-use Rattle.sporc_text.specs.declared.limits.TheConstants.{MAX_CHUNK}
+use Rattle.sporc_text.proofs.Common.{eqb-false, take-append-drop, concat, MAX_CHUNK}
 use Rattle.sporc_text.proofs.chunks.push_all.Goals as goal
 
 pub push_first-left-requires-clause-room : goal.push_first-left-requires-clause-room

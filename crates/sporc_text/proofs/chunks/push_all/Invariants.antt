@@ -1,7 +1,5 @@
 use Rattle.std.proofs.Common.{◌≡◌, ◌*◌, ◌≤◌, ◌++◌, length, vec_capacity, vec_len}
-use Rattle.std.specs.List.{concat}
-use Rattle.sporc_text.specs.Chunks.{AreChunks}
-use Rattle.sporc_text.specs.declared.limits.TheConstants.{MAX_CHUNK}
+use Rattle.sporc_text.proofs.Common.{concat, AreChunks, MAX_CHUNK}
 use Rattle.sporc_text.proofs.chunks.push_all.Given as goal
 
 abbrev pub invariant-loop-left : goal.invariant-loop-left

@@ -1,5 +1,5 @@
 use Rattle.std.proofs.Common.{◌≡◌, drop}
-use Rattle.std.specs.Vec.Iter.{into_iter_items}
+use Rattle.sporc_text.proofs.Common.{into_iter_items}
 use Rattle.sporc_text.proofs.chunks.push_behind.Given as goal
 
 abbrev pub invariant-loop : goal.invariant-loop

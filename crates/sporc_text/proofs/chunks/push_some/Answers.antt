@@ -1,6 +1,5 @@
 use Rattle.std.proofs.Common.{take, length, ap, arith, length-append}
-use Rattle.std.specs.List.{concat}
-use Rattle.std.specs.Vec.Iter.{into_iter_items}
+use Rattle.sporc_text.proofs.Common.{concat, into_iter_items}
 use Rattle.sporc_text.proofs.MoveLemmas.{length-take-fewer, more_moved}
 use Rattle.sporc_text.proofs.chunks.push_some.Goals as goal
 

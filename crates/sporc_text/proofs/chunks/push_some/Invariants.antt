@@ -1,5 +1,5 @@
 use Rattle.std.proofs.Common.{vec_capacity}
-use Rattle.std.specs.Vec.Iter.{into_iter_items}
+use Rattle.sporc_text.proofs.Common.{into_iter_items}
 use Rattle.sporc_text.proofs.MoveLemmas.{AreMoved}
 use Rattle.sporc_text.proofs.chunks.push_some.Given as goal
 

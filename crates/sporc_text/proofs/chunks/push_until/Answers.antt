@@ -1,6 +1,5 @@
 use Rattle.std.proofs.Common.{ℕ, List, [], ◌++◌, take, drop, get_or, ap, ◌∙◌, append_assoc}
-use Rattle.std.specs.List.{concat}
-use Rattle.std.specs.Vec.Iter.{into_iter_items}
+use Rattle.sporc_text.proofs.Common.{concat, into_iter_items}
 use Rattle.sporc_text.proofs.MoveLemmas.{drop-next, get_or-drop}
 use Rattle.sporc_text.proofs.chunks.push_until.Goals as goal
 

@@ -1,8 +1,5 @@
 use Rattle.std.proofs.Common.{◌≡◌, ℕ, ◌+◌, ◌-◌, List, [], ◌++◌, length, take, drop, get_or, refl, ap, ◌∙◌, subst, vec_capacity, arith, length-append}
-use Rattle.std.specs.List.{concat}
-use Rattle.std.specs.Vec.Iter.{into_iter_items}
-use Rattle.sporc_text.specs.Chunks.{IsAt}
-use Rattle.sporc_text.specs.ReadyTextModel.{replaced}
+use Rattle.sporc_text.proofs.Common.{concat, into_iter_items, IsAt, replaced}
 use Rattle.sporc_text.proofs.MoveLemmas.{rebuilt_value, slice_from}
 use Rattle.sporc_text.proofs.chunks.rebuild.Goals as goal
 use Rattle.sporc_text.proofs.chunks.rebuild.Goals.{After-push_behind-arg-1}

@@ -1,5 +1,5 @@
 use Rattle.std.proofs.Common.{ap, ◌∙◌}
-use Rattle.sporc_text.specs.ReadyTextModel.{replaced}
+use Rattle.sporc_text.proofs.Common.{replaced}
 use Rattle.sporc_text.proofs.MoveLemmas.{rewritten_within}
 use Rattle.sporc_text.proofs.chunks.replace_within.Goals as goal
 

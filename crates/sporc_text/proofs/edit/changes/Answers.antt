@@ -1,4 +1,4 @@
-use Rattle.sporc_delta.specs.Parts.{marks_of}
+use Rattle.sporc_text.proofs.Common.{marks_of}
 use Rattle.sporc_text.proofs.EditLemmas.{between}
 use Rattle.sporc_text.proofs.edit.changes.Goals as goal
 

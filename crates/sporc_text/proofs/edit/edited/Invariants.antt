@@ -1,7 +1,5 @@
 use Rattle.std.proofs.Common.{◌++◌, drop}
-use Rattle.std.specs.List.{concat}
-use Rattle.sporc_delta.specs.Marks.{apply}
-use Rattle.sporc_delta.specs.Parts.{marks_of}
+use Rattle.sporc_text.proofs.Common.{concat, apply, marks_of}
 use Rattle.sporc_text.proofs.EditLemmas.{IsEditedTo}
 use Rattle.sporc_text.proofs.edit.edited.Given as goal
 

@@ -1,5 +1,5 @@
 use Rattle.std.proofs.Common.{◌≡◌, ◌++◌, take, drop}
-use Rattle.std.specs.List.{concat}
+use Rattle.sporc_text.proofs.Common.{concat}
 use Rattle.sporc_text.proofs.edit.push_kept.Given as goal
 
 abbrev pub invariant-loop-chunk : goal.invariant-loop-chunk

@@ -1,5 +1,5 @@
 use Rattle.std.proofs.Common.{[], ◌∷◌, ◌++◌, ap, ◌∙◌}
-use Rattle.sporc_delta.specs.Parts.{marks_of}
+use Rattle.sporc_text.proofs.Common.{marks_of}
 use Rattle.sporc_delta.specs.declared.part.Part.{Part}
 use Rattle.sporc_text.proofs.EditLemmas.{marks_of-keep}
 use Rattle.sporc_text.proofs.edit.without_last_keep.Goals as goal

@@ -2,4 +2,4 @@ use Rattle.sporc_top.proofs.Outcomes.{on_fault_line}
 use Rattle.sporc_top.proofs.laws.fault_lines_are_told.Goals as goal
 
 pub returns : goal.returns
-returns g c = λ words outside status text line outcome play tells within is. on_fault_line _ words outside status outcome text play tells line within is
+returns g c = λ text did status play within line is. on_fault_line _ play.words did status play.outcome text play.asks play.told line within is

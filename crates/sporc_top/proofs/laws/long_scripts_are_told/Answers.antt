@@ -2,4 +2,4 @@ use Rattle.sporc_top.proofs.Outcomes.{on_long}
 use Rattle.sporc_top.proofs.laws.long_scripts_are_told.Goals as goal
 
 pub returns : goal.returns
-returns g c = λ words outside status text outcome play tells above. on_long _ words outside status outcome text play tells above
+returns g c = λ text did status play above. on_long _ play.words did status play.outcome text play.asks play.told above

@@ -3,4 +3,4 @@ use Rattle.sporc_top.proofs.Outcomes.{on_done}
 use Rattle.sporc_top.proofs.laws.plays_agree.Goals as goal
 
 pub returns : goal.returns
-returns g c = λ words outside text outcome play tells. on_done _ words outside 0 outcome text play tells refl
+returns g c = λ words did outcome play text tells. on_done _ words did 0 outcome text play tells refl

@@ -1,5 +1,5 @@
 use Rattle.std.proofs.Common.{◌<◌, List, ℕ, rules, subst}
-use Rattle.std.specs.List.{slice_index}
+use Rattle.sporc_wire.proofs.Common.{slice_index}
 use Rattle.sporc_wire.proofs.cutter.bytes_of.Goals as goal
 
 pub returns-clause-fits : goal.returns-clause-fits

@@ -1,5 +1,5 @@
 use Rattle.std.proofs.Common.{◌≡◌, Ok, sym, ap, ◌∙◌}
-use Rattle.sporc_wire.specs.Stream.{too_long}
+use Rattle.sporc_wire.proofs.Common.{too_long}
 use Rattle.sporc_wire.proofs.Cuts.{head_of}
 use Rattle.sporc_wire.proofs.Decoding.{Says, says, says_ours, says_fits, says_same, says_front, says_err, same_length, no_length}
 use Rattle.sporc_wire.proofs.cutter.take_body.Goals as goal

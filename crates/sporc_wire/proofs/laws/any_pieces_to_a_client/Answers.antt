@@ -1,5 +1,4 @@
-use Rattle.sporc_wire.specs.Messages.{stream_of}
-use Rattle.sporc_wire.specs.ToClient.{to_client_of}
+use Rattle.sporc_wire.proofs.Common.{stream_of, to_client_of}
 use Rattle.sporc_wire.proofs.Readings.{HandsOut-fed, HandsOut-next, next_stays}
 use Rattle.sporc_wire.proofs.laws.any_pieces_to_a_client.Goals as goal
 

@@ -1,5 +1,4 @@
-use Rattle.sporc_wire.specs.Messages.{stream_of}
-use Rattle.sporc_wire.specs.ToServer.{to_server_of}
+use Rattle.sporc_wire.proofs.Common.{stream_of, to_server_of}
 use Rattle.sporc_wire.proofs.Readings.{HandsOut-fed, HandsOut-next, next_stays}
 use Rattle.sporc_wire.proofs.laws.any_pieces_to_a_server.Goals as goal
 

@@ -1,5 +1,4 @@
-use Rattle.sporc_wire.specs.ToServer.{to_server_of}
-use Rattle.sporc_wire.specs.ToClient.{to_client_of}
+use Rattle.sporc_wire.proofs.Common.{to_server_of, to_client_of}
 use Rattle.sporc_wire.proofs.Readings.{one_reading}
 use Rattle.sporc_wire.proofs.laws.one_reading.Goals as goal
 

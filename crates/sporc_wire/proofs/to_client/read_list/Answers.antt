@@ -1,6 +1,6 @@
 use Rattle.std.proofs.Common.{ap, ◌-◌, ◌^◌}
+use Rattle.sporc_wire.proofs.Common.{counted_at, fault_as, values_at}
 use Rattle.std.proofs.lemmas.Result.{err_from_is_err_and}
-use Rattle.sporc_bytes.specs.Fields.{counted_at, fault_as, values_at}
 use Rattle.sporc_bytes.proofs.Lists.{goes_on, ends, is_done}
 use Rattle.sporc_wire.specs.declared.message.BodyFault.TheVariants.{Bad}
 use Rattle.sporc_wire.proofs.to_client.read_list.Goals as goal
@@ -8,12 +8,12 @@ use Rattle.sporc_wire.proofs.to_client.read_list.Goals as goal
 pub returns-in_err-entry : goal.returns-in_err-entry
 returns-in_err-entry c =
     let p = err_from_is_err_and c.from_residual-in_err-entry.result c.from_residual-in_err-entry.ensures.1 in
-    rw (p.1, p.2) (λ _. ap (fault_as Bad) (ends (counted_at (2 ^ 32 - 1)) c.loop.entries.items c.args.count c.loop.counter c.loop.cursor c.in_err-entry.field-0.0.0 (values_at (counted_at (2 ^ 32 - 1)) c.args.count c.args.cursor.now) c.loop-test.true c.in_err-entry.ensures.err c.loop.invariant))
+    rw (p.1, p.2) (λ _. ap (fault_as Bad) (ends (counted_at (2 ^ 32 - 1)) c.loop.entries c.args.count c.loop.counter c.loop.cursor c.in_err-entry.field-0.0.0 (values_at (counted_at (2 ^ 32 - 1)) c.args.count c.args.cursor.now) c.loop-test.true c.in_err-entry.ensures.err c.loop.invariant))
 
 pub loop-preserved : goal.loop-preserved
 loop-preserved c =
     let read = c.in_ok-entry.ensures.ok in
-    rw (c.in_ok-push.ensures.items, c.in_ok-copy.ensures.ok) (goes_on (counted_at (2 ^ 32 - 1)) c.loop.entries.items c.args.count c.loop.counter c.loop.cursor c.in_ok-entry.entry.now _ (values_at (counted_at (2 ^ 32 - 1)) c.args.count c.args.cursor.now) c.loop-test.true read c.loop.invariant)
+    rw (c.in_ok-push.ensures.ok, c.in_ok-copy.ensures.items) (goes_on (counted_at (2 ^ 32 - 1)) c.loop.entries c.args.count c.loop.counter c.loop.cursor c.in_ok-entry.entry.now _ (values_at (counted_at (2 ^ 32 - 1)) c.args.count c.args.cursor.now) c.loop-test.true read c.loop.invariant)
 
 pub returns : goal.returns
-returns c = ap (fault_as Bad) (is_done (counted_at (2 ^ 32 - 1)) c.loop.entries.items c.args.count c.loop.counter c.loop.cursor (values_at (counted_at (2 ^ 32 - 1)) c.args.count c.args.cursor.now) c.loop-test.false c.loop.invariant)
+returns c = ap (fault_as Bad) (is_done (counted_at (2 ^ 32 - 1)) c.loop.entries c.args.count c.loop.counter c.loop.cursor (values_at (counted_at (2 ^ 32 - 1)) c.args.count c.args.cursor.now) c.loop-test.false c.loop.invariant)

@@ -1,6 +1,5 @@
 use Rattle.std.proofs.Common.{◌≡◌, ◌++◌}
-use Rattle.sporc_delta.specs.Parts.{owned, part_marks}
-use Rattle.sporc_delta.specs.Transforms.{compose}
+use Rattle.sporc_xform.proofs.Common.{owned, part_marks, compose}
 use Rattle.sporc_xform.proofs.Composing.{Composed-start, Composed-room}
 use Rattle.sporc_xform.proofs.composition.compose.Goals as goal
 

@@ -1,5 +1,5 @@
 use Rattle.std.proofs.Common.{◌+◌, length}
-use Rattle.sporc_delta.specs.Transforms.{compose}
+use Rattle.sporc_xform.proofs.Common.{compose}
 use Rattle.sporc_xform.proofs.Composing.{Composed}
 use Rattle.sporc_xform.proofs.composition.compose.Given as goal
 

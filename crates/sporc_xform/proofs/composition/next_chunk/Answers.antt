@@ -1,5 +1,5 @@
 use Rattle.std.proofs.Common.{◌≡◌, ◌<◌, min, take, arith, ap, sym, ◌∙◌}
-use Rattle.sporc_xform.specs.Left.{first_len, first_text, without}
+use Rattle.sporc_xform.proofs.Common.{first_len, first_text, without}
 use Rattle.sporc_xform.proofs.Composing.{take_second, take_removal, take_through, no_chunk}
 use Rattle.sporc_xform.proofs.composition.next_chunk.Goals as goal
 

@@ -1,7 +1,5 @@
 use Rattle.std.proofs.Common.{ℕ, ◌+◌, ◌≤◌, subst, sym}
-use Rattle.sporc_delta.specs.Marks.{base_len}
-use Rattle.sporc_delta.specs.Shifts.{kept_first, kept_last}
-use Rattle.sporc_xform.specs.Restating.{IsMoved}
+use Rattle.sporc_xform.proofs.Common.{base_len, kept_first, kept_last, IsMoved}
 use Rattle.sporc_xform.proofs.Apart.{later_first_meets, later_keeps_more, later_last_moves, later_moves, not_apart}
 use Rattle.sporc_xform.proofs.restating.shift_later.Goals as goal
 

@@ -1,5 +1,5 @@
 use Rattle.std.proofs.Common.{◌≡◌, ◌<◌, min, take, arith, ap, sym, ◌∙◌}
-use Rattle.sporc_xform.specs.Left.{first_len, first_text, without}
+use Rattle.sporc_xform.proofs.Common.{first_len, first_text, without}
 use Rattle.sporc_xform.proofs.Steps.{earlier_text, later_text, text_base, both_runs, no_steps}
 use Rattle.sporc_xform.proofs.side_by_side.next_run.Goals as goal
 

@@ -1,5 +1,4 @@
-use Rattle.sporc_delta.specs.Transforms.{earlier, earlier_step}
-use Rattle.sporc_xform.specs.Runs.{run_steps}
+use Rattle.sporc_xform.proofs.Common.{earlier, earlier_step, run_steps}
 use Rattle.sporc_xform.proofs.Restated.{Restates-start, Restates-run, earlier_no_more}
 use Rattle.sporc_xform.proofs.transform.earlier.Goals as goal
 

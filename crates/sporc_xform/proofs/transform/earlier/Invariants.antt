@@ -1,5 +1,5 @@
 use Rattle.std.proofs.Common.{length}
-use Rattle.sporc_delta.specs.Transforms.{earlier, earlier_step}
+use Rattle.sporc_xform.proofs.Common.{earlier, earlier_step}
 use Rattle.sporc_xform.proofs.Restated.{Restates}
 use Rattle.sporc_xform.proofs.transform.earlier.Given as goal
 

@@ -1,5 +1,4 @@
-use Rattle.sporc_delta.specs.Transforms.{later, later_step}
-use Rattle.sporc_xform.specs.Runs.{run_steps}
+use Rattle.sporc_xform.proofs.Common.{later, later_step, run_steps}
 use Rattle.sporc_xform.proofs.Restated.{Restates-start, Restates-run, later_no_more}
 use Rattle.sporc_xform.proofs.transform.later.Goals as goal
 

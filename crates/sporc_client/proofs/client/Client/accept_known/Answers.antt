@@ -1,22 +1,17 @@
-use Rattle.std.proofs.Common.{◌≡◌, ◌++◌, ◌∷◌, [], ℕ, List, length, ap, sym, ◌∙◌}
+use Rattle.std.proofs.Common.{◌≡◌, ◌++◌, ◌∷◌, [], ℕ, List, length, ap, ◌∙◌}
+use Rattle.sporc_client.proofs.Common.{first_fault, LineModel, accept_fault, or_full, journal_has_room, refusal_of, plain_of, ClientModel, state_of, Accept}
 use Rattle.std.proofs.lemmas.Result.{err_from_is_err_and}
-use Rattle.sporc_line.specs.LineChecks.{first_fault}
-use Rattle.sporc_line.specs.LineModel.{LineModel}
-use Rattle.sporc_client.specs.Answers.{accept_fault, or_full, journal_has_room, refusal_of}
-use Rattle.sporc_client.specs.ClientInvariant.{plain_of}
-use Rattle.sporc_client.specs.ClientModel.{ClientModel, state_of}
-use Rattle.sporc_client.specs.Log.{Accept}
-use Rattle.sporc_client.proofs.Comings.{SameLine, accept_fault_is, accept_model, accept_recorded, accept_room, can_settle, more_with, no_more, prepared_there, same_fields, same_model}
+use Rattle.sporc_client.proofs.Checked.{accept_room}
+use Rattle.sporc_client.proofs.Comings.{SameLine, accept_fault_is, accept_model, accepted_there, can_settle, more_with, no_more, prepared_there, same_fields, same_model}
 use Rattle.sporc_client.proofs.Logs.{events_logged}
+use Rattle.sporc_client.proofs.Kept.{state_is}
 use Rattle.sporc_client.proofs.client.Client.accept_known.Goals as goal
 
 pub returns-in_err-prepared-clause-fault : goal.returns-in_err-prepared-clause-fault
 returns-in_err-prepared-clause-fault g c =
-    let inside = c.self.inside in
-    let plain = plain_of inside.signer.key inside.line inside.own in
-    let state : state_of c.args.self.now ≡ plain = ap state_of (sym c.self.view_is) ∙ sym c.self.invariant.state in
+    let plain = plain_of c.self.inside.signer.key c.self.inside.line c.self.inside.own in
     let is : accept_fault (state_of c.args.self.now) c.args.pos c.args.bytes.now ≡ or_full (journal_has_room plain) (refusal_of plain c.args.pos c.args.bytes.now) =
-    ap (λ p. accept_fault p c.args.pos c.args.bytes.now) state ∙ accept_fault_is plain c.args.pos c.args.bytes.now in
+    ap (λ p. accept_fault p c.args.pos c.args.bytes.now) (state_is c.self.invariant c.self.view_is) ∙ accept_fault_is plain c.args.pos c.args.bytes.now in
     let p = err_from_is_err_and c.from_residual.result c.from_residual.ensures.1 in
     rw (p.1, p.2) (λ other. is ∙ c.in_err-prepared.ensures.fault other)
 
@@ -28,22 +23,21 @@ take_entry-requires g c =
     let room = accept_room (length inside.own.shown) (first_fault inside.line.genesis inside.line.kit inside.line.entries c.args.pos c.args.bytes.now) did.fault in
     record {
       bytes = did.bytes;
-      prepared = prepared_there inside.line c.check_entry.new.line inside.signer inside.ticket inside.own c.self.invariant c.in_ok-prepared.prepared lines did.prepared;
+      prepared = prepared_there c.self.invariant c.check_entry.new.line c.in_ok-prepared.prepared lines did.prepared;
       room = did.room;
-      settles = can_settle inside.line inside.signer inside.ticket inside.own c.self.invariant c.in_ok-prepared.prepared did.prepared room;
+      settles = can_settle c.self.invariant c.in_ok-prepared.prepared did.prepared room;
     }
 
 pub invariant_of-self-in_err-take_entry : goal.invariant_of-self-in_err-take_entry
 invariant_of-self-in_err-take_entry g c =
-    let inside = c.self.inside in
     let did = c.in_ok-prepared.ensures in
     let same = c.in_err-take_entry.ensures.line_unchanged in
-    let lines : SameLine inside.line c.take_entry.new.line = record {
+    let lines : SameLine c.self.inside.line c.take_entry.new.line = record {
       genesis = ap (λ (l : LineModel). l.genesis) same ∙ did.genesis;
       kit = ap (λ (l : LineModel). l.kit) same ∙ did.kit;
       entries = ap (λ (l : LineModel). l.entries) same ∙ did.entries;
     } in
-    same_fields inside.line inside.signer inside.ticket inside.own c.self.invariant c.take_entry.new.line c.take_entry.new.own lines c.in_err-take_entry.ensures.unchanged
+    same_fields c.self.invariant c.take_entry.new.line c.take_entry.new.own lines c.in_err-take_entry.ensures.unchanged
 
 pub returns-in_err-take_entry-clause-log : goal.returns-in_err-take_entry-clause-log
 returns-in_err-take_entry-clause-log g c =
@@ -64,14 +58,11 @@ invariant_of-self-2 g c =
     let did = c.in_ok-prepared.ensures in
     let lines : SameLine inside.line c.check_entry.new.line = record { genesis = did.genesis; kit = did.kit; entries = did.entries } in
     let room = accept_room (length inside.own.shown) (first_fault inside.line.genesis inside.line.kit inside.line.entries c.args.pos c.args.bytes.now) did.fault in
-    (accept_recorded inside.line c.check_entry.new.line inside.signer inside.ticket inside.own c.self.invariant c.in_ok-prepared.prepared lines did.prepared c.take_entry.new.line c.take_entry.new.own c.args.by room c.in_ok-take_entry.ensures.ok).invariant
+    (accepted_there c.self.invariant c.check_entry.new.line c.in_ok-prepared.prepared lines did.prepared c.take_entry.new.line c.take_entry.new.own c.args.by room c.in_ok-take_entry.ensures.ok).invariant
 
 pub returns-clause-fault : goal.returns-clause-fault
 returns-clause-fault g c =
-    let inside = c.self.inside in
-    let plain = plain_of inside.signer.key inside.line inside.own in
-    let state : state_of c.args.self.now ≡ plain = ap state_of (sym c.self.view_is) ∙ sym c.self.invariant.state in
-    ap (λ p. accept_fault p c.args.pos c.args.bytes.now) state ∙ accept_fault_is plain c.args.pos c.args.bytes.now ∙ c.in_ok-prepared.ensures.fault
+    ap (λ p. accept_fault p c.args.pos c.args.bytes.now) (state_is c.self.invariant c.self.view_is) ∙ accept_fault_is (plain_of c.self.inside.signer.key c.self.inside.line c.self.inside.own) c.args.pos c.args.bytes.now ∙ c.in_ok-prepared.ensures.fault
 
 pub returns-clause-ok : goal.returns-clause-ok
 returns-clause-ok g c = events_logged c.take_entry.new.line.entries c.take_entry.new.own.journal c.journal.result.now c.journal.ensures.value
@@ -83,6 +74,6 @@ returns-clause-log g c =
     let lines : SameLine inside.line c.check_entry.new.line = record { genesis = did.genesis; kit = did.kit; entries = did.entries } in
     let room = accept_room (length inside.own.shown) (first_fault inside.line.genesis inside.line.kit inside.line.entries c.args.pos c.args.bytes.now) did.fault in
     let M : ClientModel g.row.D.Denot → ClientModel g.row.D.Denot = λ m. record m { log = m.log ++ Accept c.args.by c.args.bytes.now ∷ [] } in
-    accept_model inside.line c.check_entry.new.line inside.signer inside.ticket inside.own c.self.invariant c.in_ok-prepared.prepared lines did.prepared c.take_entry.new.line c.take_entry.new.own c.args.by room c.in_ok-take_entry.ensures.ok
+    accept_model c.self.invariant c.check_entry.new.line c.in_ok-prepared.prepared lines did.prepared c.take_entry.new.line c.take_entry.new.own c.args.by room c.in_ok-take_entry.ensures.ok
     ∙ ap (λ (b : List ℕ). more_with inside.line inside.signer inside.ticket inside.own (Accept c.args.by b)) did.bytes
     ∙ ap M c.self.view_is

@@ -1,37 +1,26 @@
-use Rattle.std.proofs.Common.{rules, ◌≡◌, List, [], ◌∷◌, ◌++◌, Some, refl, ap, sym, ◌∙◌, arith}
-use Rattle.sporc_delta.specs.Marks.{Mark, keep_marks}
-use Rattle.sporc_client.specs.Answers.{change_fault}
-use Rattle.sporc_client.specs.ClientInvariant.{plain_of}
-use Rattle.sporc_client.specs.ClientModel.{state_of}
-use Rattle.sporc_client.specs.Log.{Change}
-use Rattle.sporc_client.specs.Step.{keeps}
+use Rattle.std.proofs.Common.{rules, ◌≡◌, List, [], ◌∷◌, ◌++◌, Some, refl, ap, ◌∙◌, arith}
+use Rattle.sporc_client.proofs.Common.{Mark, keep_marks, change_fault, plain_of, state_of, Change, keeps}
 use Rattle.sporc_client.proofs.Checked.{change_fault_is, change_passed}
 use Rattle.sporc_client.proofs.Comings.{no_more, same_fields, same_line, same_model}
-use Rattle.sporc_client.proofs.Events.{change_records, length_of_shown, shown_length}
-use Rattle.sporc_client.proofs.Kept.{recorded}
+use Rattle.sporc_client.proofs.Events.{change_recorded, length_of_shown, shown_length}
 use Rattle.sporc_client.proofs.Logs.{events_logged}
+use Rattle.sporc_client.proofs.Kept.{state_is}
 use Rattle.sporc_client.proofs.client.Client.change.Goals as goal
 
 pub returns-in_err-check_change-clause-fault : goal.returns-in_err-check_change-clause-fault
 returns-in_err-check_change-clause-fault g c =
-    let plain = plain_of c.self.inside.signer.key c.self.inside.line c.self.inside.own in
-    let state : state_of c.args.self.now ≡ plain = ap state_of (sym c.self.view_is) ∙ sym c.self.invariant.state in
     let fault : change_fault (state_of c.args.self.now) ≡ Some c.in_err-check_change.field-0.0 =
-    ap change_fault state ∙ change_fault_is plain ∙ c.in_err-check_change.ensures.fault c.self.inside.signer.key in
+    ap change_fault (state_is c.self.invariant c.self.view_is) ∙ change_fault_is (plain_of c.self.inside.signer.key c.self.inside.line c.self.inside.own) ∙ c.in_err-check_change.ensures.fault c.self.inside.signer.key in
     rw fault (search rules)
 
 pub returns-in_err-check_change-clause-log : goal.returns-in_err-check_change-clause-log
 returns-in_err-check_change-clause-log g c = no_more c.from_residual.result (Change c.args.by c.args.change) c.args.self.now c.args.self.now c.from_residual.ensures.0 refl
 
 pub ready_keep-requires : goal.ready_keep-requires
-ready_keep-requires g c =
-    let inside = c.self.inside in
-    record { follow = c.self.invariant.sound.follow; limit = omega (arith, shown_length inside.line inside.signer inside.ticket inside.own c.self.invariant) }
+ready_keep-requires g c = record { follow = c.self.invariant.sound.follow; limit = omega (arith, shown_length c.self.invariant) }
 
 pub invariant_of-self : goal.invariant_of-self
-invariant_of-self g c =
-    let inside = c.self.inside in
-    same_fields inside.line inside.signer inside.ticket inside.own c.self.invariant inside.line c.ready_keep.new.own same_line c.in_err-ready.ensures.unchanged
+invariant_of-self g c = same_fields c.self.invariant c.self.inside.line c.ready_keep.new.own same_line c.in_err-ready.ensures.unchanged
 
 pub returns-in_err-ready-clause-log : goal.returns-in_err-ready-clause-log
 returns-in_err-ready-clause-log g c =
@@ -55,16 +44,13 @@ invariant_of-self-2 g c =
     let checks = c.in_ok-check_change.ensures.fault signer.key in
     let recorded_item = c.record_item.ensures in
     let ready = c.in_ok-ready.ensures.unchanged in
-    let form : c.in_ok-ready.ready.form ≡ keeps (plain_of signer.key line own) = c.in_ok-ready.ensures.ok ∙ ap keep_marks (length_of_shown line signer inside.ticket own known) in
-    let did = change_records line signer inside.ticket own known c.record_item.new.self c.args.by c.args.change checks
-    (rw ready.pending at recorded_item.pending) (recorded_item.flight ∙ ready.flight) (recorded_item.shown ∙ ap (λ (fs : List (List Mark)). fs ++ c.in_ok-ready.ready.form ∷ []) ready.shown ∙ ap (λ (f : List Mark). own.shown ++ f ∷ []) form) (rw ready.journal at recorded_item.journal) in
-    (recorded line line signer signer inside.ticket inside.ticket own c.record_item.new.self (Change c.args.by c.args.change) known did).invariant
+    let form : c.in_ok-ready.ready.form ≡ keeps (plain_of signer.key line own) = c.in_ok-ready.ensures.ok ∙ ap keep_marks (length_of_shown known) in
+    (change_recorded known c.record_item.new.self c.args.by c.args.change checks
+    (rw ready.pending at recorded_item.pending) (recorded_item.flight ∙ ready.flight) (recorded_item.shown ∙ ap (λ (fs : List (List Mark)). fs ++ c.in_ok-ready.ready.form ∷ []) ready.shown ∙ ap (λ (f : List Mark). own.shown ++ f ∷ []) form) (rw ready.journal at recorded_item.journal)).invariant
 
 pub returns-clause-fault : goal.returns-clause-fault
 returns-clause-fault g c =
-    let plain = plain_of c.self.inside.signer.key c.self.inside.line c.self.inside.own in
-    let state : state_of c.args.self.now ≡ plain = ap state_of (sym c.self.view_is) ∙ sym c.self.invariant.state in
-    ap change_fault state ∙ change_fault_is plain ∙ c.in_ok-check_change.ensures.fault c.self.inside.signer.key
+    ap change_fault (state_is c.self.invariant c.self.view_is) ∙ change_fault_is (plain_of c.self.inside.signer.key c.self.inside.line c.self.inside.own) ∙ c.in_ok-check_change.ensures.fault c.self.inside.signer.key
 
 pub returns-clause-ok : goal.returns-clause-ok
 returns-clause-ok g c = events_logged c.self.inside.line.entries c.record_item.new.self.journal c.journal.result.now c.journal.ensures.value

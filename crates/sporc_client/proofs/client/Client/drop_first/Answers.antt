@@ -1,29 +1,16 @@
 use Rattle.std.proofs.Common.{◌≡◌, List, [], ◌∷◌, ◌++◌, ap, ◌∙◌, arith}
-use Rattle.sporc_delta.specs.Marks.{Mark, keep_marks}
-use Rattle.sporc_client.specs.declared.event.Event.{Event}
+use Rattle.sporc_client.proofs.Common.{Mark, keep_marks, Event, Pending, drop, plain_of, state_of, Dropped, keeps, Drop, due}
 use Rattle.sporc_client.specs.declared.event.Event.TheVariants as stored
-use Rattle.sporc_client.specs.declared.pending.Pending.{Pending}
-use Rattle.std.specs.Prelude.{drop}
-use Rattle.sporc_client.specs.ClientInvariant.{plain_of}
-use Rattle.sporc_client.specs.ClientModel.{state_of}
-use Rattle.sporc_client.specs.Log.{Dropped}
-use Rattle.sporc_client.specs.Step.{keeps}
-use Rattle.sporc_client.specs.Submissions.{Drop, due}
 use Rattle.sporc_client.proofs.Comings.{same_fields, same_line}
-use Rattle.sporc_client.proofs.Events.{length_of_shown, shown_length}
-use Rattle.sporc_client.proofs.Kept.{recorded}
-use Rattle.sporc_client.proofs.SubmitEvents.{drop_records, due_room, is_event}
+use Rattle.sporc_client.proofs.Events.{drop_recorded, length_of_shown, shown_length}
+use Rattle.sporc_client.proofs.Submitting.{due_room, is_event}
 use Rattle.sporc_client.proofs.client.Client.drop_first.Goals as goal
 
 pub ready_keep-requires : goal.ready_keep-requires
-ready_keep-requires g c =
-    let inside = c.self.inside in
-    record { follow = c.self.invariant.sound.follow; limit = omega (arith, shown_length inside.line inside.signer inside.ticket inside.own c.self.invariant) }
+ready_keep-requires g c = record { follow = c.self.invariant.sound.follow; limit = omega (arith, shown_length c.self.invariant) }
 
 pub invariant_of-self : goal.invariant_of-self
-invariant_of-self g c =
-    let inside = c.self.inside in
-    same_fields inside.line inside.signer inside.ticket inside.own c.self.invariant inside.line c.ready_keep.new.own same_line c.in_err-ready.ensures.unchanged
+invariant_of-self g c = same_fields c.self.invariant c.self.inside.line c.ready_keep.new.own same_line c.in_err-ready.ensures.unchanged
 
 pub record_drop-requires-clause-limit : goal.record_drop-requires-clause-limit
 record_drop-requires-clause-limit g c =
@@ -45,10 +32,9 @@ invariant_of-self-2 g c =
     let is : due plain ≡ Drop c.args.fault = ap due state ∙ c.requires in
     let did = c.record_drop.ensures in
     let ready = c.in_ok-ready.ensures.unchanged in
-    let form : c.in_ok-ready.ready.form ≡ keeps plain = c.in_ok-ready.ensures.ok ∙ ap keep_marks (length_of_shown line signer inside.ticket own known) in
-    let records = drop_records line signer inside.ticket own known c.record_drop.new.self c.args.by c.args.fault is
+    let form : c.in_ok-ready.ready.form ≡ keeps plain = c.in_ok-ready.ensures.ok ∙ ap keep_marks (length_of_shown known) in
+    (drop_recorded known c.record_drop.new.self c.args.by c.args.fault is
     (did.pending ∙ ap (λ (ps : List Pending). drop 1 ps) ready.pending)
     (did.flight ∙ ready.flight)
     (did.shown ∙ ap (λ (fs : List (List Mark)). fs ++ c.in_ok-ready.ready.form ∷ []) ready.shown ∙ ap (λ (f : List Mark). own.shown ++ f ∷ []) form)
-    (did.journal ∙ ap (λ (es : List Event). es ++ stored.Dropped c.args.by c.args.fault ∷ []) ready.journal) in
-    (recorded line line signer signer inside.ticket inside.ticket own c.record_drop.new.self (Dropped c.args.by c.args.fault) known records).invariant
+    (did.journal ∙ ap (λ (es : List Event). es ++ stored.Dropped c.args.by c.args.fault ∷ []) ready.journal)).invariant

@@ -1,21 +1,16 @@
-use Rattle.std.proofs.Common.{rules, ◌≡◌, [], ◌∷◌, ◌++◌, Some, refl, ap, sym, ◌∙◌}
-use Rattle.sporc_client.specs.Answers.{edit_fault}
-use Rattle.sporc_client.specs.ClientInvariant.{plain_of}
-use Rattle.sporc_client.specs.ClientModel.{ClientModel, state_of}
-use Rattle.sporc_client.specs.Log.{Edit}
+use Rattle.std.proofs.Common.{rules, ◌≡◌, [], ◌∷◌, ◌++◌, Some, refl, ap, ◌∙◌}
+use Rattle.sporc_client.proofs.Common.{edit_fault, plain_of, ClientModel, state_of, Edit}
 use Rattle.sporc_client.proofs.Checked.{edit_fault_is, edit_passed}
 use Rattle.sporc_client.proofs.Comings.{model_more, no_more, same_fields, same_line, same_model}
-use Rattle.sporc_client.proofs.Events.{edit_limits, edit_records}
-use Rattle.sporc_client.proofs.Kept.{recorded}
+use Rattle.sporc_client.proofs.Events.{edit_limits, edit_recorded}
 use Rattle.sporc_client.proofs.Logs.{events_logged}
+use Rattle.sporc_client.proofs.Kept.{state_is}
 use Rattle.sporc_client.proofs.client.Client.edit.Goals as goal
 
 pub returns-in_err-check_edit-clause-fault : goal.returns-in_err-check_edit-clause-fault
 returns-in_err-check_edit-clause-fault g c =
-    let plain = plain_of c.self.inside.signer.key c.self.inside.line c.self.inside.own in
-    let state : state_of c.args.self.now ≡ plain = ap state_of (sym c.self.view_is) ∙ sym c.self.invariant.state in
     let fault : edit_fault (state_of c.args.self.now) c.args.seen c.args.delta.now ≡ Some c.in_err-check_edit.field-0.0 =
-    ap (λ p. edit_fault p c.args.seen c.args.delta.now) state ∙ edit_fault_is plain c.args.seen c.args.delta.now ∙ c.in_err-check_edit.ensures.fault c.self.inside.signer.key in
+    ap (λ p. edit_fault p c.args.seen c.args.delta.now) (state_is c.self.invariant c.self.view_is) ∙ edit_fault_is (plain_of c.self.inside.signer.key c.self.inside.line c.self.inside.own) c.args.seen c.args.delta.now ∙ c.in_err-check_edit.ensures.fault c.self.inside.signer.key in
     rw fault (search rules)
 
 pub returns-in_err-check_edit-clause-log : goal.returns-in_err-check_edit-clause-log
@@ -26,7 +21,7 @@ pub overflow_cast-seen : goal.overflow_cast-seen
 overflow_cast-seen g c =
     let inside = c.self.inside in
     let passed = edit_passed (plain_of inside.signer.key inside.line inside.own) c.args.seen c.args.delta.now (c.in_ok-check_edit.ensures.fault inside.signer.key) in
-    let limits = edit_limits inside.line inside.signer inside.ticket inside.own c.self.invariant c.args.seen c.args.delta.now passed in
+    let limits = edit_limits c.self.invariant c.args.seen c.args.delta.now passed in
     let small = limits.small in
     search rules
 
@@ -34,13 +29,11 @@ pub record_edit-requires : goal.record_edit-requires
 record_edit-requires g c =
     let inside = c.self.inside in
     let passed = edit_passed (plain_of inside.signer.key inside.line inside.own) c.args.seen c.args.delta.now (c.in_ok-check_edit.ensures.fault inside.signer.key) in
-    let limits = edit_limits inside.line inside.signer inside.ticket inside.own c.self.invariant c.args.seen c.args.delta.now passed in
+    let limits = edit_limits c.self.invariant c.args.seen c.args.delta.now passed in
     record { in_bounds = passed.within; base = limits.base; limit = limits.limit; restated = limits.restated_base; events_limit = passed.room.events }
 
 pub invariant_of-self : goal.invariant_of-self
-invariant_of-self g c =
-    let inside = c.self.inside in
-    same_fields inside.line inside.signer inside.ticket inside.own c.self.invariant inside.line c.record_edit.new.own same_line c.in_err-record_edit.ensures.unchanged
+invariant_of-self g c = same_fields c.self.invariant c.self.inside.line c.record_edit.new.own same_line c.in_err-record_edit.ensures.unchanged
 
 pub returns-in_err-record_edit-clause-log : goal.returns-in_err-record_edit-clause-log
 returns-in_err-record_edit-clause-log g c =
@@ -50,27 +43,20 @@ returns-in_err-record_edit-clause-log g c =
 
 pub invariant_of-self-2 : goal.invariant_of-self-2
 invariant_of-self-2 g c =
-    let inside = c.self.inside in
-    let records = edit_records inside.line inside.signer inside.ticket inside.own c.self.invariant c.record_edit.new.own c.args.by c.args.seen c.args.delta.now (c.in_ok-check_edit.ensures.fault inside.signer.key)
-    c.in_ok-record_edit.ensures.pending c.in_ok-record_edit.ensures.flight c.in_ok-record_edit.ensures.shown c.in_ok-record_edit.ensures.journal in
-    (recorded inside.line inside.line inside.signer inside.signer inside.ticket inside.ticket inside.own c.record_edit.new.own (Edit c.args.by c.args.seen c.args.delta.now) c.self.invariant records).invariant
+    let did = c.in_ok-record_edit.ensures in
+    (edit_recorded c.self.invariant c.record_edit.new.own c.args.by c.args.seen c.args.delta.now (c.in_ok-check_edit.ensures.fault c.self.inside.signer.key) did.pending did.flight did.shown did.journal).invariant
 
 pub returns-clause-ok : goal.returns-clause-ok
 returns-clause-ok g c = events_logged c.self.inside.line.entries c.record_edit.new.own.journal c.journal.result.now c.journal.ensures.value
 
 pub returns-clause-log : goal.returns-clause-log
 returns-clause-log g c =
-    let inside = c.self.inside in
     let event = Edit c.args.by c.args.seen c.args.delta.now in
-    let records = edit_records inside.line inside.signer inside.ticket inside.own c.self.invariant c.record_edit.new.own c.args.by c.args.seen c.args.delta.now (c.in_ok-check_edit.ensures.fault inside.signer.key)
-    c.in_ok-record_edit.ensures.pending c.in_ok-record_edit.ensures.flight c.in_ok-record_edit.ensures.shown c.in_ok-record_edit.ensures.journal in
+    let did = c.in_ok-record_edit.ensures in
     let M : ClientModel g.row.D.Denot → ClientModel g.row.D.Denot = λ m. record m { log = m.log ++ event ∷ [] } in
-    model_more inside.line inside.line inside.signer inside.ticket inside.own c.record_edit.new.own event
-    (recorded inside.line inside.line inside.signer inside.signer inside.ticket inside.ticket inside.own c.record_edit.new.own event c.self.invariant records)
+    model_more (edit_recorded c.self.invariant c.record_edit.new.own c.args.by c.args.seen c.args.delta.now (c.in_ok-check_edit.ensures.fault c.self.inside.signer.key) did.pending did.flight did.shown did.journal)
     ∙ ap M c.self.view_is
 
 pub returns-clause-fault : goal.returns-clause-fault
 returns-clause-fault g c =
-    let plain = plain_of c.self.inside.signer.key c.self.inside.line c.self.inside.own in
-    let state : state_of c.args.self.now ≡ plain = ap state_of (sym c.self.view_is) ∙ sym c.self.invariant.state in
-    ap (λ p. edit_fault p c.args.seen c.args.delta.now) state ∙ edit_fault_is plain c.args.seen c.args.delta.now ∙ c.in_ok-check_edit.ensures.fault c.self.inside.signer.key
+    ap (λ p. edit_fault p c.args.seen c.args.delta.now) (state_is c.self.invariant c.self.view_is) ∙ edit_fault_is (plain_of c.self.inside.signer.key c.self.inside.line c.self.inside.own) c.args.seen c.args.delta.now ∙ c.in_ok-check_edit.ensures.fault c.self.inside.signer.key

@@ -1,5 +1,5 @@
 use Rattle.std.proofs.Common.{arith}
-use Rattle.sporc_client.proofs.Opened.{opened_invariant}
+use Rattle.sporc_client.proofs.AcceptedHistories.{opened_invariant}
 use Rattle.sporc_client.proofs.client.Client.open.Goals as goal
 
 pub invariant_of-result : goal.invariant_of-result

@@ -1,16 +1,10 @@
 use Rattle.std.proofs.Common.{◌≡◌, ℕ, List, length, ap, sym, subst, ◌∙◌, arith}
-use Rattle.std.specs.Str.{chars, encode_utf8_all}
-use Rattle.sporc_delta.specs.Marks.{Mark, apply, base_len, keep_marks}
+use Rattle.sporc_client.proofs.Common.{chars, encode_utf8_all, Mark, apply, base_len, keep_marks, text_of, Pending, plain_of, state_of, PlainClient, committed_of, shown_of, AreOver, in_one}
 use Rattle.sporc_delta.proofs.Spelled.{length-encode_all}
-use Rattle.sporc_line.specs.Document.{text_of}
-use Rattle.sporc_client.specs.declared.pending.Pending.{Pending}
-use Rattle.sporc_client.specs.ClientInvariant.{plain_of}
-use Rattle.sporc_client.specs.ClientModel.{state_of}
-use Rattle.sporc_client.specs.PlainClient.{PlainClient, committed_of, shown_of}
-use Rattle.sporc_client.specs.Rebasing.{AreOver, in_one}
 use Rattle.sporc_client.proofs.Comings.{stated_over}
-use Rattle.sporc_client.proofs.InOne.{pending_in_one}
+use Rattle.sporc_client.proofs.Rebased.{pending_in_one}
 use Rattle.sporc_client.proofs.Small.{length-shown, lengths}
+use Rattle.sporc_client.proofs.Kept.{state_is}
 use Rattle.sporc_client.proofs.client.Client.shown.Goals as goal
 
 pub in_one-requires-clause-over : goal.in_one-requires-clause-over
@@ -42,7 +36,6 @@ pub returns : goal.returns
 returns g c =
     let inside = c.self.inside in
     let plain = plain_of inside.signer.key inside.line inside.own in
-    let state : state_of c.args.self.now ≡ plain = ap state_of (sym c.self.view_is) ∙ sym c.self.invariant.state in
     let committed = committed_of plain in
     let text : chars c.as_str.result.now ≡ committed = ap chars c.as_str.ensures.value ∙ c.in_ok-text.ensures.characters in
     let all : c.in_ok-all.all ≡ in_one (keep_marks (length committed)) inside.own.pending =
@@ -53,10 +46,10 @@ returns g c =
     ap (λ (ms : List Mark). apply ms (chars c.as_str.result.now)) all
     ∙ ap (apply (in_one (keep_marks (length committed)) inside.own.pending)) text
     ∙ (pending_in_one committed inside.own.pending c.self.invariant.sound.stated).1
-    ∙ ap (λ (p : PlainClient). shown_of p) (sym state) in
+    ∙ ap (λ (p : PlainClient). shown_of p) (sym (state_is c.self.invariant c.self.view_is)) in
     let few = lengths plain c.self.invariant.small in
     let all_few = length-shown committed inside.own.pending c.self.invariant.sound.stated in
     record {
       value = c.in_ok-shown.ensures.value ∙ ap encode_utf8_all shown;
-      within = omega (arith, ap (λ (p : PlainClient). length (shown_of p)) state, all_few, few.committed, few.pending);
+      within = omega (arith, ap (λ (p : PlainClient). length (shown_of p)) (state_is c.self.invariant c.self.view_is), all_few, few.committed, few.pending);
     }

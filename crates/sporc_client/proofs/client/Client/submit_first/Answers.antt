@@ -1,31 +1,17 @@
-use Rattle.std.proofs.Common.{◌≡◌, ℕ, List, [], ◌∷◌, ◌++◌, Option, None, Some, refl, ap, sym, subst, ◌∙◌, true, arith}
-use Rattle.sporc_delta.specs.Marks.{Mark, keep_marks}
-use Rattle.sporc_client.specs.declared.event.Event.{Event}
+use Rattle.std.proofs.Common.{◌≡◌, ℕ, List, [], ◌∷◌, ◌++◌, Option, Some, refl, ap, sym, subst, ◌∙◌, true, arith}
+use Rattle.sporc_client.proofs.Common.{Mark, keep_marks, Event, ClientInvariant, plain_of, AreInOrder, leaves_of, state_of, IsSubmission, at_hand, Submit, log_of, PlainClient, keeps, due, is_signing}
 use Rattle.sporc_client.specs.declared.event.Event.TheVariants as stored
-use Rattle.sporc_client.specs.ClientInvariant.{ClientInvariant, plain_of}
-use Rattle.sporc_client.specs.ClientModel.{AreInOrder, leaves_of, state_of}
-use Rattle.sporc_client.specs.Contents.{IsSubmission}
-use Rattle.sporc_client.specs.Drawing.{at_hand}
-use Rattle.sporc_client.specs.Log.{Submit, log_of}
-use Rattle.sporc_client.specs.PlainClient.{PlainClient}
-use Rattle.sporc_client.specs.Step.{keeps}
-use Rattle.sporc_client.specs.Submissions.{due, is_signing}
 use Rattle.sporc_client.proofs.Comings.{same_fields, same_line}
-use Rattle.sporc_client.proofs.Events.{length_of_shown, shown_length}
-use Rattle.sporc_client.proofs.Kept.{recorded}
-use Rattle.sporc_client.proofs.SubmitEvents.{due_room, same_key, signs_event, submit_records}
+use Rattle.sporc_client.proofs.Events.{length_of_shown, same_key, shown_length, submit_recorded}
+use Rattle.sporc_client.proofs.Submitting.{due_room, signs_event}
 use Rattle.sporc_client.proofs.SubmitLeaves.{leaf_there, order_at_hand}
 use Rattle.sporc_client.proofs.client.Client.submit_first.Goals as goal
 
 pub ready_keep-requires : goal.ready_keep-requires
-ready_keep-requires g c =
-    let inside = c.self.inside in
-    record { follow = c.self.invariant.sound.follow; limit = omega (arith, shown_length inside.line inside.signer inside.ticket inside.own c.self.invariant) }
+ready_keep-requires g c = record { follow = c.self.invariant.sound.follow; limit = omega (arith, shown_length c.self.invariant) }
 
 pub invariant_of-self : goal.invariant_of-self
-invariant_of-self g c =
-    let inside = c.self.inside in
-    same_fields inside.line inside.signer inside.ticket inside.own c.self.invariant inside.line c.ready_keep.new.own same_line c.in_err-ready.ensures.unchanged
+invariant_of-self g c = same_fields c.self.invariant c.self.inside.line c.ready_keep.new.own same_line c.in_err-ready.ensures.unchanged
 
 pub record_submission-requires-clause-limit : goal.record_submission-requires-clause-limit
 record_submission-requires-clause-limit g c =
@@ -50,8 +36,8 @@ invariant_of-self-in_err-made g c =
     (λ leaf h. ap (λ s. s.leaves) (made.undrawn leaf h)) made.drawn in
     let kept : AreInOrder signer'.leaves.next_at_open signer'.leaves.next c.make_entry.new.kept (leaves_of (log_of line.entries own.journal)) =
     subst (λ (t : Option ℕ). AreInOrder signer'.leaves.next_at_open signer'.leaves.next t (leaves_of (log_of line.entries own.journal))) (sym made.ticket) order in
-    let with_ticket = same_key line signer inside.ticket own known signer' c.make_entry.new.kept made.key made.within kept in
-    same_fields line signer' c.make_entry.new.kept own with_ticket line c.ready_keep.new.own
+    let with_ticket = same_key known signer' c.make_entry.new.kept made.key made.within kept in
+    same_fields with_ticket line c.ready_keep.new.own
     same_line ready
 
 pub invariant_of-self-2 : goal.invariant_of-self-2
@@ -76,12 +62,11 @@ invariant_of-self-2 g c =
     let order = order_at_hand g.D.LeafDisk.told signer.leaves signer'.leaves signed inside.ticket known.leaves
     (λ leaf h. ap (λ s. s.leaves) (made.undrawn leaf h)) made.drawn in
     let kept : AreInOrder signer'.leaves.next_at_open signer'.leaves.next (Some leaf.0) signed = subst (λ (t : Option ℕ). AreInOrder signer'.leaves.next_at_open signer'.leaves.next t signed) leaf.1 order in
-    let form : c.in_ok-ready.ready.form ≡ keeps plain = c.in_ok-ready.ensures.ok ∙ ap keep_marks (length_of_shown line signer inside.ticket own known) in
-    let records = submit_records line signer inside.ticket own known signer' c.record_submission.new.self c.args.by leaf.0 bytes made.key (subst (λ (p : PlainClient). IsSubmission p leaf.0 bytes) same leaf.2) (signs_event (due plain) is) kept
+    let form : c.in_ok-ready.ready.form ≡ keeps plain = c.in_ok-ready.ensures.ok ∙ ap keep_marks (length_of_shown known) in
+    let with_none = (submit_recorded known signer' c.record_submission.new.self c.args.by leaf.0 bytes made.key (subst (λ (p : PlainClient). IsSubmission p leaf.0 bytes) same leaf.2) kept
     (did.pending ∙ ready.pending)
     (did.flight ∙ ap Some made.made.flight)
     (did.shown ∙ ap (λ (fs : List (List Mark)). fs ++ c.in_ok-ready.ready.form ∷ []) ready.shown ∙ ap (λ (f : List Mark). own.shown ++ f ∷ []) form)
     (did.journal ∙ ap (λ (es : List Event). es ++ stored.Submit c.args.by c.in_ok-made.made.event ∷ []) ready.journal
-    ∙ ap (λ (b : List ℕ). own.journal ++ stored.Submit c.args.by b ∷ []) made.made.event) in
-    let with_none = (recorded line line signer signer' inside.ticket None own c.record_submission.new.self (Submit c.args.by bytes) known records).invariant in
+    ∙ ap (λ (b : List ℕ). own.journal ++ stored.Submit c.args.by b ∷ []) made.made.event)).invariant in
     subst (λ (t : Option ℕ). ClientInvariant line signer' t c.record_submission.new.self) (sym made.ticket) with_none

@@ -1,5 +1,5 @@
 use Rattle.std.proofs.Common.{ap, ◌∙◌}
-use Rattle.sporc_delta.specs.Marks.{base_len}
+use Rattle.sporc_client.proofs.Common.{base_len}
 use Rattle.sporc_client.proofs.Comings.{form_there}
 use Rattle.sporc_client.proofs.client.accepting.ready_coming.Goals as goal
 

@@ -1,9 +1,6 @@
 use Rattle.std.proofs.Common.{◌≡◌, ℕ, ◌+◌, ◌++◌, ◌∷◌, [], List, length, length-append, ap, sym, subst, ◌∙◌, arith}
-use Rattle.sporc_delta.specs.Marks.{Mark}
-use Rattle.sporc_client.specs.declared.event.Event.{Event}
+use Rattle.sporc_client.proofs.Common.{Mark, Event, Pending, CanCome, Effect, effect, flight_after, pending_after}
 use Rattle.sporc_client.specs.declared.event.Event.TheVariants as events
-use Rattle.sporc_client.specs.declared.pending.Pending.{Pending}
-use Rattle.sporc_client.specs.Coming.{CanCome, Effect, effect, flight_after, pending_after}
 use Rattle.sporc_client.specs.Taking.{coming_at}
 use Rattle.sporc_client.proofs.Comings.{coming_there, same_flight}
 use Rattle.sporc_client.proofs.client.accepting.take_entry.Goals as goal
@@ -26,7 +23,7 @@ returns-in-Ok-clause-ok c =
     let found = c.in-Ok.ensures in
     let same = found.unchanged in
     let did = c.record_coming.ensures in
-    let coming : effect c.in-Ok.coming own.pending ≡ coming_at line own p = coming_there line own p c.args.bytes.now c.own_device.result c.in-Ok.coming c.requires.bytes c.own_device.ensures.value found.coming in
+    let coming : effect c.in-Ok.coming own.pending ≡ coming_at line.kit.me own p.checked.bytes p = coming_there line own p c.args.bytes.now c.own_device.result c.in-Ok.coming c.requires.bytes c.own_device.ensures.value found.coming in
     let place : c.len-place.result ≡ length line.entries + 1 = omega (arith, c.len-place.ensures.value, ap length c.commit.ensures.entries, length-append line.entries (p.checked.bytes ∷ [])) in
     record {
       genesis = c.commit.ensures.genesis;

@@ -1,11 +1,7 @@
 use Rattle.std.proofs.Common.{◌+◌, ◌<◌, ◌≤◌, ◌++◌, ◌∷◌, [], List, length, take, ap, sym, ◌∙◌, arith}
-use Rattle.std.proofs.lemmas.List.{take_all}
-use Rattle.sporc_delta.specs.Marks.{Mark}
-use Rattle.sporc_line.specs.Document.{forms_of}
-use Rattle.sporc_line.proofs.FormLengths.{length-forms}
-use Rattle.sporc_client.specs.declared.event.Event.{Event}
+use Rattle.sporc_client.proofs.Common.{take_all, Mark, forms_of, length-forms, Event}
 use Rattle.sporc_client.specs.declared.event.Event.TheVariants as events
-use Rattle.sporc_client.proofs.Resumed.{next_form_at, place_more}
+use Rattle.sporc_client.proofs.AcceptedHistories.{next_form_at, place_more}
 use Rattle.sporc_client.proofs.client.restarting.accepted_before.Goals as goal
 
 pub ready-requires : goal.ready-requires

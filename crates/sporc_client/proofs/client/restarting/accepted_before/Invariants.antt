@@ -1,7 +1,5 @@
 use Rattle.std.proofs.Common.{◌≡◌, [], take, None}
-use Rattle.sporc_line.specs.Document.{forms_of}
-use Rattle.sporc_client.specs.Log.{journal_of}
-use Rattle.sporc_client.specs.Step.{log_of_entries}
+use Rattle.sporc_client.proofs.Common.{forms_of, journal_of, log_of_entries}
 use Rattle.sporc_client.proofs.client.restarting.accepted_before.Given as goal
 
 abbrev pub invariant-loop-i : goal.invariant-loop-i

@@ -1,6 +1,6 @@
 use Rattle.std.proofs.Common.{◌<◌, ◌++◌, ◌∷◌, [], List, ℕ, length, take, ap, sym, ◌∙◌, arith}
-use Rattle.std.proofs.lemmas.List.{length-map}
-use Rattle.sporc_client.proofs.Resumed.{take_read}
+use Rattle.sporc_client.proofs.Common.{length-map}
+use Rattle.sporc_client.proofs.AcceptedHistories.{take_read}
 use Rattle.sporc_client.proofs.client.restarting.first_entries.Goals as goal
 
 pub bounds-entries-i : goal.bounds-entries-i

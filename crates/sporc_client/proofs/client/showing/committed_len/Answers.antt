@@ -1,6 +1,5 @@
 use Rattle.std.proofs.Common.{◌≤◌, ℕ, List, length, ap, ◌∙◌, arith}
-use Rattle.std.proofs.lemmas.List.{take_all}
-use Rattle.sporc_line.specs.Document.{text_of}
+use Rattle.sporc_client.proofs.Common.{take_all, text_of}
 use Rattle.sporc_client.proofs.client.showing.committed_len.Goals as goal
 
 pub returns-clause-value : goal.returns-clause-value

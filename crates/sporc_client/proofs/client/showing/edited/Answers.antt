@@ -1,7 +1,6 @@
 use Rattle.std.proofs.Common.{◌≡◌, List, length, ap, sym, ◌∙◌}
-use Rattle.std.specs.Str.{chars, encode_utf8_all}
-use Rattle.sporc_delta.specs.Marks.{Mark, apply, insertion}
-use Rattle.sporc_client.proofs.InOne.{insertion_base, insertion_text}
+use Rattle.sporc_client.proofs.Common.{chars, encode_utf8_all, Mark, apply, insertion}
+use Rattle.sporc_client.proofs.Rebased.{insertion_base, insertion_text}
 use Rattle.sporc_client.proofs.client.showing.edited.Goals as goal
 
 pub apply-requires : goal.apply-requires

@@ -1,6 +1,6 @@
 use Rattle.std.proofs.Common.{ap, subst}
+use Rattle.sporc_commands.proofs.Common.{LogTailModel}
 use Rattle.sporc_store.specs.TailFiles.{Puts}
-use Rattle.sporc_commands.specs.Tails.{LogTailModel}
 use Rattle.sporc_commands.proofs.Tails.{put_keeps, put_leaves}
 use Rattle.sporc_commands.proofs.tail.LogTailTail.put.Goals as goal
 

@@ -1,7 +1,6 @@
 use Rattle.std.proofs.Common.{◌≡◌, ◌<◌, length, arith}
+use Rattle.sporc_delta.proofs.Common.{owned, read_delta}
 use Rattle.std.proofs.lemmas.Result.{err_from_is_err_and}
-use Rattle.sporc_delta.specs.Parts.{owned}
-use Rattle.sporc_delta.specs.Reading.{read_delta}
 use Rattle.sporc_delta.proofs.Lengths.{base_len-append, out_len-append}
 use Rattle.sporc_delta.proofs.Decoding.{begins, goes_on, stops, ended, some_left, none_left}
 use Rattle.sporc_delta.proofs.delta.Delta.decode.Goals as goal

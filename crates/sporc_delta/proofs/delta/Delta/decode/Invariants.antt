@@ -1,7 +1,5 @@
 use Rattle.std.proofs.Common.{◌≡◌, ◌+◌, ◌*◌, ◌≤◌, length}
-use Rattle.sporc_delta.specs.declared.limits.TheConstants.{MAX_COUNT}
-use Rattle.sporc_delta.specs.Marks.{base_len, out_len}
-use Rattle.sporc_delta.specs.Reading.{parts_at, read_delta}
+use Rattle.sporc_delta.proofs.Common.{MAX_COUNT, base_len, out_len, parts_at, read_delta}
 use Rattle.sporc_delta.proofs.Decoding.{with_front}
 use Rattle.sporc_delta.proofs.delta.Delta.decode.Given as goal
 

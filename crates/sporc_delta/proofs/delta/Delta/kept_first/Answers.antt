@@ -1,8 +1,5 @@
 use Rattle.std.proofs.Common.{◌≡◌, ap, arith, sym, ◌∙◌}
-use Rattle.sporc_delta.specs.declared.shift.Shift.TheVariants.{First}
-use Rattle.sporc_delta.specs.Marks.{base_len}
-use Rattle.sporc_delta.specs.Parts.{runs}
-use Rattle.sporc_delta.specs.Shifts.{kept_at_start, kept_first}
+use Rattle.sporc_delta.proofs.Common.{First, base_len, runs, kept_at_start, kept_first}
 use Rattle.sporc_delta.proofs.Runs.{runs-marks_of}
 use Rattle.sporc_delta.proofs.Shifted.{shifted_lengths}
 use Rattle.sporc_delta.proofs.delta.Delta.kept_first.Goals as goal

@@ -1,8 +1,5 @@
 use Rattle.std.proofs.Common.{◌≡◌, ap, arith, sym, ◌∙◌}
-use Rattle.sporc_delta.specs.declared.shift.Shift.TheVariants.{Last}
-use Rattle.sporc_delta.specs.Marks.{base_len}
-use Rattle.sporc_delta.specs.Parts.{kept_at_end, runs}
-use Rattle.sporc_delta.specs.Shifts.{kept_last}
+use Rattle.sporc_delta.proofs.Common.{Last, base_len, kept_at_end, runs, kept_last}
 use Rattle.sporc_delta.proofs.Runs.{runs-marks_of}
 use Rattle.sporc_delta.proofs.Shifted.{shifted_lengths}
 use Rattle.sporc_delta.proofs.delta.Delta.kept_last.Goals as goal

@@ -1,6 +1,5 @@
 use Rattle.std.proofs.Common.{◌≡◌, ◌+◌, arith, ap}
-use Rattle.sporc_delta.specs.Marks.{base_len, out_len, keep_marks}
-use Rattle.sporc_delta.specs.Parts.{marks_of}
+use Rattle.sporc_delta.proofs.Common.{base_len, out_len, keep_marks, marks_of}
 use Rattle.sporc_delta.proofs.Lengths.{base_len-keep_marks, out_len-keep_marks}
 use Rattle.sporc_delta.proofs.Sound.{DeltaInvariant-more}
 use Rattle.sporc_delta.proofs.delta.Delta.push_keep.Goals as goal

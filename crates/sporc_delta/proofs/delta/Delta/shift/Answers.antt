@@ -1,5 +1,5 @@
 use Rattle.std.proofs.Common.{◌∙◌, ap, arith, refl}
-use Rattle.sporc_delta.specs.Shifts.{kept_there}
+use Rattle.sporc_delta.proofs.Common.{kept_there}
 use Rattle.sporc_delta.proofs.Shifted.{DeltaInvariant-shifted, fits_shift}
 use Rattle.sporc_delta.proofs.delta.Delta.shift.Goals as goal
 

@@ -1,5 +1,5 @@
 use Rattle.std.proofs.Common.{rules}
-use Rattle.std.proofs.lemmas.Str.{chars_from_encodes, is_utf8-from_IsUtf8, IsUtf8-string_bytes}
+use Rattle.sporc_delta.proofs.Common.{chars_from_encodes, is_utf8-from_IsUtf8, IsUtf8-string_bytes}
 use Rattle.sporc_delta.proofs.text.Text.from_string.Goals as goal
 
 pub invariant_of-result : goal.invariant_of-result

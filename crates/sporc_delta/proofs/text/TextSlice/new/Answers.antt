@@ -1,5 +1,5 @@
 use Rattle.std.proofs.Common.{rules}
-use Rattle.std.proofs.lemmas.Str.{chars_from_encodes, is_utf8-from_IsUtf8}
+use Rattle.sporc_delta.proofs.Common.{chars_from_encodes, is_utf8-from_IsUtf8}
 use Rattle.sporc_delta.proofs.Counted.{length-chars}
 use Rattle.sporc_delta.proofs.text.TextSlice.new.Goals as goal
 

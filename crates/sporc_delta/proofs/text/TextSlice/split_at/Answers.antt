@@ -1,6 +1,5 @@
 use Rattle.std.proofs.Common.{◌≤◌, length, arith, ap}
-use Rattle.std.specs.Str.{chars}
-use Rattle.std.proofs.lemmas.Str.{IsUtf8-from_is_utf8}
+use Rattle.sporc_delta.proofs.Common.{chars, IsUtf8-from_is_utf8}
 use Rattle.sporc_delta.proofs.Counted.{cut_at}
 use Rattle.sporc_delta.proofs.text.TextSlice.split_at.Goals as goal
 

@@ -1,6 +1,5 @@
 use Rattle.std.proofs.Common.{◌≡◌, ◌<◌, ◌∙◌, ap, sym, None, List, length, arith}
-use Rattle.sporc_order.specs.OrderModel.{OrderModel}
-use Rattle.sporc_docs.specs.Lists.{place_of}
+use Rattle.sporc_docs.proofs.Common.{OrderModel, place_of}
 use Rattle.sporc_docs.proofs.Places.{kept_apart, is_none}
 use Rattle.sporc_docs.proofs.docs.Docs.add.Goals as goal
 

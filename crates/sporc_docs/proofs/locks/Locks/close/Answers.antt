@@ -1,8 +1,5 @@
 use Rattle.std.proofs.Common.{◌≡◌, ◌∷◌, ◌++◌, ◌∙◌, [], Option, sym, subst, append-nil, option_to_list, arith}
-use Rattle.sporc_turn.specs.declared.pass.Pass.{Pass}
-use Rattle.sporc_serve.specs.declared.item.Item.{Item}
-use Rattle.sporc_docs.specs.Hands.{HasFirst}
-use Rattle.sporc_docs.specs.Locks.{IsBack, Closes}
+use Rattle.sporc_docs.proofs.Common.{Pass, Item, HasFirst, IsBack, Closes}
 use Rattle.sporc_docs.proofs.Opening.{kept_more, last_both, last_back, has_some, shifted, reversed_behind}
 use Rattle.sporc_docs.proofs.locks.Locks.close.Goals as goal
 
@@ -43,7 +40,7 @@ loop-turn-preserved g c =
     c.unwrap.result c.loop-turn.invariant.first c.in-Some.ensures.items last in
     let back = last_back c.loop-turn.firsts.items c.pop-in-Some.new.self.items c.unwrap.result c.loop-turn.invariant.back last in
     let closed = c.loop-turn.invariant.closed in
-    let one = subst (λ (q : Option (Pass Item)). Closes q c.in-Ok.order) (sym c.unwrap-first.ensures) (c.in-Ok.ensures.agrees, c.in-Ok.ensures.order) in
+    let one = subst (λ (q : Option (Pass Item)). Closes q c.in-Ok.kept.order) (sym c.unwrap-first.ensures) (c.in-Ok.ensures.agrees, c.in-Ok.ensures.order) in
     let room = c.loop-turn.invariant.room in
     let less = c.in-Some.ensures.cases in
     let more = c.push_reserved.ensures.len in
@@ -56,12 +53,12 @@ loop-turn-preserved g c =
       back = back.0;
       closed = (
         c.unwrap.result ∷ closed.0,
-        c.in-Ok.order ∷ closed.1,
+        c.in-Ok.kept.order ∷ closed.1,
         shifted c.args.self.firsts.items c.loop-turn.firsts.items c.pop-in-Some.new.self.items c.unwrap.result closed.0 closed.2 last,
-        reversed_behind c.args.orders.now.items c.loop-turn.orders.items c.push_reserved.new.self.items c.in-Ok.order closed.1 closed.3 c.push_reserved.ensures.items,
+        reversed_behind c.args.orders.now.items c.loop-turn.orders.items c.push_reserved.new.self.items c.in-Ok.kept.order closed.1 closed.3 c.push_reserved.ensures.items,
         (one, closed.4),
       );
-      kept = kept_more g.T.Tail.keeps c.loop-turn.tails.items c.push_reserved-in-Ok.new.self.items c.loop-turn.orders.items c.push_reserved.new.self.items c.in-Ok.tail c.in-Ok.order
+      kept = kept_more g.T.Tail.keeps c.loop-turn.tails.items c.push_reserved-in-Ok.new.self.items c.loop-turn.orders.items c.push_reserved.new.self.items c.in-Ok.kept.tail c.in-Ok.kept.order
           c.loop-turn.invariant.kept c.in-Ok.ensures.tail c.push_reserved-in-Ok.ensures.items c.push_reserved.ensures.items;
       room = omega (arith, room, less, more, same);
       tails_room = omega (arith, tails_room, less, tails_more, tails_same);

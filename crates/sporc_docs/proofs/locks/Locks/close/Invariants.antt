@@ -1,10 +1,5 @@
 use Rattle.std.proofs.Common.{◌≡◌, ◌≤◌, ◌+◌, ◌++◌, List, Option, reverse, vec_len, vec_capacity}
-use Rattle.sporc_turn.specs.declared.pass.Pass.{Pass}
-use Rattle.sporc_order.specs.OrderModel.{OrderModel}
-use Rattle.sporc_serve.specs.declared.item.Item.{Item}
-use Rattle.sporc_docs.specs.Hands.{Both, HasFirst}
-use Rattle.sporc_docs.specs.Locks.{AreBack, Closes}
-use Rattle.sporc_docs.specs.Served.{AreKept}
+use Rattle.sporc_docs.proofs.Common.{Pass, OrderModel, Item, Both, HasFirst, AreBack, Closes, AreKept}
 use Rattle.sporc_docs.proofs.locks.Locks.close.Given as goal
 
 abbrev pub invariant-loop-turn : goal.invariant-loop-turn

@@ -30,7 +30,7 @@ returns-in-Err-clause-tails g c =
     let last = subst (λ (r : Option g.row.T.Denot). c.loop-order.tails.items ≡ c.pop-in-Some.new.self.items ++ option_to_list r) c.unwrap-tail.ensures c.pop-in-Some.ensures.items in
     let less = last_kept g.T.Tail.keeps c.loop-order.tails.items c.pop-in-Some.new.self.items c.loop-order.orders.items c.pop.new.self.items c.unwrap-tail.result c.in-Some.order
     c.loop-order.invariant.kept last c.in-Some.ensures.items in
-    kept_more g.T.Tail.keeps c.pop-in-Some.new.self.items c.push_reserved-in-Err.new.self.items c.pop.new.self.items c.push_reserved.new.self.items c.in-Err.tail c.in-Err.order less.0
+    kept_more g.T.Tail.keeps c.pop-in-Some.new.self.items c.push_reserved-in-Err.new.self.items c.pop.new.self.items c.push_reserved.new.self.items c.in-Err.kept.tail c.in-Err.kept.order less.0
     c.in-Err.ensures.returned_tail c.push_reserved-in-Err.ensures.items c.push_reserved.ensures.items
 
 pub loop-order-preserved : goal.loop-order-preserved

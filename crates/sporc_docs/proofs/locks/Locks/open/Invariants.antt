@@ -1,7 +1,5 @@
 use Rattle.std.proofs.Common.{◌≡◌, ◌≤◌, ◌+◌, ◌++◌, List, reverse, vec_len, vec_capacity}
-use Rattle.sporc_order.specs.OrderModel.{OrderModel}
-use Rattle.sporc_docs.specs.Locks.{AreOpen}
-use Rattle.sporc_docs.specs.Served.{AreKept}
+use Rattle.sporc_docs.proofs.Common.{OrderModel, AreOpen, AreKept}
 use Rattle.sporc_docs.proofs.locks.Locks.open.Given as goal
 
 abbrev pub invariant-loop-order : goal.invariant-loop-order

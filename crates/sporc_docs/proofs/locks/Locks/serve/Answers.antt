@@ -1,8 +1,5 @@
 use Rattle.std.proofs.Common.{List, sym, subst}
-use Rattle.sporc_turn.specs.declared.turn.Turn.{Turn}
-use Rattle.sporc_serve.specs.declared.desk.Desk.{Desk}
-use Rattle.sporc_serve.specs.declared.item.Item.{Item}
-use Rattle.sporc_docs.specs.Hands.{AllHands, Both, IsEmpty}
+use Rattle.sporc_docs.proofs.Common.{Turn, Desk, Item, AllHands, Both, IsEmpty}
 use Rattle.sporc_docs.proofs.locks.Locks.serve.Goals as goal
 
 pub serve_hands-requires-clause-empty : goal.serve_hands-requires-clause-empty

@@ -1,9 +1,6 @@
 use Rattle.std.proofs.Common.{arith, ◌≤◌, ℕ, List, length, subst, sym}
-use Rattle.sporc_entry.specs.declared.limits.TheConstants.{MAX_ENTRY}
-use Rattle.sporc_entry.specs.Entry.{entry_of}
+use Rattle.sporc_entry.proofs.Common.{MAX_ENTRY, entry_of, Malformed, fault_as_ok}
 use Rattle.sporc_entry.proofs.EntryLaws.{entry_takes, entry_size}
-use Rattle.sporc_entry.specs.declared.fault.EntryFault.TheVariants.{Malformed}
-use Rattle.sporc_bytes.proofs.Fields.{fault_as_ok}
 use Rattle.sporc_entry.proofs.ViewLaws.{view_holds}
 use Rattle.sporc_entry.proofs.view.EntryView.read.Goals as goal
 

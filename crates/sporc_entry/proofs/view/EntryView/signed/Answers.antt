@@ -1,6 +1,5 @@
 use Rattle.std.proofs.Common.{arith, ℕ, ◌+◌, ◌∷◌, length, take, ap, ◌∙◌}
-use Rattle.std.proofs.lemmas.List.{length-take}
-use Rattle.sporc_entry.specs.Entry.{signed_string}
+use Rattle.sporc_entry.proofs.Common.{length-take, signed_string}
 use Rattle.sporc_entry.specs.EntryView.{EntryViewModel, parts_entry}
 use Rattle.sporc_entry.proofs.ViewLaws.{view_bound, view_signed}
 use Rattle.sporc_entry.proofs.view.EntryView.signed.Goals as goal

@@ -1,9 +1,6 @@
 use Rattle.std.proofs.Common.{◌≡◌, ℕ, List, ap, ◌∙◌}
-use Rattle.std.specs.List.{each_same}
-use Rattle.std.specs.FinMap.{from_entries}
-use Rattle.std.specs.Ordering.{nat_cmp}
+use Rattle.sporc_epoch.proofs.Common.{each_same, from_entries, nat_cmp, RingModel}
 use Rattle.std.proofs.lemmas.Map.Entries.{entries_from_clone}
-use Rattle.sporc_epoch.specs.RingModel.{RingModel}
 use Rattle.sporc_epoch.proofs.ring.Ring.copy.Goals as goal
 
 pub returns : goal.returns

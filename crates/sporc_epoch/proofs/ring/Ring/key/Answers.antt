@@ -1,6 +1,5 @@
 use Rattle.std.proofs.Common.{ap, sym, ◌∙◌}
-use Rattle.std.specs.FinMap.{get}
-use Rattle.sporc_epoch.specs.RingModel.{RingModel}
+use Rattle.sporc_epoch.proofs.Common.{get, RingModel}
 use Rattle.sporc_epoch.proofs.Lookups.{get-entries}
 use Rattle.sporc_epoch.proofs.ring.Ring.key.Goals as goal
 

@@ -1,6 +1,5 @@
 use Rattle.std.proofs.Common.{ap, ◌∙◌}
-use Rattle.std.specs.FinMap.{insert}
-use Rattle.sporc_epoch.specs.RingModel.{RingModel}
+use Rattle.sporc_epoch.proofs.Common.{insert, RingModel}
 use Rattle.sporc_epoch.proofs.Lookups.{lookups_put}
 use Rattle.sporc_epoch.proofs.ring.Ring.put.Goals as goal
 

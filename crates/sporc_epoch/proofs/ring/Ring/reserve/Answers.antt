@@ -1,5 +1,5 @@
 use Rattle.std.proofs.Common.{ap, ◌∙◌}
-use Rattle.sporc_epoch.specs.RingModel.{RingModel}
+use Rattle.sporc_epoch.proofs.Common.{RingModel}
 use Rattle.sporc_epoch.proofs.Lookups.{same_lookups}
 use Rattle.sporc_epoch.proofs.ring.Ring.reserve.Goals as goal
 

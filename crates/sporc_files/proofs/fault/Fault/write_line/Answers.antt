@@ -1,8 +1,5 @@
 use Rattle.std.proofs.Common.{codes}
-use Rattle.std.specs.List.{flat_map}
-use Rattle.sporc_outside.proofs.Prefixes.{AppendsPrefix-first, AppendsPrefix-then}
-use Rattle.sporc_files.specs.Arguments.{argument_bytes}
-use Rattle.sporc_files.specs.Faults.{fault_arguments, fault_words}
+use Rattle.sporc_files.proofs.Common.{flat_map, AppendsPrefix-first, AppendsPrefix-then, argument_bytes, fault_arguments, fault_words}
 use Rattle.sporc_files.proofs.Written.{any_err, cut_as, on_err, said}
 use Rattle.sporc_files.proofs.fault.Fault.write_line.Goals as goal
 

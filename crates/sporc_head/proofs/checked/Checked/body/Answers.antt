@@ -1,5 +1,5 @@
 use Rattle.std.proofs.Common.{length, drop, ap, arith, length-drop}
-use Rattle.std.proofs.lemmas.List.{length-take}
+use Rattle.sporc_head.proofs.Common.{length-take}
 use Rattle.sporc_entry.specs.Version.{body_place}
 use Rattle.sporc_entry.proofs.ViewLaws.{view_bound}
 use Rattle.sporc_head.specs.CheckedModel.{entry_in}

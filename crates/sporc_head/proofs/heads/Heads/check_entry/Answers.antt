@@ -1,12 +1,7 @@
 use Rattle.std.proofs.Common.{◌≡◌, ap, sym, ◌∙◌, Some, None}
+use Rattle.sporc_head.proofs.Common.{first_of, Roster, member_at, key_of, author_device, Memory, place_checks, history_checks, roster_checks, roster_of}
 use Rattle.std.proofs.lemmas.Result.{err_from_is_err_and}
-use Rattle.sporc_base.specs.FirstFault.{first_of}
-use Rattle.sporc_member.specs.Roster.{Roster, member_at, key_of}
 use Rattle.sporc_entry.specs.declared.header.Header.{Header}
-use Rattle.sporc_entry.specs.Entry.{author_device}
-use Rattle.sporc_head.specs.declared.refusal.Refusal.TheVariants.{Memory}
-use Rattle.sporc_head.specs.HeadChecks.{place_checks, history_checks, roster_checks}
-use Rattle.sporc_head.specs.History.{roster_of}
 use Rattle.sporc_head.proofs.OnceChecked.{unless_exit, at_place, at_history, at_author, at_roster}
 use Rattle.sporc_head.proofs.heads.Heads.check_entry.Goals as goal
 

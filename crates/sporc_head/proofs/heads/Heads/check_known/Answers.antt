@@ -1,12 +1,8 @@
 use Rattle.std.proofs.Common.{◌≡◌, ◌≤◌, ℕ, List, length, take, ap, sym, ◌∙◌, subst, arith, Result, Ok}
-use Rattle.std.proofs.lemmas.List.{take_all}
-use Rattle.sporc_hash.specs.Chain.{next_value}
-use Rattle.sporc_entry.specs.declared.entry.Entry.{Entry}
+use Rattle.sporc_head.proofs.Common.{take_all, next_value, Entry, entry_of, hash_of}
 use Rattle.sporc_entry.specs.declared.limits.TheConstants.{MAX_ENTRY}
-use Rattle.sporc_entry.specs.Entry.{entry_of}
 use Rattle.sporc_entry.specs.declared.fault.EntryFault.TheVariants.{Malformed}
 use Rattle.sporc_entry.proofs.FieldLaws.{fault_as_ok}
-use Rattle.sporc_head.specs.History.{hash_of}
 use Rattle.sporc_head.proofs.ChecksPass.{fault_for_nobody}
 use Rattle.sporc_head.proofs.Examination.{exact_of, if_some}
 use Rattle.sporc_head.proofs.OnceChecked.{passed_of}

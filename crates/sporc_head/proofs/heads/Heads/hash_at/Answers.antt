@@ -1,6 +1,5 @@
 use Rattle.std.proofs.Common.{arith, length, ◌≤◌, ap, sym, subst}
-use Rattle.sporc_entry.specs.Genesis.{genesis_bytes}
-use Rattle.sporc_head.specs.HeadsModel.{HeadsModel, entries_in}
+use Rattle.sporc_head.proofs.Common.{genesis_bytes, HeadsModel, entries_in}
 use Rattle.sporc_head.proofs.Grows.{length-chain, chain_read}
 use Rattle.sporc_head.proofs.heads.Heads.hash_at.Goals as goal
 

@@ -1,7 +1,5 @@
 use Rattle.std.proofs.Common.{ap, ◌∙◌}
-use Rattle.sporc_head.specs.History.{is_removed}
-use Rattle.sporc_head.specs.HeadsModel.{HeadsModel}
-use Rattle.sporc_head.specs.TablesMatch.{is_gone}
+use Rattle.sporc_head.proofs.Common.{is_removed, HeadsModel, is_gone}
 use Rattle.sporc_head.proofs.heads.Heads.is_removed.Goals as goal
 
 pub returns : goal.returns

@@ -1,5 +1,5 @@
 use Rattle.std.proofs.Common.{rules, ap, ℕ, List, map}
-use Rattle.std.specs.Global.{Vec}
+use Rattle.sporc_head.proofs.Common.{Vec}
 use Rattle.sporc_head.proofs.Keeping.{keeps_open, tables_empty}
 use Rattle.sporc_head.proofs.heads.Heads.open.Goals as goal
 

@@ -1,18 +1,6 @@
 use Rattle.std.proofs.Common.{◌≡◌, ◌<◌, ◌≤◌, ◌∷◌, ◌++◌, [], ◌+◌, ℕ, List, eqb, length, map, ap, sym, ◌∙◌, refl, arith}
-use Rattle.std.specs.Global.{Vec}
-use Rattle.std.proofs.lemmas.List.{map_push, length-map}
-use Rattle.sporc_hash.specs.Chain.{next_value}
-use Rattle.sporc_member.specs.declared.change.Change.{Change}
-use Rattle.sporc_member.specs.Roster.{Roster, after_change, change_fault_of}
-use Rattle.std.specs.Prelude.{nat_eq, cond, Some}
-use Rattle.std.specs.HashMap.{get}
-use Rattle.sporc_member.specs.declared.device.Device.{Device}
-use Rattle.sporc_member.specs.Device.{same_device}
-use Rattle.sporc_entry.specs.Entry.{author_device}
-use Rattle.sporc_head.specs.declared.limits.TheConstants.{MAX_ENTRIES, DEVICE_NUMBERS}
-use Rattle.sporc_head.specs.History.{hash_of, roster_of}
-use Rattle.sporc_head.specs.TablesMatch.{rank_of, tally_in, with_removal}
-use Rattle.sporc_head.specs.HeadsModel.{HeadsModel, entries_in}
+use Rattle.sporc_head.proofs.Common.{Vec, map_push, length-map, next_value, Change, Roster, after_change, change_fault_of, nat_eq, cond, Some, get, Device, same_device, author_device, MAX_ENTRIES}
+use Rattle.sporc_head.proofs.Common.{DEVICE_NUMBERS, hash_of, roster_of, rank_of, tally_in, with_removal, HeadsModel, entries_in}
 use Rattle.sporc_head.proofs.Grows.{count_le, epoch_le}
 use Rattle.sporc_head.proofs.Keeping.{keeps_change}
 use Rattle.sporc_head.proofs.OnceChecked.{ok_of, checked_room, checked_by, checked_change, checked_accepted}

@@ -1,16 +1,6 @@
 use Rattle.std.proofs.Common.{◌≡◌, ◌<◌, ◌∷◌, ◌++◌, [], ◌+◌, ℕ, List, eqb, length, map, ap, sym, ◌∙◌, arith}
-use Rattle.std.specs.Global.{Vec}
-use Rattle.std.proofs.lemmas.List.{map_push, length-map}
-use Rattle.sporc_hash.specs.Chain.{next_value}
-use Rattle.std.specs.Prelude.{nat_eq, cond, Some}
-use Rattle.std.specs.HashMap.{get}
-use Rattle.sporc_member.specs.declared.device.Device.{Device}
-use Rattle.sporc_member.specs.Device.{same_device}
-use Rattle.sporc_entry.specs.Entry.{author_device}
-use Rattle.sporc_head.specs.declared.limits.TheConstants.{MAX_ENTRIES, DEVICE_NUMBERS}
-use Rattle.sporc_head.specs.TablesMatch.{rank_of, tally_in}
-use Rattle.sporc_head.specs.History.{hash_of}
-use Rattle.sporc_head.specs.HeadsModel.{HeadsModel, entries_in}
+use Rattle.sporc_head.proofs.Common.{Vec, map_push, length-map, next_value, nat_eq, cond, Some, get, Device, same_device, author_device, MAX_ENTRIES, DEVICE_NUMBERS, rank_of, tally_in, hash_of}
+use Rattle.sporc_head.proofs.Common.{HeadsModel, entries_in}
 use Rattle.sporc_head.proofs.Grows.{count_le}
 use Rattle.sporc_head.proofs.Keeping.{keeps_edit}
 use Rattle.sporc_head.proofs.OnceChecked.{checked_room, checked_by, checked_edit}

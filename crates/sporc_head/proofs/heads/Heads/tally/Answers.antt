@@ -1,8 +1,5 @@
 use Rattle.std.proofs.Common.{◌<◌, ap, ◌∙◌, arith}
-use Rattle.sporc_head.specs.declared.limits.TheConstants.{DEVICE_NUMBERS}
-use Rattle.sporc_head.specs.declared.tables.Tally.{Tally}
-use Rattle.sporc_head.specs.History.{count_of, last_of}
-use Rattle.sporc_head.specs.HeadsModel.{HeadsModel}
+use Rattle.sporc_head.proofs.Common.{DEVICE_NUMBERS, Tally, count_of, last_of, HeadsModel}
 use Rattle.sporc_head.proofs.heads.Heads.tally.Goals as goal
 
 pub returns : goal.returns

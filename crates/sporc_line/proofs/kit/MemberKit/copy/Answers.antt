@@ -1,10 +1,8 @@
 use Rattle.std.proofs.Common.{◌≡◌, ℕ, List, ap, ◌∙◌}
-use Rattle.std.specs.FinMap.{from_entries}
-use Rattle.std.specs.List.{each_same}
+use Rattle.sporc_line.proofs.Common.{from_entries, each_same, kit_of}
 use Rattle.std.specs.Ordering.{nat_cmp}
 use Rattle.std.proofs.lemmas.Map.Entries.{entries_from_clone}
 use Rattle.sporc_epoch.specs.Keys.{Keys}
-use Rattle.sporc_line.specs.Kit.{kit_of}
 use Rattle.sporc_line.proofs.kit.MemberKit.copy.Goals as goal
 
 pub returns : goal.returns

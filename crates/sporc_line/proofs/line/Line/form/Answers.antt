@@ -1,5 +1,5 @@
 use Rattle.std.proofs.Common.{◌≤◌, ◌-◌, length, arith, sym, subst}
-use Rattle.sporc_line.specs.LineModel.{LineModel}
+use Rattle.sporc_line.proofs.Common.{LineModel}
 use Rattle.sporc_line.proofs.LineKeeps.{form_place}
 use Rattle.sporc_line.proofs.line.Line.form.Goals as goal
 

@@ -1,7 +1,5 @@
 use Rattle.std.proofs.Common.{◌≡◌, ◌≤◌, length, take, sym, subst}
-use Rattle.sporc_delta.specs.Marks.{base_len}
-use Rattle.sporc_line.specs.Document.{text_of}
-use Rattle.sporc_line.specs.LineModel.{LineModel}
+use Rattle.sporc_line.proofs.Common.{base_len, text_of, LineModel}
 use Rattle.sporc_line.proofs.LineKeeps.{can_pass}
 use Rattle.sporc_line.proofs.line.Line.over_forms.Goals as goal
 

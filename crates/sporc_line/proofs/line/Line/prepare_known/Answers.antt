@@ -1,13 +1,6 @@
 use Rattle.std.proofs.Common.{◌≡◌, ℕ, ◌+◌, List, length, Some, None, ap, sym, ◌∙◌, subst}
-use Rattle.std.proofs.lemmas.Result.{err_from_is_err_and}
-use Rattle.sporc_base.specs.FirstFault.{first_of}
-use Rattle.sporc_member.specs.declared.device.Device.{Device}
-use Rattle.sporc_head.specs.declared.refusal.Refusal.TheVariants.{Memory}
-use Rattle.sporc_head.specs.HeadChecks.{head_fault}
-use Rattle.sporc_line.specs.LineChecks.{key_checks, first_fault}
-use Rattle.sporc_line.specs.LineModel.{LineModel}
+use Rattle.sporc_line.proofs.Common.{err_from_is_err_and, first_of, Device, Memory, head_fault, key_checks, first_fault, LineModel, unless_exit}
 use Rattle.sporc_line.proofs.NextEntry.{fault_at_head, at_next}
-use Rattle.sporc_head.proofs.OnceChecked.{unless_exit}
 use Rattle.sporc_line.proofs.Effects.{checked_faults}
 use Rattle.sporc_line.proofs.line.Line.prepare_known.Goals as goal
 

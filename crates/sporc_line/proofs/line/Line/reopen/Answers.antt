@@ -1,8 +1,5 @@
 use Rattle.std.proofs.Common.{◌≡◌, Some, None, ap, sym, ◌∙◌, subst}
-use Rattle.std.specs.FinMap.{get}
-use Rattle.sporc_entry.specs.declared.genesis.Genesis.{Genesis}
-use Rattle.sporc_line.specs.Kit.{Kit}
-use Rattle.sporc_line.specs.Good.{Meets}
+use Rattle.sporc_line.proofs.Common.{get, Genesis, Kit, Meets}
 use Rattle.sporc_line.proofs.LineKeeps.{opens_with}
 use Rattle.sporc_line.proofs.line.Line.reopen.Goals as goal
 

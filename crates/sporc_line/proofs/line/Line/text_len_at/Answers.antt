@@ -1,6 +1,5 @@
 use Rattle.std.proofs.Common.{◌≡◌, ◌≤◌, ◌∙◌, length, take, arith, sym, subst}
-use Rattle.sporc_line.specs.Document.{text_of}
-use Rattle.sporc_line.specs.LineModel.{LineModel}
+use Rattle.sporc_line.proofs.Common.{text_of, LineModel}
 use Rattle.sporc_line.proofs.LineKeeps.{form_place, before_form, before_small, text_small}
 use Rattle.sporc_line.proofs.line.Line.text_len_at.Goals as goal
 

@@ -1,13 +1,5 @@
 use Rattle.std.proofs.Common.{◌≡◌, sym, ap, ◌∙◌, ◌++◌, ◌∷◌, [], ℕ, List, None}
-use Rattle.std.specs.List.{insert}
-use Rattle.sporc_member.specs.declared.change.Change.TheVariants.{Add}
-use Rattle.sporc_member.specs.declared.device.Device.{Device}
-use Rattle.sporc_member.specs.declared.device.LiveDevice.{LiveDevice}
-use Rattle.sporc_member.specs.declared.member.Member.{Member}
-use Rattle.sporc_member.specs.Device.{first_device, insert_device}
-use Rattle.sporc_member.specs.Roster.{Roster, insert_sorted, change_fault_of, after_change}
-use Rattle.sporc_member.specs.Lists.{place_among}
-use Rattle.sporc_member.specs.RosterModel.{RosterModel, roster_in}
+use Rattle.sporc_member.proofs.Common.{insert, Add, Device, LiveDevice, Member, first_device, insert_device, Roster, insert_sorted, change_fault_of, after_change, place_among, RosterModel, roster_in}
 use Rattle.sporc_member.proofs.Places.{insert_sorted-place}
 use Rattle.sporc_member.proofs.Keeping.{keeps_add, add_passes}
 use Rattle.sporc_member.proofs.Grouped.{keeps_device}

@@ -1,9 +1,5 @@
 use Rattle.std.proofs.Common.{◌≡◌, ap, ◌∙◌, None}
-use Rattle.sporc_member.specs.declared.change.Change.TheVariants.{AddDevice}
-use Rattle.sporc_member.specs.declared.device.Device.{Device}
-use Rattle.sporc_member.specs.declared.device.LiveDevice.{LiveDevice}
-use Rattle.sporc_member.specs.Roster.{Roster, change_fault_of}
-use Rattle.sporc_member.specs.RosterModel.{RosterModel, roster_in}
+use Rattle.sporc_member.proofs.Common.{AddDevice, Device, LiveDevice, Roster, change_fault_of, RosterModel, roster_in}
 use Rattle.sporc_member.proofs.Keeping.{keeps_used}
 use Rattle.sporc_member.proofs.Grouped.{keeps_device}
 use Rattle.sporc_member.proofs.Belonging.{device_passes, live_device}

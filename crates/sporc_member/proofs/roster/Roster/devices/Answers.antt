@@ -1,9 +1,5 @@
 use Rattle.std.proofs.Common.{◌≡◌, ◌+◌, ◌-◌, ℕ, false, is_some, List, length, take, drop, arith, ap, sym, ◌∙◌}
-use Rattle.std.proofs.lemmas.List.{length-map}
-use Rattle.sporc_member.specs.declared.device.LiveDevice.{LiveDevice}
-use Rattle.sporc_member.specs.Device.{place_from}
-use Rattle.sporc_member.specs.Roster.{devices_of, member_at}
-use Rattle.sporc_member.specs.RosterModel.{RosterModel, roster_in}
+use Rattle.sporc_member.proofs.Common.{length-map, LiveDevice, place_from, devices_of, member_at, RosterModel, roster_in}
 use Rattle.sporc_member.proofs.Grouped.{place_from-le, place_from-mono, numbers_here}
 use Rattle.sporc_member.proofs.Belonging.{no_devices}
 use Rattle.sporc_member.proofs.roster.Roster.devices.Goals as goal

@@ -1,7 +1,5 @@
 use Rattle.std.proofs.Common.{map, ap, not, ◌∙◌}
-use Rattle.sporc_member.specs.declared.device.Device.{Device}
-use Rattle.sporc_member.specs.declared.device.LiveDevice.{LiveDevice}
-use Rattle.sporc_member.specs.Device.{same_device}
+use Rattle.sporc_member.proofs.Common.{Device, LiveDevice, same_device}
 use Rattle.sporc_member.proofs.Grouped.{keeps_those}
 use Rattle.sporc_member.proofs.Belonging.{live_drop}
 use Rattle.sporc_member.proofs.roster.Roster.drop_device.Goals as goal

@@ -1,5 +1,5 @@
 use Rattle.std.proofs.Common.{map, ap, ◌∙◌}
-use Rattle.sporc_member.specs.Roster.{numbers_of}
+use Rattle.sporc_member.proofs.Common.{numbers_of}
 use Rattle.sporc_member.proofs.Keeping.{keeps_founders, numbers_of-founders}
 use Rattle.sporc_member.proofs.Grouped.{founds_devices}
 use Rattle.sporc_member.proofs.Belonging.{founds_live}

@@ -1,7 +1,5 @@
 use Rattle.std.proofs.Common.{◌≡◌, ap, sym, ◌∙◌, true, is_some}
-use Rattle.sporc_member.specs.declared.device.Device.{Device}
-use Rattle.sporc_member.specs.Roster.{key_of, member_at}
-use Rattle.sporc_member.specs.RosterModel.{RosterModel, roster_in}
+use Rattle.sporc_member.proofs.Common.{Device, key_of, member_at, RosterModel, roster_in}
 use Rattle.sporc_member.proofs.Belonging.{live_member, live_first}
 use Rattle.sporc_member.proofs.roster.Roster.key.Goals as goal
 

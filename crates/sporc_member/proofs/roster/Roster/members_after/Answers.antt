@@ -1,7 +1,6 @@
 use Rattle.std.proofs.Common.{sym, ap, ◌∙◌, ℕ, List, filter, not, eqb}
-use Rattle.std.specs.List.{insert}
+use Rattle.sporc_member.proofs.Common.{insert, place_among}
 use Rattle.std.proofs.lemmas.Result.{IfOk-weaker}
-use Rattle.sporc_member.specs.Lists.{place_among}
 use Rattle.sporc_member.proofs.Places.{numbers_of-insert_sorted, numbers_of-with_role, numbers_of-filter}
 use Rattle.sporc_member.proofs.roster.Roster.members_after.Goals as goal
 

@@ -1,5 +1,5 @@
 use Rattle.std.proofs.Common.{map, ap, not, ◌==◌, ◌∙◌}
-use Rattle.sporc_member.specs.declared.device.LiveDevice.{LiveDevice}
+use Rattle.sporc_member.proofs.Common.{LiveDevice}
 use Rattle.sporc_member.proofs.Keeping.{keeps_remove}
 use Rattle.sporc_member.proofs.Grouped.{keeps_those}
 use Rattle.sporc_member.proofs.Belonging.{live_remove}

@@ -1,7 +1,5 @@
 use Rattle.std.proofs.Common.{◌≡◌, fold, map, take}
-use Rattle.std.specs.FinMap.{empty}
-use Rattle.sporc_epoch.specs.Keys.{pairs_in}
-use Rattle.sporc_play.specs.Stage.{pair_among}
+use Rattle.sporc_play.proofs.Common.{empty, pairs_in, pair_among}
 use Rattle.sporc_play.proofs.cast.Cast.pairs_of.Given as goal
 
 abbrev pub invariant-loop-other : goal.invariant-loop-other

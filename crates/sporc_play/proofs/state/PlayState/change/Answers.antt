@@ -1,9 +1,8 @@
 use Rattle.std.proofs.Common.{refl}
-use Rattle.sporc_play.proofs.Becoming.{change_becomes, change_tells, ok_then, seat_read, seat_within}
+use Rattle.sporc_play.proofs.Becoming.{change_becomes, ok_then, seat_read}
 use Rattle.sporc_play.proofs.state.PlayState.change.Goals as goal
-
-pub index_mut-requires : goal.index_mut-requires
-index_mut-requires c = seat_within c.as_slice.result.now _ c.seat_at-i.result _ c.as_slice.ensures.len c.seat_at-i.ensures.value
+use Rattle.sporc_play.proofs.Commands.{told}
+use Rattle.sporc_play.proofs.Common.{change_line}
 
 pub returns-clause-state : goal.returns-clause-state
 returns-clause-state c =
@@ -15,4 +14,4 @@ pub returns-clause-line : goal.returns-clause-line
 returns-clause-line c =
     let old = c.args.self.now in
     let at = seat_read c.as_slice.result.now old.seats.items c.seat_at-i.result _ c.index_mut.result.now c.as_slice.ensures.value c.seat_at-i.ensures.value c.index_mut.ensures.value in
-    ok_then c.change.result _ _ c.change.ensures.line (λ is. change_tells old c.args.edit.now c.seat_at-i.result c.index_mut.result.now _ _ at is)
+    ok_then c.change.result _ _ c.change.ensures.line (λ is script scene stands. told script scene old c.seat_at-i.result c.args.edit.now.device c.index_mut.result.now (change_line c.args.edit.now.device) _ _ stands at is)

@@ -1,8 +1,5 @@
 use Rattle.std.proofs.Common.{◌<◌, ℕ, List, length, ap, ◌∙◌, sym, subst}
-use Rattle.std.specs.Prelude.{slice_get}
-use Rattle.sporc_report.specs.ClientLines.{Stands}
-use Rattle.sporc_play.specs.Report.{hashes_of}
-use Rattle.sporc_client.specs.ClientModel.{state_of}
+use Rattle.sporc_play.proofs.Common.{slice_get, Stands, hashes_of, state_of}
 use Rattle.sporc_play.proofs.Becoming.{ok_then}
 use Rattle.sporc_play.proofs.Kept.{begun_chain, chain_is, compare_tells, first_missing, second_missing, found_by, one_beginning, stands}
 use Rattle.sporc_play.proofs.state.PlayState.compare.Goals as goal

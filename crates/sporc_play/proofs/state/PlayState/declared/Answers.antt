@@ -1,8 +1,5 @@
 use Rattle.std.proofs.Common.{◌≡◌, ◌+◌, ◌++◌, ◌∷◌, [], List, arith, ap, sym, subst, take, ◌∙◌}
-use Rattle.std.proofs.lemmas.List.{take_all, take_more}
-use Rattle.sporc_script.specs.declared.play_line.PlayLine.{PlayLine}
-use Rattle.sporc_play.specs.Cast.{tree_of}
-use Rattle.sporc_play.specs.Opening.{HaveDeclared}
+use Rattle.sporc_play.proofs.Common.{take_all, take_more, PlayLine, tree_of, HaveDeclared}
 use Rattle.sporc_play.proofs.Opened.{stands_first}
 use Rattle.sporc_play.proofs.state.PlayState.declared.Goals as goal
 

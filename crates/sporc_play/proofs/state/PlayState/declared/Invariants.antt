@@ -1,6 +1,5 @@
 use Rattle.std.proofs.Common.{take}
-use Rattle.sporc_play.specs.Cast.{tree_of}
-use Rattle.sporc_play.specs.Opening.{HaveDeclared}
+use Rattle.sporc_play.proofs.Common.{tree_of, HaveDeclared}
 use Rattle.sporc_play.proofs.state.PlayState.declared.Given as goal
 
 abbrev pub invariant-loop-line : goal.invariant-loop-line

@@ -1,18 +1,17 @@
 use Rattle.std.proofs.Common.{refl}
-use Rattle.sporc_play.proofs.Becoming.{edit_becomes, edit_tells, ok_then, seat_read, seat_within}
+use Rattle.sporc_play.proofs.Becoming.{ok_then, seat_read}
 use Rattle.sporc_play.proofs.state.PlayState.edit.Goals as goal
-
-pub index_mut-requires : goal.index_mut-requires
-index_mut-requires c = seat_within c.as_slice.result.now _ c.seat_at-i.result _ c.as_slice.ensures.len c.seat_at-i.ensures.value
+use Rattle.sporc_play.proofs.Commands.{adds_stand, told}
+use Rattle.sporc_play.proofs.Common.{edit_events, edited_line}
 
 pub returns-clause-state : goal.returns-clause-state
 returns-clause-state c =
     let old = c.args.self.now in
     let at = seat_read c.as_slice.result.now old.seats.items c.seat_at-i.result _ c.index_mut.result.now c.as_slice.ensures.value c.seat_at-i.ensures.value c.index_mut.ensures.value in
-    ok_then c.edit.result _ _ c.edit.ensures.seat (λ is. edit_becomes old _ c.args.edit.now c.seat_at-i.result c.index_mut.result.now c.edit.new.seat at (record { genesis = refl; cast = refl; rogues = refl; seats = refl }) refl is)
+    ok_then c.edit.result _ _ c.edit.ensures.seat (λ is script scene stands. adds_stand script scene old _ c.seat_at-i.result c.args.edit.now.device c.index_mut.result.now c.edit.new.seat (edit_events c.args.edit.now) stands at is (record { genesis = refl; cast = refl; rogues = refl; seats = refl }) refl)
 
 pub returns-clause-line : goal.returns-clause-line
 returns-clause-line c =
     let old = c.args.self.now in
     let at = seat_read c.as_slice.result.now old.seats.items c.seat_at-i.result _ c.index_mut.result.now c.as_slice.ensures.value c.seat_at-i.ensures.value c.index_mut.ensures.value in
-    ok_then c.edit.result _ _ c.edit.ensures.line (λ is. edit_tells old c.args.edit.now c.seat_at-i.result c.index_mut.result.now _ _ at is)
+    ok_then c.edit.result _ _ c.edit.ensures.line (λ is script scene stands. told script scene old c.seat_at-i.result c.args.edit.now.device c.index_mut.result.now (edited_line c.args.edit.now) _ _ stands at is)

@@ -1,9 +1,7 @@
 use Rattle.std.proofs.Common.{◌≡◌, ◌+◌, ◌++◌, List, ℕ, arith, length, map, ap, ◌∙◌, sym, append-nil, Global, Vec, Some, [], ◌∷◌, string_bytes}
-use Rattle.std.proofs.lemmas.List.{length-map}
-use Rattle.sporc_play.specs.Report.{entry_line}
-use Rattle.sporc_play.specs.Scene.{entry_at}
+use Rattle.sporc_play.proofs.Common.{length-map, entry_line, entry_at, flips}
 use Rattle.sporc_play.proofs.Becoming.{entries_of, ok_any, ok_both, ok_then}
-use Rattle.sporc_play.proofs.Kept.{flip_act, flip_becomes, flip_tale, flip_tells, no_byte_act, no_byte_line, unchanged}
+use Rattle.sporc_play.proofs.Kept.{flip_act, made_becomes, flip_tale, flip_tells, no_byte_act, no_byte_line, unchanged}
 use Rattle.sporc_play.proofs.state.PlayState.flip.Goals as goal
 
 pub returns-then-at-entry-clause-state : goal.returns-then-at-entry-clause-state
@@ -13,7 +11,7 @@ returns-then-at-entry-clause-state c =
     let entry = c.in-Some.entry.now in
     let found : entry_at (entries_of old) f.entry ≡ Some entry =
     ap (λ (xs : List (Vec ℕ Global)). entry_at (map (λ b. b.items) xs) f.entry) (sym c.as_slice.ensures.value) ∙ sym c.in-Some.ensures.value in
-    ok_any c.push_no_byte.result _ (flip_becomes old old f [] (unchanged old) (sym (append-nil (entries_of old))) (no_byte_act (entries_of old) f entry found c.if-at-entry.true))
+    ok_any c.push_no_byte.result _ (made_becomes old old [] (λ made. flips f.at (entry_at made f.entry)) (unchanged old) (sym (append-nil (entries_of old))) (no_byte_act (entries_of old) f entry found c.if-at-entry.true))
 
 pub returns-then-at-entry-clause-line : goal.returns-then-at-entry-clause-line
 returns-then-at-entry-clause-line c =
@@ -34,7 +32,7 @@ returns-clause-state c =
     ap (λ (xs : List (Vec ℕ Global)). entry_at (map (λ b. b.items) xs) f.entry) (sym c.as_slice.ensures.value) ∙ sym c.in-Some.ensures.value in
     let (byte, there, is) = c.in_ok-bytes.ensures in
     ok_both c.keep.result _ _ _ c.keep.ensures.others c.keep.ensures.made (λ same grown.
-    flip_becomes old c.keep.new.self f (c.in_ok-bytes.bytes.items ∷ []) same grown (flip_act (entries_of old) f entry byte c.in_ok-bytes.bytes.items found there is))
+    made_becomes old c.keep.new.self (c.in_ok-bytes.bytes.items ∷ []) (λ made. flips f.at (entry_at made f.entry)) same grown (flip_act (entries_of old) f entry byte c.in_ok-bytes.bytes.items found there is))
 
 pub returns-clause-line : goal.returns-clause-line
 returns-clause-line c =

@@ -1,9 +1,6 @@
 use Rattle.std.proofs.Common.{refl}
-use Rattle.sporc_play.proofs.Becoming.{entry_found, give_becomes, give_tells, ok_then, seat_read, seat_within}
+use Rattle.sporc_play.proofs.Becoming.{entry_found, give_becomes, give_tells, ok_then, seat_read}
 use Rattle.sporc_play.proofs.state.PlayState.give.Goals as goal
-
-pub index_mut-requires : goal.index_mut-requires
-index_mut-requires c = seat_within c.as_slice.result.now _ c.seat_at-i.result _ c.as_slice.ensures.len c.seat_at-i.ensures.value
 
 pub returns-clause-state : goal.returns-clause-state
 returns-clause-state c =

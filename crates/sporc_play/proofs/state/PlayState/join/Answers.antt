@@ -1,16 +1,8 @@
 use Rattle.std.proofs.Common.{◌≡◌, ◌++◌, ℕ, List, map, refl, subst, string_bytes, Global, Vec}
-use Rattle.sporc_client.specs.Run.{Setup}
-use Rattle.sporc_play.specs.Joined.{seat_joined}
-use Rattle.sporc_play.specs.Report.{join_line}
-use Rattle.sporc_play.specs.Scene.{entries_at}
-use Rattle.sporc_play.specs.Seats.{plain_in}
-use Rattle.sporc_play.specs.Stage.{IsCastOf, IsReadySeat}
-use Rattle.sporc_play.proofs.Becoming.{join_becomes, join_tells, ok_then, seat_read, seat_within}
+use Rattle.sporc_play.proofs.Common.{Setup, seat_joined, join_line, entries_at, plain_in, IsCastOf, IsReadySeat}
+use Rattle.sporc_play.proofs.Becoming.{join_becomes, join_tells, ok_then, seat_read}
 use Rattle.sporc_play.proofs.Places.{at_place}
 use Rattle.sporc_play.proofs.state.PlayState.join.Goals as goal
-
-pub index_mut-requires : goal.index_mut-requires
-index_mut-requires c = seat_within c.as_slice.result.now _ c.seat_at-i.result _ c.as_slice.ensures.len c.seat_at-i.ensures.value
 
 pub join-requires-clause-signer : goal.join-requires-clause-signer
 join-requires-clause-signer c =

@@ -1,4 +1,4 @@
-use Rattle.sporc_report.specs.ClientLines.{members_line}
+use Rattle.sporc_play.proofs.Common.{members_line}
 use Rattle.sporc_play.proofs.Becoming.{ok_then}
 use Rattle.sporc_play.proofs.Kept.{found_by, line_there, none_there}
 use Rattle.sporc_play.proofs.state.PlayState.members.Goals as goal

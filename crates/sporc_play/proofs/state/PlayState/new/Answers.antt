@@ -1,7 +1,5 @@
 use Rattle.std.proofs.Common.{rules, ◌≡◌, true, false, arith, length, sym, subst, ◌∙◌}
-use Rattle.sporc_entry.specs.declared.genesis.Genesis.{Genesis}
-use Rattle.sporc_entry.specs.Genesis.{IsGenesis}
-use Rattle.sporc_play.specs.Cast.{has_admin}
+use Rattle.sporc_play.proofs.Common.{Genesis, IsGenesis, has_admin}
 use Rattle.sporc_play.proofs.Opened.{admin_among, opened_all, opened_none}
 use Rattle.sporc_play.proofs.state.PlayState.new.Goals as goal
 

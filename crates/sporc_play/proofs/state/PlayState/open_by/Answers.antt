@@ -1,10 +1,5 @@
 use Rattle.std.proofs.Common.{◌≡◌, List, Some, None, ap, refl, sym, subst, ◌∙◌}
-use Rattle.std.specs.Prelude.{Contains}
-use Rattle.sporc_member.specs.declared.founder.Founder.{Founder}
-use Rattle.sporc_play.specs.declared.seat.Seat.{Seat}
-use Rattle.sporc_play.specs.Cast.{founders_of, opener_by, setup_of}
-use Rattle.sporc_play.specs.Scene.{scene_opened}
-use Rattle.sporc_play.specs.Seats.{seated}
+use Rattle.sporc_play.proofs.Common.{Contains, Founder, Seat, founders_of, opener_by, setup_of, scene_opened, seated}
 use Rattle.sporc_play.proofs.Becoming.{ok_then, seat_read}
 use Rattle.sporc_play.proofs.Openings.{founder_stands, founders_are, opener_device, other_stands}
 use Rattle.sporc_play.proofs.state.PlayState.open_by.Goals as goal

@@ -1,8 +1,5 @@
 use Rattle.std.proofs.Common.{List, sym, subst}
-use Rattle.std.specs.Prelude.{Contains}
-use Rattle.sporc_member.specs.declared.device.Device.{Device}
-use Rattle.sporc_entry.specs.declared.genesis.Genesis.{Genesis}
-use Rattle.sporc_entry.specs.Genesis.{IsGenesis}
+use Rattle.sporc_play.proofs.Common.{Contains, Device, Genesis, IsGenesis}
 use Rattle.sporc_play.proofs.Openings.{device_there}
 use Rattle.sporc_play.proofs.state.PlayState.open_founders.Goals as goal
 

@@ -1,6 +1,4 @@
-use Rattle.sporc_entry.specs.Genesis.{IsGenesis}
-use Rattle.sporc_play.specs.Scene.{scene_opened}
-use Rattle.sporc_play.specs.Stage.{StandsFor}
+use Rattle.sporc_play.proofs.Common.{IsGenesis, scene_opened, StandsFor}
 use Rattle.sporc_play.proofs.state.PlayState.open_founders.Given as goal
 
 abbrev pub invariant-loop-line : goal.invariant-loop-line

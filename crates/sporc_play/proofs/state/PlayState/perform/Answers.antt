@@ -78,20 +78,8 @@ returns-in-Sign-clause-state c = rw c.in-Sign.is c.sign.ensures.state
 pub edit-requires : goal.edit-requires
 edit-requires c = record { can = rw c.in-Edit.is at c.requires.can }
 
-pub change-requires : goal.change-requires
-change-requires c = record { can = rw c.in-Change.is at c.requires.can }
-
-pub discard-requires : goal.discard-requires
-discard-requires c = record { can = rw c.in-Discard.is at c.requires.can }
-
 pub submit-requires : goal.submit-requires
 submit-requires c = record { can = rw c.in-Submit.is at c.requires.can }
-
-pub give-requires : goal.give-requires
-give-requires c = record { can = rw c.in-Give.is at c.requires.can }
-
-pub restart-requires : goal.restart-requires
-restart-requires c = record { can = rw c.in-Restart.is at c.requires.can }
 
 pub join-requires : goal.join-requires
 join-requires c = record { can = rw c.in-Join.is at c.requires.can }

@@ -1,18 +1,17 @@
 use Rattle.std.proofs.Common.{refl}
-use Rattle.sporc_play.proofs.Becoming.{ok_then, restart_becomes, restart_tells, seat_read, seat_within}
+use Rattle.sporc_play.proofs.Becoming.{ok_then, seat_read}
 use Rattle.sporc_play.proofs.state.PlayState.restart.Goals as goal
-
-pub index_mut-requires : goal.index_mut-requires
-index_mut-requires c = seat_within c.as_slice.result.now _ c.seat_at-i.result _ c.as_slice.ensures.len c.seat_at-i.ensures.value
+use Rattle.sporc_play.proofs.Commands.{restart_stands, told}
+use Rattle.sporc_play.proofs.Common.{restart_line}
 
 pub returns-clause-state : goal.returns-clause-state
 returns-clause-state c =
     let old = c.args.self.now in
     let at = seat_read c.as_slice.result.now old.seats.items c.seat_at-i.result _ c.index_mut.result.now c.as_slice.ensures.value c.seat_at-i.ensures.value c.index_mut.ensures.value in
-    ok_then c.restart.result _ _ c.restart.ensures.seat (λ is. restart_becomes old _ c.args.restart.now c.seat_at-i.result c.index_mut.result.now c.restart.new.seat at (record { genesis = refl; cast = refl; rogues = refl; seats = refl }) refl is)
+    ok_then c.restart.result _ _ c.restart.ensures.seat (λ is script scene stands. restart_stands script scene old _ c.seat_at-i.result c.args.restart.now.device c.args.restart.now.entries c.index_mut.result.now c.restart.new.seat stands at is (record { genesis = refl; cast = refl; rogues = refl; seats = refl }) refl)
 
 pub returns-clause-line : goal.returns-clause-line
 returns-clause-line c =
     let old = c.args.self.now in
     let at = seat_read c.as_slice.result.now old.seats.items c.seat_at-i.result _ c.index_mut.result.now c.as_slice.ensures.value c.seat_at-i.ensures.value c.index_mut.ensures.value in
-    ok_then c.restart.result _ _ c.restart.ensures.line (λ is. restart_tells old c.args.restart.now c.seat_at-i.result c.index_mut.result.now _ _ at is)
+    ok_then c.restart.result _ _ c.restart.ensures.line (λ is script scene stands. told script scene old c.seat_at-i.result c.args.restart.now.device c.index_mut.result.now (restart_line c.args.restart.now.device c.args.restart.now.entries) _ _ stands at is)

@@ -1,17 +1,8 @@
 use Rattle.std.proofs.Common.{◌≡◌, ℕ, ◌+◌, ◌++◌, arith, ap, ◌∙◌, length, List, Option, option_map, subst, string_bytes, Vec, Global}
-use Rattle.std.proofs.lemmas.List.{length-map}
-use Rattle.sporc_memory.specs.MemoryDisk.{MemoryDiskModel}
-use Rattle.sporc_client.specs.ClientModel.{ClientModel}
-use Rattle.sporc_play.specs.declared.seat.Seat.{Seat}
-use Rattle.sporc_play.specs.Seats.{IsSeatAt}
-use Rattle.sporc_play.specs.Signing.{forged_by, signing_line}
-use Rattle.sporc_play.specs.Stage.{IsReadyRogue}
-use Rattle.sporc_play.proofs.Becoming.{entries_of, ok_any, ok_both, rogue_read, rogue_within, sign_becomes, sign_tells}
+use Rattle.sporc_play.proofs.Common.{length-map, MemoryDiskModel, ClientModel, Seat, IsSeatAt, forged_by, signing_line, IsReadyRogue}
+use Rattle.sporc_play.proofs.Becoming.{entries_of, ok_any, ok_both, rogue_read, sign_becomes, sign_tells}
 use Rattle.sporc_play.proofs.Places.{at_place}
 use Rattle.sporc_play.proofs.state.PlayState.sign.Goals as goal
-
-pub index_mut-rogue-requires : goal.index_mut-rogue-requires
-index_mut-rogue-requires c = rogue_within c.as_slice.result.now _ c.rogue_at-i.result _ c.as_slice.ensures.len c.rogue_at-i.ensures.value
 
 pub sign-requires-clause-limit : goal.sign-requires-clause-limit
 sign-requires-clause-limit c =

@@ -1,12 +1,8 @@
 use Rattle.std.proofs.Common.{◌≡◌, ℕ, ◌+◌, arith, length, option_map, Vec, Global}
-use Rattle.std.proofs.lemmas.List.{length-map}
-use Rattle.sporc_play.specs.Stage.{IsReadySeat}
-use Rattle.sporc_play.proofs.Becoming.{entries_of, ok_any, ok_both, seat_read, seat_within, submit_becomes, submit_tells}
+use Rattle.sporc_play.proofs.Common.{length-map, IsReadySeat}
+use Rattle.sporc_play.proofs.Becoming.{entries_of, ok_any, ok_both, seat_read, submit_becomes, submit_tells}
 use Rattle.sporc_play.proofs.Places.{at_place}
 use Rattle.sporc_play.proofs.state.PlayState.submit.Goals as goal
-
-pub index_mut-requires : goal.index_mut-requires
-index_mut-requires c = seat_within c.as_slice.result.now _ c.seat_at-i.result _ c.as_slice.ensures.len c.seat_at-i.ensures.value
 
 pub submit-requires-clause-limit : goal.submit-requires-clause-limit
 submit-requires-clause-limit c =

@@ -1,9 +1,7 @@
 use Rattle.std.proofs.Common.{◌≡◌, ◌<◌, ◌^◌, ℕ, List, [], ◌∷◌, ◌++◌, length, arith, rules, sym, ap, subst, ◌∙◌, inl, inr}
+use Rattle.sporc_serve.proofs.Common.{OrderModel, step_of, log_of, placed_by, added_of}
 use Rattle.std.proofs.Math.Logic.{∥∥₁_map}
-use Rattle.sporc_order.specs.OrderModel.{OrderModel}
-use Rattle.sporc_order.specs.Sessions.{step_of}
 use Rattle.sporc_serve.specs.declared.desk.Desk.{Desk}
-use Rattle.sporc_serve.specs.Logs.{log_of, placed_by, added_of}
 use Rattle.sporc_serve.proofs.Logs.{log_adds}
 use Rattle.sporc_serve.proofs.Sendable.{answer_sendable, reply_sendable}
 use Rattle.sporc_serve.proofs.desk.Desk.step.Goals as goal

@@ -1,9 +1,5 @@
 use Rattle.std.proofs.Common.{◌≡◌, ℕ, ap, ◌∙◌}
-use Rattle.sporc_turn.specs.Knowing.{seeing}
-use Rattle.sporc_turn.specs.Passes.{known_held, known_of, value_of}
-use Rattle.sporc_client.specs.Answers.{added}
-use Rattle.sporc_client.specs.Log.{Accept}
-use Rattle.sporc_shared.specs.Items.{items_of, past_of, with_events}
+use Rattle.sporc_shared.proofs.Common.{seeing, known_held, known_of, value_of, added, Accept, items_of, past_of, with_events}
 use Rattle.sporc_shared.proofs.Calling.{added_by, call_extends, call_front, call_is}
 use Rattle.sporc_shared.proofs.shared_client.SharedClient.accept_examined.Goals as goal
 

@@ -1,24 +1,17 @@
-use Rattle.std.proofs.Common.{◌≡◌, []}
-use Rattle.sporc_turn.specs.Knowing.{seeing}
-use Rattle.sporc_turn.specs.Passes.{known_held, known_of, value_of}
-use Rattle.sporc_shared.specs.Items.{IsAllowed, items_of, past_of, with_events}
-use Rattle.sporc_shared.proofs.Calling.{all_none, call_extends, call_is, with_none}
+use Rattle.sporc_shared.proofs.Common.{known_of, value_of, past_of}
+use Rattle.sporc_shared.proofs.Calling.{call_front, left_extends, left_is}
 use Rattle.sporc_shared.proofs.shared_client.SharedClient.is_flight.Goals as goal
 
 pub give-requires-clause-log : goal.give-requires-clause-log
-give-requires-clause-log g c =
-    let k = known_of c.args.pass in
-    let before = past_of (value_of c.in_ok-held.held).client.value in
-    let held : known_held c.is_flight-is.new.held ≡ seeing k (items_of before) = rw c.is_flight-is.ensures.unchanged c.in_ok-held.ensures.held in
-    let became : past_of (value_of c.is_flight-is.new.held).client.value ≡ with_events before [] = rw c.is_flight-is.ensures.unchanged (with_none before) in
-    call_extends k _ before _ [] held became (all_none k.number)
+give-requires-clause-log g c = rw c.is_flight-is.ensures.unchanged (left_extends (known_of c.args.pass) _ (past_of (value_of c.in_ok-held.held).client.value) c.in_ok-held.ensures.held)
 
 pub returns-clause-call : goal.returns-clause-call
 returns-clause-call g c =
-    let k = known_of c.args.pass in
     let before = past_of (value_of c.in_ok-held.held).client.value in
-    let held : known_held c.is_flight-is.new.held ≡ seeing k (items_of before) = rw c.is_flight-is.ensures.unchanged c.in_ok-held.ensures.held in
-    let became : past_of (value_of c.is_flight-is.new.held).client.value ≡ with_events before [] = rw c.is_flight-is.ensures.unchanged (with_none before) in
-    let allowed : IsAllowed (past_of (value_of c.is_flight-is.new.held).client.value) = rw c.is_flight-is.ensures.unchanged c.is_flight-is.ensures.allowed in
-    let call = call_is k _ (known_of c.give.result.pass) before _ [] held became c.in_ok-held.ensures.found c.give.ensures.known c.give.ensures.agrees allowed in
+    let known = rw c.is_flight-is.ensures.unchanged at c.give.ensures.known in
+    let agrees = rw c.is_flight-is.ensures.unchanged at c.give.ensures.agrees in
+    let call = left_is (known_of c.args.pass) _ (known_of c.give.result.pass) before c.in_ok-held.ensures.held c.in_ok-held.ensures.found known agrees c.is_flight-is.ensures.allowed in
     rw c.give.ensures.answer (before, call, c.is_flight-is.ensures.is)
+
+pub returns-clause-front : goal.returns-clause-front
+returns-clause-front g c = rw c.give.ensures.front (call_front _ (known_of c.give.result.pass) (past_of (value_of c.in_ok-held.held).client.value) _ (rw c.is_flight-is.ensures.unchanged at c.give.ensures.known) c.is_flight-is.ensures.events)

@@ -1,5 +1,4 @@
-use Rattle.sporc_turn.specs.Passes.{known_of}
-use Rattle.sporc_shared.specs.Items.{items_of, past_of}
+use Rattle.sporc_shared.proofs.Common.{known_of, items_of, past_of}
 use Rattle.sporc_shared.proofs.Calling.{agrees_first}
 use Rattle.sporc_shared.proofs.shared_client.SharedClient.open.Goals as goal
 

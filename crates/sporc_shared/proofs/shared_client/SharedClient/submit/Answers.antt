@@ -1,8 +1,5 @@
 use Rattle.std.proofs.Common.{◌≡◌, ℕ, ap, ◌∙◌}
-use Rattle.sporc_turn.specs.Knowing.{seeing}
-use Rattle.sporc_turn.specs.Passes.{known_held, known_of, value_of}
-use Rattle.sporc_client.specs.Submissions.{submission_added}
-use Rattle.sporc_shared.specs.Items.{items_of, past_of, with_events}
+use Rattle.sporc_shared.proofs.Common.{seeing, known_held, known_of, value_of, submission_added, items_of, past_of, with_events}
 use Rattle.sporc_shared.proofs.Calling.{call_extends, call_front, call_is, submission_by}
 use Rattle.sporc_shared.proofs.shared_client.SharedClient.submit.Goals as goal
 

@@ -1,7 +1,7 @@
 use Rattle.std.proofs.Common.{◌∙◌, Err, List, Ok, arith, refl, subst, true, ℕ}
+use Rattle.sporc_store.proofs.Common.{Puts, TailFileModel, Writes}
 use Rattle.sporc_order.specs.declared.tail.Unkept.{Unkept}
 use Rattle.sporc_outside.specs.declared.counted.Failed.{Failed}
-use Rattle.sporc_store.specs.TailFiles.{Puts, TailFileModel, Writes}
 use Rattle.sporc_store.proofs.TailPuts.{kept_with, puts_all, puts_part, still_kept}
 use Rattle.sporc_store.proofs.tail_file.TailFileTail.put.Goals as goal
 

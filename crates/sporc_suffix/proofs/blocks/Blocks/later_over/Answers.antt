@@ -1,8 +1,6 @@
 use Rattle.std.proofs.Common.{◌≡◌, ◌+◌, ◌≤◌, ℕ, drop, take, sym, subst}
+use Rattle.sporc_suffix.proofs.Common.{base_len, inserted_len, BlocksModel, Follow, all_inserted, reached, forms_in}
 use Rattle.sporc_delta.specs.declared.limits.TheConstants.{MAX_TEXT_LEN}
-use Rattle.sporc_delta.specs.Marks.{base_len, inserted_len}
-use Rattle.sporc_suffix.specs.Forms.{BlocksModel, Follow, all_inserted, reached}
-use Rattle.sporc_suffix.specs.Runs.{forms_in}
 use Rattle.sporc_suffix.proofs.Passing.{Follow-drop}
 use Rattle.sporc_suffix.proofs.blocks.Blocks.later_over.Goals as goal
 

@@ -1,7 +1,5 @@
 use Rattle.std.proofs.Common.{◌^◌, ◌-◌, ◌<◌, length, sym, subst, arith}
-use Rattle.std.proofs.lemmas.List.{length-map}
-use Rattle.sporc_suffix.specs.Forms.{BlocksModel}
-use Rattle.sporc_suffix.specs.Runs.{ReadyModel, IsReadyAt}
+use Rattle.sporc_suffix.proofs.Common.{length-map, BlocksModel, ReadyModel, IsReadyAt}
 use Rattle.sporc_suffix.proofs.Kept.{blocks_push}
 use Rattle.sporc_suffix.proofs.blocks.Blocks.put.Goals as goal
 

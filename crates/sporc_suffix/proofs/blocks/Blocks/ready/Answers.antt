@@ -1,7 +1,5 @@
 use Rattle.std.proofs.Common.{◌≡◌, sym, subst}
-use Rattle.sporc_delta.specs.Marks.{base_len}
-use Rattle.sporc_suffix.specs.Forms.{BlocksModel, reached}
-use Rattle.sporc_suffix.specs.Runs.{forms_in}
+use Rattle.sporc_suffix.proofs.Common.{base_len, BlocksModel, reached, forms_in}
 use Rattle.sporc_suffix.proofs.Composed.{joined}
 use Rattle.sporc_suffix.proofs.Passing.{Follow-append}
 use Rattle.sporc_suffix.proofs.blocks.Blocks.ready.Goals as goal

@@ -1,5 +1,5 @@
 use Rattle.std.proofs.Common.{ℕ, List, length, ap, sym, ◌∙◌, arith}
-use Rattle.sporc_text.specs.ReadyTextModel.{replaced}
+use Rattle.sporc_text.proofs.Common.{replaced}
 use Rattle.sporc_text.proofs.ReadyLemmas.{rewritten_here, rewritten_other}
 use Rattle.sporc_text.proofs.doc.Doc.put.Goals as goal
 

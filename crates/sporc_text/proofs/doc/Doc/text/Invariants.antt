@@ -1,5 +1,5 @@
 use Rattle.std.proofs.Common.{◌≡◌, take, string_bytes, encode_utf8_all}
-use Rattle.std.specs.List.{concat}
+use Rattle.sporc_text.proofs.Common.{concat}
 use Rattle.sporc_text.proofs.doc.Doc.text.Given as goal
 
 abbrev pub invariant-loop-chunk : goal.invariant-loop-chunk

@@ -1,9 +1,6 @@
 use Rattle.std.proofs.Common.{ℕ, List, ◌++◌, drop, length, ap, ◌∙◌, arith}
-use Rattle.std.specs.List.{concat}
+use Rattle.sporc_text.proofs.Common.{concat, apply, marks_of, MAX_CHUNK}
 use Rattle.std.proofs.lemmas.Grind.{div_ceil_times}
-use Rattle.sporc_delta.specs.Marks.{apply}
-use Rattle.sporc_delta.specs.Parts.{marks_of}
-use Rattle.sporc_text.specs.declared.limits.TheConstants.{MAX_CHUNK}
 use Rattle.sporc_text.proofs.ReadyLemmas.{made}
 use Rattle.sporc_text.proofs.ready.ReadyText.new.Goals as goal
 

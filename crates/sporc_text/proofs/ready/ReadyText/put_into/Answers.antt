@@ -1,7 +1,5 @@
 use Rattle.std.proofs.Common.{◌≡◌, ℕ, ◌+◌, ◌≤◌, List, ◌++◌, length, take, drop, ap, ◌∙◌, subst, arith, length-append}
-use Rattle.std.specs.List.{concat}
-use Rattle.sporc_text.specs.Chunks.{IsAt}
-use Rattle.sporc_text.specs.ReadyTextModel.{ReadyTextModel, replaced}
+use Rattle.sporc_text.proofs.Common.{concat, IsAt, ReadyTextModel, replaced}
 use Rattle.sporc_text.proofs.ChunkLemmas.{concat-at}
 use Rattle.sporc_text.proofs.CutLemmas.{length-replaced}
 use Rattle.sporc_text.proofs.MoveLemmas.{rewritten_at}

@@ -1,7 +1,7 @@
 use Rattle.std.proofs.Common.{ap, ◌∙◌, ◌≡◌, length, sym, subst, refl, arith}
+use Rattle.sporc_turn.proofs.Common.{Agrees}
 use Rattle.std.proofs.lemmas.Option.{same_Some}
 use Rattle.std.specs.Option.{IsSome}
-use Rattle.sporc_turn.specs.Log.{Agrees}
 use Rattle.sporc_turn.specs.Passes.{known_of}
 use Rattle.sporc_turn.proofs.Passes.{closes, view_there}
 use Rattle.sporc_turn.proofs.turn.Turn.close.Goals as goal

@@ -1,6 +1,5 @@
 use Rattle.std.proofs.Common.{◌≡◌, ◌≤◌, []}
-use Rattle.sporc_turn.specs.Seats.{IsIdle}
-use Rattle.sporc_turn.specs.Steps.{reading}
+use Rattle.sporc_turn.proofs.Common.{IsIdle, reading}
 use Rattle.sporc_turn.proofs.turn.Turn.draw.Given as goal
 
 -- the pass is still idle, and may have read the next ticket

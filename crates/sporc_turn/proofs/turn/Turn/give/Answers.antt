@@ -1,6 +1,5 @@
 use Rattle.std.proofs.Common.{rules, ap, ◌∙◌, ◌∷◌, Some, sym, ◌+◌, subst}
-use Rattle.atomic_table.specs.Table.{rest}
-use Rattle.sporc_turn.specs.Log.{Extends, Agrees}
+use Rattle.sporc_turn.proofs.Common.{rest, Extends, Agrees}
 use Rattle.sporc_turn.proofs.Turns.{raises, passes}
 use Rattle.sporc_turn.proofs.Passes.{room_slot, view_there}
 use Rattle.sporc_turn.proofs.turn.Turn.give.Goals as goal

@@ -1,6 +1,5 @@
 use Rattle.std.proofs.Common.{rules, subst, ap, ◌∙◌, sym}
-use Rattle.sporc_turn.specs.Log.{Agrees}
-use Rattle.sporc_turn.specs.Seats.{IsIdle}
+use Rattle.sporc_turn.proofs.Common.{Agrees, IsIdle}
 use Rattle.sporc_turn.proofs.Turns.{compares}
 use Rattle.sporc_turn.proofs.Passes.{joins, view_there}
 use Rattle.sporc_turn.proofs.turn.Turn.join.Goals as goal

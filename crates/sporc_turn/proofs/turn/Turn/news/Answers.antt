@@ -1,5 +1,5 @@
 use Rattle.std.proofs.Common.{rules, subst}
-use Rattle.sporc_turn.specs.Seats.{IsIdle}
+use Rattle.sporc_turn.proofs.Common.{IsIdle}
 use Rattle.sporc_turn.proofs.Turns.{hears}
 use Rattle.sporc_turn.proofs.Passes.{view_there}
 use Rattle.sporc_turn.proofs.turn.Turn.news.Goals as goal

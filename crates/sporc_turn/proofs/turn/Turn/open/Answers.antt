@@ -1,7 +1,5 @@
 use Rattle.std.proofs.Common.{rules, subst, sym, ◌∷◌, [], Some, length}
-use Rattle.atomic_table.specs.Table.{opening}
-use Rattle.sporc_turn.specs.Rule.{TurnInvariant}
-use Rattle.sporc_turn.specs.Steps.{newcomer}
+use Rattle.sporc_turn.proofs.Common.{opening, TurnInvariant, newcomer}
 use Rattle.sporc_turn.proofs.Passes.{opens}
 use Rattle.sporc_turn.proofs.turn.Turn.open.Goals as goal
 

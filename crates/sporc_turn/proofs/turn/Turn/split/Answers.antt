@@ -1,5 +1,5 @@
 use Rattle.std.proofs.Common.{rules, subst, ap, ◌∙◌, sym}
-use Rattle.sporc_turn.specs.Seats.{IsIdle}
+use Rattle.sporc_turn.proofs.Common.{IsIdle}
 use Rattle.sporc_turn.proofs.Passes.{splits, view_there}
 use Rattle.sporc_turn.proofs.turn.Turn.split.Goals as goal
 

@@ -1,5 +1,5 @@
 use Rattle.std.proofs.Common.{rules, ap, ◌∙◌, ◌∷◌, sym, Some}
-use Rattle.atomic_table.specs.Table.{rest}
+use Rattle.sporc_turn.proofs.Common.{rest}
 use Rattle.sporc_turn.proofs.Turns.{serves}
 use Rattle.sporc_turn.proofs.turn.Turn.wait.Goals as goal
 

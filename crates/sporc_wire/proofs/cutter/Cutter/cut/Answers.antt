@@ -1,14 +1,12 @@
 use Rattle.std.proofs.Common.{◌≡◌, Option, Some, None, List, ℕ, true, subst, ap, ◌∙◌}
-use Rattle.std.specs.Prelude.{MatchOption, is_some, not}
+use Rattle.sporc_wire.proofs.Common.{is_some, not, CutsFirst, CutterModel, FitsLimit, filled, rest_of, unread}
 use Rattle.bytes.specs.Filled.{Filled}
-use Rattle.sporc_wire.specs.Stream.{first_frame, partial, whole}
-use Rattle.sporc_wire.specs.CutterModel.{CutterModel, rest_of, unread, filled, FitsLimit}
 use Rattle.sporc_wire.proofs.Fronts.{first_frame-frame}
 use Rattle.sporc_wire.proofs.cutter.Cutter.cut.Goals as goal
 
--- what is ready stands at the first_frame
+-- what is ready stands first
 abbrev IsReady : CutterModel → Type 0
-IsReady c = MatchOption c.body (first_frame (unread c) ≡ partial) (λ body. first_frame (unread c) ≡ whole body c.rest)
+IsReady c = CutsFirst (unread c) c.body c.rest
 
 ready : (body : Option Filled) (rest : List ℕ) → FitsLimit body → is_some body ≡ true → IsReady (record { body = filled body; rest = rest })
 ready (Some body) rest fits is = first_frame-frame body.items rest fits

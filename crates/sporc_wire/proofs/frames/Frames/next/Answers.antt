@@ -1,9 +1,6 @@
 use Rattle.std.proofs.Common.{◌≡◌, ◌+◌, length, Some, None, Ok, Err, sym, ap, ap₂, ◌∙◌, arith}
-use Rattle.sporc_wire.specs.declared.fault.FrameFault.{FrameFault}
+use Rattle.sporc_wire.proofs.Common.{FrameFault, first_frame, partial, too_long, whole, unread, put_back, Unread, counted_to_end}
 use Rattle.sporc_wire.specs.declared.fault.FrameFault.TheVariants.{BadMessage, TooLong}
-use Rattle.sporc_wire.specs.Stream.{first_frame, partial, too_long, whole}
-use Rattle.sporc_wire.specs.CutterModel.{unread, put_back}
-use Rattle.sporc_wire.specs.Messages.{Unread, counted_to_end}
 use Rattle.sporc_wire.proofs.Nexts.{unread_is, next-stopped, next-at, next-message, read_ok, read_bad, cut_some, cut_none, stops_value, stops_after}
 use Rattle.sporc_wire.proofs.frames.Frames.next.Goals as goal
 

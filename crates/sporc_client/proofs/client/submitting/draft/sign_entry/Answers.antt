@@ -1,9 +1,6 @@
 use Rattle.std.proofs.Common.{◌≡◌, ◌++◌, List, ℕ, ap, sym, ◌∙◌}
-use Rattle.lms_tree.specs.LmsPrivate.{lms_public_of}
-use Rattle.lms_tree.specs.Signatures.{lms_signature_of}
-use Rattle.lms_tree.specs.Verification.{lms_signature_len_of}
-use Rattle.sporc_entry.specs.Entry.{signed_string}
-use Rattle.sporc_client.proofs.SubmitDrafts.{are_copies}
+use Rattle.sporc_client.proofs.Common.{lms_public_of, lms_signature_of, lms_signature_len_of, signed_string}
+use Rattle.sporc_client.proofs.SubmitEntries.{are_copies}
 use Rattle.sporc_client.proofs.client.submitting.draft.sign_entry.Goals as goal
 
 pub returns-in-Ok-sign-clause-made : goal.returns-in-Ok-sign-clause-made

@@ -1,5 +1,5 @@
 use Rattle.std.proofs.Common.{length, ap, ◌∙◌, arith}
-use Rattle.sporc_client.proofs.SubmitDrafts.{signed_some}
+use Rattle.sporc_client.proofs.SubmitEntries.{signed_some}
 use Rattle.sporc_client.proofs.client.submitting.draft.write_draft.Goals as goal
 
 pub prefix-requires-clause-positive : goal.prefix-requires-clause-positive

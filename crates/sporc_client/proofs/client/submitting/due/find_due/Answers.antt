@@ -1,7 +1,7 @@
 use Rattle.std.proofs.Common.{◌≡◌, Some, None, sym, ap, ◌∙◌}
+use Rattle.sporc_client.proofs.Common.{plain_of}
 use Rattle.std.specs.Prelude.{slice_get}
-use Rattle.sporc_client.specs.ClientInvariant.{plain_of}
-use Rattle.sporc_client.proofs.SubmitDue.{is_nothing, is_of_first, is_waiting, there}
+use Rattle.sporc_client.proofs.Submitting.{is_nothing, is_of_first, is_waiting, there}
 use Rattle.sporc_client.proofs.client.submitting.due.find_due.Goals as goal
 
 pub returns-then-is_some : goal.returns-then-is_some

@@ -1,10 +1,6 @@
 use Rattle.std.proofs.Common.{rules, ◌≡◌, Err, sym, subst, Result}
-use Rattle.sporc_base.specs.FirstFault.{first_of}
-use Rattle.sporc_client.specs.declared.client.submitting.due.Due.{Due as Step}
-use Rattle.sporc_client.specs.declared.fault.SubmitFault.{SubmitFault}
-use Rattle.sporc_client.specs.ClientInvariant.{plain_of}
-use Rattle.sporc_client.specs.Submissions.{item_due, or_due, submit_checks}
-use Rattle.sporc_client.proofs.SubmitDue.{Finds, checked_change, checked_edit, long_edit, refuses}
+use Rattle.sporc_client.proofs.Common.{first_of, Step, SubmitFault, plain_of, item_due, or_due, submit_checks}
+use Rattle.sporc_client.proofs.Submitting.{Finds, checked_change, checked_edit, long_edit, refuses}
 use Rattle.sporc_client.proofs.client.submitting.due.find_due_first.Goals as goal
 
 pub returns-in_err-check_submission : goal.returns-in_err-check_submission

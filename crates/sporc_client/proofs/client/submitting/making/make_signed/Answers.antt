@@ -1,6 +1,6 @@
 use Rattle.std.proofs.Common.{drop}
-use Rattle.sporc_client.specs.ClientInvariant.{plain_of}
-use Rattle.sporc_client.proofs.SubmitMade.{can_take, due_first, due_some, making, short_entry, signed_is, unsigned_is}
+use Rattle.sporc_client.proofs.Common.{plain_of}
+use Rattle.sporc_client.proofs.SubmitEntries.{can_take, due_first, due_some, making, short_entry, signed_is, unsigned_is}
 use Rattle.sporc_client.proofs.client.submitting.making.make_signed.Goals as goal
 
 pub first_item-requires : goal.first_item-requires

@@ -1,7 +1,5 @@
 use Rattle.std.proofs.Common.{ap, subst, ◌∙◌}
-use Rattle.sporc_entry.specs.Version.{version_of}
-use Rattle.sporc_head.specs.History.{roster_of}
-use Rattle.sporc_entry.specs.ChangeBody.{IsChangeBody, change_body_bytes}
+use Rattle.sporc_client.proofs.Common.{version_of, roster_of, IsChangeBody, change_body_bytes}
 use Rattle.sporc_client.proofs.client.submitting.unsigned.change_body.Goals as goal
 
 pub returns-clause-value : goal.returns-clause-value

@@ -1,11 +1,5 @@
 use Rattle.std.proofs.Common.{◌≡◌, ℕ, List, [], sym, subst}
-use Rattle.std.specs.Prelude.{IfOk, OnOk}
-use Rattle.lms_tree.specs.LmsPrivate.{LmsPrivate}
-use Rattle.sporc_client.specs.declared.pending.Pending.{Pending}
-use Rattle.sporc_client.specs.ClientInvariant.{plain_of}
-use Rattle.sporc_client.specs.Contents.{IsSpelled}
-use Rattle.sporc_client.specs.Entries.{Chosen, body_of}
-use Rattle.sporc_client.specs.Workspace.{WorkspaceModel}
+use Rattle.sporc_client.proofs.Common.{IfOk, OnOk, LmsPrivate, Pending, plain_of, IsSpelled, Chosen, body_of, WorkspaceModel}
 use Rattle.sporc_client.proofs.client.submitting.unsigned.entry_body.Goals as goal
 
 pub returns-in-Change-clause-value : goal.returns-in-Change-clause-value

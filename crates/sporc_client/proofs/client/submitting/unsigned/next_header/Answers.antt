@@ -1,11 +1,5 @@
 use Rattle.std.proofs.Common.{◌≡◌, ℕ, true, false, ap, length, arith, ◌∙◌}
-use Rattle.std.specs.Prelude.{is_some}
-use Rattle.sporc_member.specs.declared.device.Device.{Device}
-use Rattle.sporc_member.specs.Roster.{Roster, key_of}
-use Rattle.sporc_entry.specs.declared.genesis.Genesis.{Genesis}
-use Rattle.sporc_entry.specs.Version.{fits_version, version_of}
-use Rattle.sporc_head.specs.History.{epoch_of, roster_of}
-use Rattle.sporc_head.proofs.Grows.{epoch_le}
+use Rattle.sporc_client.proofs.Common.{is_some, Device, Roster, key_of, Genesis, fits_version, version_of, epoch_of, roster_of, epoch_le}
 use Rattle.sporc_client.proofs.SignedEntries.{length-hash_of}
 use Rattle.sporc_client.proofs.SubmitRosters.{fits_by}
 use Rattle.sporc_client.proofs.client.submitting.unsigned.next_header.Goals as goal

@@ -1,16 +1,7 @@
 use Rattle.std.proofs.Common.{◌≡◌, ℕ, [], ap, subst, ◌∙◌, arith, Err}
-use Rattle.sporc_member.specs.declared.device.Device.{Device}
-use Rattle.sporc_member.specs.Roster.{Roster, after_change, numbers_of}
-use Rattle.sporc_entry.specs.declared.genesis.Genesis.{Genesis}
-use Rattle.sporc_entry.specs.Genesis.{IsGenesis}
+use Rattle.sporc_client.proofs.Common.{Device, Roster, after_change, numbers_of, Genesis, IsGenesis, pairs_in, entry_stream, version_of, epoch_of, roster_of, epoch_le, plain_of}
 use Rattle.sporc_epoch.specs.declared.fault.SealFault.{SealFault}
 use Rattle.sporc_epoch.specs.declared.fault.SealFault.TheVariants.{Memory, NoPairKey}
-use Rattle.sporc_epoch.specs.Keys.{pairs_in}
-use Rattle.sporc_epoch.specs.Streams.{entry_stream}
-use Rattle.sporc_entry.specs.Version.{version_of}
-use Rattle.sporc_head.specs.History.{epoch_of, roster_of}
-use Rattle.sporc_head.proofs.Grows.{epoch_le}
-use Rattle.sporc_client.specs.ClientInvariant.{plain_of}
 use Rattle.sporc_client.proofs.SubmitRosters.{all_paired, can_seal, kind_written, sealed_same, sealing_same}
 use Rattle.sporc_client.proofs.client.submitting.unsigned.seal.Goals as goal
 

@@ -1,0 +1,8 @@
+use Rattle.std.proofs.Common.{◌≡◌, length, arith, rules}
+use Rattle.sporc_session.proofs.Common.{length-append}
+use Rattle.sporc_session.proofs.exchange.hello_of.Goals as goal
+
+pub returns-clause-within : goal.returns-clause-within
+returns-clause-within c =
+    let document : length c.args.document.now ≡ 16 = search rules in
+    omega (arith, document, length-append c.args.document.now)

@@ -1,0 +1,10 @@
+use Rattle.sporc_session.proofs.Rounding.{check_made}
+use Rattle.sporc_session.proofs.Wearing.{checked_worn}
+use Rattle.sporc_session.proofs.round.check.Goals as goal
+
+pub returns-clause-did : goal.returns-clause-did
+returns-clause-did g c link words count ready n = check_made c.is_flight.result c.requires.first c.plain-answer.ensures c.checked.ensures c.is_flight.ensures.call c.is_flight.ensures.worn ready n link words count
+
+pub returns-clause-worn : goal.returns-clause-worn
+returns-clause-worn g c =
+    checked_worn c.args.pass c.args.refusal c.is_flight.result c.plain-answer.result c.checked.result c.plain-answer.ensures c.checked.ensures c.is_flight.ensures.worn

@@ -1,5 +1,0 @@
-use Rattle.sporc_shared.proofs.Flowing.{entries_sent, later_sent}
-use Rattle.sporc_shared.proofs.laws.entries_that_are_made_are_sent.Goals as goal
-
-pub returns : goal.returns
-returns c = record { first = entries_sent; second = later_sent }
