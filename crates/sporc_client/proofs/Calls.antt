@@ -1,7 +1,7 @@
 -- Every call of a client is moves of it, or changes nothing.
-use Rattle.std.proofs.Common.{◌≡◌, ℕ, ◌≤◌, Bool, true, false, cond, List, [], ◌∷◌, ◌++◌, length, take, refl, ap, sym, ◌∙◌, subst, Option, Some}
-use Rattle.sporc_client.proofs.Common.{◌≢◌, Contains, IsSomeAnd, get, and_parts, fold-append, Device, same_device, same_one, Keys, Meets, can_log, can_log_all, Logged, Opening, PlainClient, opened}
-use Rattle.sporc_client.proofs.Common.{Setup, World, Move, Open, Restart, IsRun, after, after_all, opening_of, log_of_entries, replay_from, step}
+use Rattle.std.proofs.Common.{◌≡◌, ℕ, ◌≤◌, Bool, true, false, cond, List, [], ◌∷◌, ◌++◌, length, refl, ap, sym, ◌∙◌, subst, Option, Some}
+use Rattle.sporc_client.proofs.Common.{◌≢◌, IsSomeAnd, and_parts, fold-append, Device, same_device, same_one, Keys, can_log, can_log_all, Logged, Opening, PlainClient, opened}
+use Rattle.sporc_client.proofs.Common.{Setup, World, May, Move, Open, Restart, IsRun, after, after_all, opening_of, log_of_first, replay_from, step}
 use Rattle.sporc_client.specs.Allowed.{is_allowed}
 use Rattle.sporc_client.specs.Calls.{LeadTo, events_of}
 use Rattle.sporc_client.specs.Step.{replay}
@@ -71,11 +71,11 @@ added_lead s w who o log added at may =
     (events_lead s w who (replay o log) added at (allowed_rest (opened o) log added may))
 
 -- a call that goes back to the first k entries
-pub restart_leads : (s : Setup) (w : World) (who : Device) (k : ℕ) (o : Opening) (log : List Logged) → w.clients who ≡ Some (replay o log) → k ≤ length (replay o log).entries
-    → LeadTo s w (Restart who k ∷ []) who (replay o (log_of_entries (take k (replay o log).entries)))
-restart_leads s w who k o log at within =
+pub restart_leads : (s : Setup) (w : World) (who : Device) (o : Opening) (log : List Logged) (k : ℕ) → w.clients who ≡ Some (replay o log) → k ≤ length (replay o log).entries
+    → LeadTo s w (Restart who k ∷ []) who (replay o (log_of_first k (replay o log)))
+restart_leads s w who o log k at within =
     let c = replay o log in
-    let same : restarted c k ≡ replay o (log_of_entries (take k c.entries)) = ap (λ (o : Opening). replay o (log_of_entries (take k c.entries))) (replay_opening o log) in
+    let same : restarted c k ≡ replay o (log_of_first k c) = ap (λ (o : Opening). replay o (log_of_first k c)) (replay_opening o log) in
     record {
       run = (subst (λ (x : Option PlainClient). IsSomeAnd x (λ c. k ≤ length c.entries)) (sym at) within, tt);
       client = ap (λ (x : Option PlainClient). (restarts w who k x).clients who) at ∙ put_same w.clients who (restarted c k) ∙ ap Some same;
@@ -83,15 +83,15 @@ restart_leads s w who k o log at within =
     }
 
 -- a call that opens a client, with the entries of a history or with none
-pub opening_leads : (s : Setup) (w : World) (who : Device) (ring : Keys) (log : List Logged) → Contains s.devices who → Meets s.genesis 0 (get ring 0) s.genesis.commitment
+pub opening_leads : (s : Setup) (w : World) (who : Device) (ring : Keys) (log : List Logged) → May s w (Open who ring)
     → is_allowed (opening_of s who ring) log ≡ true → LeadTo s w (Open who ring ∷ events_of who log) who (replay (opening_of s who ring) log)
 unfolding replay is_allowed
-opening_leads s w who ring log is meets may =
+opening_leads s w who ring log opens may =
     let c = opened (opening_of s who ring) in
     let v = after s w (Open who ring) in
     let rest = events_lead s v who c log (put_same w.clients who c) may in
     record {
-      run = ((is, meets), rest.run);
+      run = (opens, rest.run);
       client = rest.client;
       others = λ other differs. rest.others other differs ∙ put_other w.clients who c other differs;
     }

@@ -2,7 +2,7 @@
 use Rattle.std.proofs.Common.{◌≡◌, ℕ, ◌<◌, Bool, true, false, if◌then◌else◌, List, [], ◌∷◌, ◌++◌, length, Option, None, Some, Ok, refl, ap, sym, ◌∙◌, subst, arith}
 use Rattle.sporc_client.proofs.Common.{IsErr, Result, Err, append_nil, SignerModel, Mark, apply, base_len, out_len, Follow, reached, Device, same_device, ChangeBody, Entry, Genesis, author_device}
 use Rattle.sporc_client.proofs.Common.{change_of, entry_of, change_in, committed_by, is_read_by, Kit, LineModel, length-apply, Event, MAX_EVENTS, Pending, journal_has_room, or_full, refusal_of}
-use Rattle.sporc_client.proofs.Common.{ClientInvariant, client_model, plain_of, ClientModel, Effect, coming_of, effect, flight_after, pending_after, shown_form, Logged, Accept, log_of, Opening}
+use Rattle.sporc_client.proofs.Common.{ClientInvariant, client_model, plain_of, ClientModel, with_events, Effect, coming_of, effect, flight_after, pending_after, shown_form, Logged, Accept, log_of, Opening}
 use Rattle.sporc_client.proofs.Common.{PlainClient, committed_of, me_of, shown_of, AreOver, AreStated, beyond, rebased, accepted, change_comes, form_coming, is_flight, own_comes, SameOwn}
 use Rattle.sporc_client.proofs.Common.{WorkspaceModel}
 use Rattle.std.specs.Option.{is_some}
@@ -176,7 +176,7 @@ same_model line line' signer ticket own own' lines owns =
 
 -- the model with one event more
 abbrev pub more_with : {D : Type 0} → LineModel → SignerModel D → Option ℕ → WorkspaceModel → Logged → ClientModel D
-more_with line signer ticket own event = record (client_model line signer ticket own) { log = log_of line.entries own.journal ++ event ∷ [] }
+more_with line signer ticket own event = with_events (client_model line signer ticket own) (event ∷ [])
 
 abbrev model_with : {D : Type 0} → SignerModel D → Option ℕ → Opening → List Logged → ClientModel D
 model_with signer ticket opening log = record { opening = opening; log = log; leaves = signer.leaves; ticket = ticket }

@@ -84,20 +84,20 @@ pub use Rattle.sporc_line.specs.Operations.{Operation, edit_marks, operations}
 pub use Rattle.sporc_client.specs.Allowed.{can_log, can_log_all, first_sealed, is_allowed, is_drop, is_entry, is_made, new_key_in, new_key_of, randomizer_in}
 pub use Rattle.sporc_client.specs.Answers.{accept_fault, change_checks, change_fault, discard_fault, edit_checks, edit_fault, has_right, is_out, journal_has_room, or_full, refusal_of, restart_fault}
 pub use Rattle.sporc_client.specs.ClientInvariant.{ClientInvariant, Stores, client_model, plain_of}
-pub use Rattle.sporc_client.specs.ClientModel.{AreInOrder, ClientModel, Rise, first_leaf_of, kept_count, leaf_in, leaves_of, state_of}
+pub use Rattle.sporc_client.specs.ClientModel.{AreInOrder, ClientModel, Rise, StandOnce, first_leaf_of, kept_count, leaf_in, leaves_of, state_of, with_events}
 pub use Rattle.sporc_client.specs.Coming.{CanCome, Effect, coming_of, effect, flight_after, pending_after, shown_form}
 pub use Rattle.sporc_client.specs.Contents.{CanTake, Fits, IsSpelled, IsSubmission}
 pub use Rattle.sporc_client.specs.Drawing.{IsDraw, MayDraw, at_hand, drawn, leaf_for}
 pub use Rattle.sporc_client.specs.Entries.{Chosen, body_of, bytes_made, current_key, entry_made, kind_of, next_header, sealing_of, unsigned_entry}
 pub use Rattle.sporc_client.specs.Genuine.{Genuine, HasSigned, IsUnderKeyOf}
 pub use Rattle.sporc_client.specs.Log.{Accept, Change, Discard, Dropped, Edit, Logged, Submit, accepted_in, entries_by, filled_event, journal_from, journal_of, log_of, stored_event}
-pub use Rattle.sporc_client.specs.PlainClient.{Opening, PlainClient, after_pending, committed_of, me_of, opened, shown_after, shown_of}
+pub use Rattle.sporc_client.specs.PlainClient.{Opening, PlainClient, after_pending, committed_of, line_of, me_of, opened, shown_after, shown_of}
 pub use Rattle.sporc_client.specs.Reached.{IsReached}
 pub use Rattle.sporc_client.specs.Rebasing.{AreOver, AreStated, beyond, in_one, inserted_by, rebased}
 pub use Rattle.sporc_client.specs.Run.{Give, Happen, IsAt, IsRun, May, Move, Open, Restart, Setup, Signing, World, after, after_all, given, opening_of, put, signings, start, world_at}
 pub use Rattle.sporc_client.specs.Small.{AreShort, IsSmall}
 pub use Rattle.sporc_client.specs.Soundness.{IsEditOf, IsEntryOf, IsInFlight, IsOfFirst, IsSound}
-pub use Rattle.sporc_client.specs.Step.{accepted, change_comes, edit_comes, form_coming, is_flight, is_same_as, keeps, log_of_entries, own_comes, replay, replay_from, restated, step}
+pub use Rattle.sporc_client.specs.Step.{accepted, change_comes, edit_comes, form_coming, is_flight, is_same_as, keeps, log_of_entries, log_of_first, own_comes, replay, replay_from, restated, step}
 pub use Rattle.sporc_client.specs.Submissions.{Drop, Due, Nothing, Refuse, Sign, Waiting, answered, change_due, draw_fault, due, due_behind, first_due, is_signing, item_due, no_pair_key, or_due}
 pub use Rattle.sporc_client.specs.Submissions.{signed, step_of, submission, submission_added, submit_checks}
 pub use Rattle.sporc_client.specs.Typed.{AreEpochKeys, IsTypedChange, IsTypedEvent, IsTypedMove, IsTypedRun}

@@ -76,11 +76,11 @@ sealed_for roster s pairs me named none =
     ∙ sym (wraps_any me ws)
 
 -- a member opens the new key
-pub member_opens : (roster : Roster) (s : Sealing) (pairs mine : Keys) (me : ℕ) → s.members ≡ numbers_of (after_change roster s.change).members → least_unpaired pairs s.members ≡ None
-    → is_some (member_at (after_change roster s.change) me) ≡ true → get mine s.author ≡ get pairs me → wrap_opened (body_sealed s pairs) s.author s.stream me mine ≡ Some s.new
-member_opens roster s pairs mine me named none there pair =
+pub member_opens : (roster : Roster) (s : Sealing) (pairs mine : Keys) (author me : ℕ) → s.members ≡ numbers_of (after_change roster s.change).members → least_unpaired pairs s.members ≡ None
+    → is_some (member_at (after_change roster s.change) me) ≡ true → get mine author ≡ get pairs me → wrap_opened (body_sealed s pairs) author s.stream me mine ≡ Some s.new
+member_opens roster s pairs mine author me named none there pair =
     let at : Contains s.members me = subst (λ (ns : List ℕ). Contains ns me) (sym named) (member_in me (after_change roster s.change).members there) in
-    new_opens s pairs mine (body_sealed s pairs) me (sealed_change_of s pairs none) at pair
+    new_opens s pairs mine (body_sealed s pairs) author me (sealed_change_of s pairs none) at pair
 
 -- the new key meets its commitment and opens the one before
 commits : (s : Sealing) (pairs : Keys) → commitment_of s.document (s.epoch + 1) s.new ≡ (body_sealed s pairs).commitment

@@ -6,13 +6,13 @@ use Rattle.sporc_client.proofs.Common.{roster_after, ChangeBody, Entry, Genesis,
 use Rattle.sporc_client.proofs.Common.{stream_of, wrap_opened, MAX_ENTRIES, allows_member, names_leaf, roster_checks, verifies_device, CommittedChange, change_in, changes, count_of, epoch_of, hash_of}
 use Rattle.sporc_client.proofs.Common.{is_removed, roster_of, change_in_read, Kit, key_after, epoch_key, line_strings, first_fault, is_new_key, new_key_checks, Operation, edit_marks, forms_from}
 use Rattle.sporc_client.proofs.Common.{text_after, text_of, Good, no_fault, good_take, has_left, Pending, new_key_in, new_key_of, randomizer_in, refusal_of, Chosen, current_key, entry_made, kind_of}
-use Rattle.sporc_client.proofs.Common.{next_header, sealing_of, Opening, PlainClient, committed_of, me_of, IsReached, AreStated, IsAt, Move, Setup, IsTypedRun, IsWellFormed}
+use Rattle.sporc_client.proofs.Common.{next_header, sealing_of, Opening, PlainClient, committed_of, me_of, IsReached, AreStated, IsAt, Move, Setup, IsTypedRun, IsWellFormed, line_of}
 use Rattle.sporc_line.specs.LineChecks.{key_checks, key_checks_of}
 use Rattle.sporc_line.proofs.NextEntry.{started_by_wraps}
 use Rattle.sporc_line.proofs.Effects.{edit_passes}
 use Rattle.sporc_line.proofs.SameKeys.{HasKeys, committed, has_right, same_epoch_keys, same_operations}
 use Rattle.sporc_client.specs.declared.pending.Pending.TheVariants as items
-use Rattle.sporc_client.specs.HonestEntries.{CanLearnKey, CanReceive, HasOwnKey, IsOthersEdit, SubmitsUnderOwnKey}
+use Rattle.sporc_client.specs.HonestEntries.{CanLearnKey, CanReceive, EntriesPass, HasOwnKey, IsOthersEdit}
 use Rattle.sporc_client.proofs.HonestChanges.{key_is_new, keys_fine, member_opens, roster_fine, sealed_for}
 use Rattle.sporc_client.proofs.HonestSignatures.{names_own_leaf, verifies_own}
 use Rattle.sporc_client.proofs.InHistories.{barrier_before, changes_stay, count_stays, last_before}
@@ -264,7 +264,7 @@ module _ (s : Setup) (i j : Device) (c d : PlainClient) (bytes : List ℕ) (sent
   chosen = chosen_in c sent.makes.entry
 
   abbrev sealing : Sealing
-  sealing = sealing_of c chosen change
+  sealing = sealing_of (line_of c) chosen.leaf chosen.new_key change
 
   abbrev pairs : Keys
   pairs = c.opening.kit.pairs
@@ -288,7 +288,7 @@ module _ (s : Setup) (i j : Device) (c d : PlainClient) (bytes : List ℕ) (sent
   has : HasKey c
   has = key_there c sent.sender.good due.not_removed
 
-  current : current_key c ≡ has.key
+  current : current_key (line_of c) ≡ has.key
   current = ap (λ (key : Option (List ℕ)). unwrap_or key []) has.is
 
   -- the change is read as it was sealed
@@ -332,12 +332,12 @@ module _ (s : Setup) (i j : Device) (c d : PlainClient) (bytes : List ℕ) (sent
       its_change : sealed.change ≡ change
       its_change = sealed_change sealing pairs
 
-      go : (h : Header) → h ≡ next_header c sent.makes.entry.header.leaf sent.makes.item → (there : Bool) → is_some (member_at (after_change roster change) (me_of d).member) ≡ there
+      go : (h : Header) → h ≡ next_header (line_of c) sent.makes.entry.header.leaf sent.makes.item → (there : Bool) → is_some (member_at (after_change roster change) (me_of d).member) ≡ there
           → cond (list_any (λ (w : Wrap). w.member == (me_of d).member) sealed.wraps) (wrap_opened sealed h.author (stream_of h) (me_of d).member d.opening.kit.pairs) (get d.opening.kit.ring (epoch_of (c.entries ++ sent.can.edits) + 1)) ≡ Some sealing.new
       go h by true is =
           let after : is_some (member_at (after_change roster sealed.change) (me_of d).member) ≡ true = ap (λ (x : MemberChange). is_some (member_at (after_change roster x) (me_of d).member)) its_change ∙ is in
           let wrap : list_any (λ (w : Wrap). w.member == (me_of d).member) sealed.wraps ≡ true = sym wrap_there ∙ is in
-          rw (wrap, by) (member_opens roster sealing pairs d.opening.kit.pairs (me_of d).member refl due.fits.1 is ((can_learn stays).paired after))
+          rw (wrap, by) (member_opens roster sealing pairs d.opening.kit.pairs (me_of c).member (me_of d).member refl due.fits.1 is ((can_learn stays).paired after))
       go h by false is =
           let after : is_some (member_at (after_change roster sealed.change) (me_of d).member) ≡ false = ap (λ (x : MemberChange). is_some (member_at (after_change roster x) (me_of d).member)) its_change ∙ is in
           let wrap : list_any (λ (w : Wrap). w.member == (me_of d).member) sealed.wraps ≡ false = sym wrap_there ∙ is in
@@ -372,9 +372,8 @@ sent_passes s i j c d bytes sent = go sent.makes.item refl
     go (items.Change change) is = change_passes_there s i j c d bytes sent change (made ∙ ap (entry_made c (chosen_in c sent.makes.entry)) is) (subst (IsDue c) is sent.makes.due)
 
 -- in a run of typed moves
-pub honest_entries_pass : (s : Setup) (moves : List Move) (m n by : ℕ) (i j : Device) (c d : PlainClient) (bytes : List ℕ) → IsTypedRun s moves → IsAt s moves m i c → SubmitsUnderOwnKey c by bytes
-    → IsAt s moves n j d → CanReceive c d bytes → refusal_of d (length d.entries + 1) bytes ≡ None
-honest_entries_pass s moves m n by i j c d bytes run at submits at' can =
+pub honest_entries_pass : (s : Setup) (moves : List Move) (m n : ℕ) (i j : Device) (c d : PlainClient) → IsTypedRun s moves → IsAt s moves m i c → IsAt s moves n j d → EntriesPass c d
+honest_entries_pass s moves m n i j c d run at at' = λ by bytes submits can.
     let sender = reached_at s moves m i c run.run at in
     sent_passes s i j c d bytes (record {
       well = run.setup;

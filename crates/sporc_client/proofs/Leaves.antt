@@ -1,6 +1,6 @@
 -- The leaves of a client's submissions are different ones.
 use Rattle.std.proofs.Common.{◌≡◌, ℕ, zero, suc, ◌+◌, ◌<◌, ◌≤◌, inl, inr, List, [], ◌∷◌, refl, ap, arith, Option, None, Some}
-use Rattle.sporc_client.proofs.Common.{slice_get, cons_option, Rise}
+use Rattle.sporc_client.proofs.Common.{slice_get, cons_option, Rise, StandOnce}
 use Rattle.sporc_client.specs.LeafUses.{AreUses, IsReopening, LeafSupply, LeafUse, Uses, leaves_used}
 
 -- numbers of which each is above all before it, from the first on
@@ -30,8 +30,8 @@ rise_climbs : (first end : ℕ) (ns : List ℕ) → Rise first end ns → Climb 
 rise_climbs first end [] rise = tt
 rise_climbs first end (n ∷ ns) rise = (rise.0, rise_climbs (n + 1) end ns rise.2)
 
-pub rise_once : (first end : ℕ) (ns : List ℕ) (i j n : ℕ) → Rise first end ns → slice_get ns i ≡ Some n → slice_get ns j ≡ Some n → i ≡ j
-rise_once first end ns i j n rise at at' = climb_once first ns i j n (rise_climbs first end ns rise) at at'
+pub rise_once : (first end : ℕ) (ns : List ℕ) → Rise first end ns → StandOnce ns
+rise_once first end ns rise = λ i j n at at'. climb_once first ns i j n (rise_climbs first end ns rise) at at'
 
 -- ---- those of all calls
 
@@ -87,9 +87,8 @@ uses_climb s (call ∷ uses) are was =
     ] in
     climb_on call.leaf (least s.ticket s.next) (least call.after.ticket call.after.next) (leaves_used uses) goes.rises (uses_climb call.after uses are.1 goes.drawn)
 
-pub uses_once : (next : ℕ) (uses : List LeafUse) (i j leaf : ℕ) → AreUses (record { next = next; ticket = None }) uses
-    → slice_get (leaves_used uses) i ≡ Some leaf → slice_get (leaves_used uses) j ≡ Some leaf → i ≡ j
-uses_once next uses i j leaf are at at' =
+pub uses_once : (next : ℕ) (uses : List LeafUse) → AreUses (record { next = next; ticket = None }) uses → StandOnce (leaves_used uses)
+uses_once next uses are = λ i j leaf at at'.
     let s : LeafSupply = record { next = next; ticket = None } in
     climb_once (least None next) (leaves_used uses) i j leaf (uses_climb s uses are tt) at at'
 

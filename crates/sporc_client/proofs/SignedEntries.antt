@@ -2,7 +2,7 @@
 use Rattle.std.proofs.Common.{◌≡◌, ℕ, ◌^◌, ◌<◌, ◌≤◌, true, List, [], ◌∷◌, length, take, refl, ap, sym, ◌∙◌, arith, Result, Ok}
 use Rattle.sporc_client.proofs.Common.{Contains, is_some, count_by-le-length, height_of, Device, key_of, Entry, Genesis, Header, MAX_SIGNATURE, header_len, IsHeader, author_device, body_limit}
 use Rattle.sporc_client.proofs.Common.{counted_bytes, header_bytes, IsGenesis, genesis_bytes, header_again, MAX_ENTRIES, hash_of, is_by, roster_of, epoch_le, Pending, Chosen, kind_of, next_header}
-use Rattle.sporc_client.proofs.Common.{Submit, PlainClient, me_of, Setup, World, Signing, Move, Happen, start, after, after_all, May, IsRun, IsReached, IsWellFormed}
+use Rattle.sporc_client.proofs.Common.{Submit, PlainClient, me_of, Setup, World, Signing, Move, Happen, start, after, after_all, May, IsRun, IsReached, IsWellFormed, line_of}
 use Rattle.sha2.proofs.Facts256.{length-sha256}
 use Rattle.lms_tree.specs.declared.lms_type.LmsType.{LmsType}
 use Rattle.lms_tree.specs.declared.lms_type.LmsType.TheVariants.{H5}
@@ -69,7 +69,7 @@ kind_small item = (omega arith, omega arith)
 
 -- that of any item, by any leaf, while the history has room
 pub next_is_header : (s : Setup) (who : Device) (c : PlainClient) (leaf : ℕ) (item : Pending) → IsWellFormed s → IsReached s who c → length c.entries < MAX_ENTRIES → leaf < 2 ^ height_of c.opening.key.lms
-    → is_some (key_of (roster_of c.opening.genesis c.entries) (me_of c)) ≡ true → IsHeader (next_header c leaf item)
+    → is_some (key_of (roster_of c.opening.genesis c.entries) (me_of c)) ≡ true → IsHeader (next_header (line_of c) leaf item)
 next_is_header s who c leaf item well reached room within live =
     let count = count_by-le-length (is_by (me_of c)) c.entries in
     let epoch = epoch_le c.entries in
@@ -90,20 +90,20 @@ next_is_header s who c leaf item well reached room within live =
       kind = kind_small item;
     }
 
-pub made_header : (s : Setup) (who : Device) (c : PlainClient) (bytes : List ℕ) → IsWellFormed s → IsReached s who c → (makes : IsMadeBy c bytes) → IsHeader (next_header c makes.entry.header.leaf makes.item)
+pub made_header : (s : Setup) (who : Device) (c : PlainClient) (bytes : List ℕ) → IsWellFormed s → IsReached s who c → (makes : IsMadeBy c bytes) → IsHeader (next_header (line_of c) makes.entry.header.leaf makes.item)
 made_header s who c bytes well reached makes = next_is_header s who c makes.entry.header.leaf makes.item well reached makes.due.room makes.leaf makes.due.live
 
 -- the bytes that are made begin with the header
-made_bytes : (c : PlainClient) (chosen : Chosen) (item : Pending) → (rest : List ℕ) × (entry_bytes (entry_made c chosen item) ≡ header_bytes (next_header c chosen.leaf item) rest)
+made_bytes : (c : PlainClient) (chosen : Chosen) (item : Pending) → (rest : List ℕ) × (entry_bytes (entry_made c chosen item) ≡ header_bytes (next_header (line_of c) chosen.leaf item) rest)
 unfolding entry_bytes entry_made
 made_bytes c chosen item = (counted_bytes (entry_made c chosen item).body (counted_bytes (entry_made c chosen item).signature []), refl)
 
 -- and so an entry that was made has the header that its client gave it
-pub header_made : (s : Setup) (who : Device) (c : PlainClient) (bytes : List ℕ) → IsWellFormed s → IsReached s who c → (makes : IsMadeBy c bytes) → makes.entry.header ≡ next_header c makes.entry.header.leaf makes.item
+pub header_made : (s : Setup) (who : Device) (c : PlainClient) (bytes : List ℕ) → IsWellFormed s → IsReached s who c → (makes : IsMadeBy c bytes) → makes.entry.header ≡ next_header (line_of c) makes.entry.header.leaf makes.item
 header_made s who c bytes well reached makes =
     let made = made_bytes c (chosen_in c makes.entry) makes.item in
-    let spelled : bytes ≡ header_bytes (next_header c makes.entry.header.leaf makes.item) made.0 = sym makes.made ∙ made.1 in
-    header_read (next_header c makes.entry.header.leaf makes.item) made.0 makes.entry (made_header s who c bytes well reached makes) (ap entry_of (sym spelled) ∙ makes.reads)
+    let spelled : bytes ≡ header_bytes (next_header (line_of c) makes.entry.header.leaf makes.item) made.0 = sym makes.made ∙ made.1 in
+    header_read (next_header (line_of c) makes.entry.header.leaf makes.item) made.0 makes.entry (made_header s who c bytes well reached makes) (ap entry_of (sym spelled) ∙ makes.reads)
 
 -- ---- all that was signed
 

@@ -7,7 +7,7 @@ use Rattle.sporc_client.proofs.Common.{randomizer_in, can_log, can_log_all, Chos
 use Rattle.sporc_client.proofs.Common.{Move, Open, Happen, Give, Restart, start, after, after_all, IsAt, IsRun, May, opening_of, IsReached, IsEditOf, IsEntryOf, IsInFlight, IsOfFirst, IsSound}
 use Rattle.sporc_client.proofs.Common.{restated, accepted, change_comes, edit_comes, form_coming, is_flight, log_of_entries, own_comes, replay_from, step, AreEpochKeys, IsTypedChange, IsTypedEvent}
 use Rattle.sporc_client.proofs.Common.{IsTypedMove, IsTypedRun, IsWellFormed, lms_signature_of, after_change, IsGenesis, version_of, Part, runs, Member, IsSpelled, and_parts, good_take, refusal_of}
-use Rattle.sporc_client.proofs.Common.{Logged}
+use Rattle.sporc_client.proofs.Common.{Logged, line_of}
 use Rattle.sporc_cipher.specs.Mask.{mask_of}
 use Rattle.sporc_delta.specs.Reading.{read_delta}
 use Rattle.sporc_delta.proofs.Grammar.{spelled_is_read}
@@ -40,7 +40,7 @@ use Rattle.sporc_client.proofs.Kept.{IsOfItem, accepted_as, event_sound}
 use Rattle.sporc_client.proofs.Soundness.{accepted_sound}
 use Rattle.sporc_client.proofs.Reached.{AllClients, AllReached, Keeps, after_keeps, reached_after, reached_opened, reached_start, run_front}
 
-pub header_of_made : (c : PlainClient) (chosen : Chosen) (item : Pending) → (entry_made c chosen item).header ≡ next_header c chosen.leaf item
+pub header_of_made : (c : PlainClient) (chosen : Chosen) (item : Pending) → (entry_made c chosen item).header ≡ next_header (line_of c) chosen.leaf item
 unfolding entry_made
 header_of_made c chosen item = refl
 
@@ -102,10 +102,10 @@ key_there c good kept =
     go commitment (Some key) is meets = record { key = key; is = is }
 
 -- the key of the epoch has its length
-pub current_size : (c : PlainClient) → IsSoundAndTyped c → HasKey c → length (current_key c) ≡ 32
+pub current_size : (c : PlainClient) → IsSoundAndTyped c → HasKey c → length (current_key (line_of c)) ≡ 32
 current_size c known has =
     let size = key_size c.opening.genesis c.opening.kit (changes c.entries) (epoch_of c.entries) known.ring (changes_typed c.entries known.bytes) in
-    let current : current_key c ≡ has.key = ap (λ (key : Option (List ℕ)). unwrap_or key []) has.is in
+    let current : current_key (line_of c) ≡ has.key = ap (λ (key : Option (List ℕ)). unwrap_or key []) has.is in
     ap length current ∙ subst (λ (o : Option (List ℕ)). IfSome o (λ key. length key ≡ 32)) has.is size
 
 -- ---- an edit
@@ -127,7 +127,7 @@ pub reads_edit : (c : PlainClient) (chosen : Chosen) (marks : List Mark) → Has
 unfolding entry_made
 reads_edit c chosen marks has spells =
     let stream = entry_stream (me_of c) chosen.leaf in
-    let current : current_key c ≡ has.key = ap (λ (key : Option (List ℕ)). unwrap_or key []) has.is in
+    let current : current_key (line_of c) ≡ has.key = ap (λ (key : Option (List ℕ)). unwrap_or key []) has.is in
     ap (λ (key : Option (List ℕ)). edit_marks key (entry_made c chosen (items.Edit marks))) has.is
     ∙ ap (λ (key : List ℕ). result_ok (read_delta (mask_of has.key stream (mask_of key stream (delta_bytes marks))))) current
     ∙ ap (λ (bytes : List ℕ). result_ok (read_delta bytes)) (mask_from-mask_from has.key stream 0 (delta_bytes marks))
@@ -159,10 +159,10 @@ unfolding body_sealed
 sealed_change sealing pairs = refl
 
 -- a change that was made is read as it was sealed
-pub change_made_is : (c : PlainClient) (chosen : Chosen) (change : MemberChange) → IsChangeBody (version_of (roster_of c.opening.genesis c.entries).upgraded) (body_sealed (sealing_of c chosen change) c.opening.kit.pairs)
-    → change_of (entry_made c chosen (items.Change change)) ≡ Some (body_sealed (sealing_of c chosen change) c.opening.kit.pairs)
+pub change_made_is : (c : PlainClient) (chosen : Chosen) (change : MemberChange) → IsChangeBody (version_of (roster_of c.opening.genesis c.entries).upgraded) (body_sealed (sealing_of (line_of c) chosen.leaf chosen.new_key change) c.opening.kit.pairs)
+    → change_of (entry_made c chosen (items.Change change)) ≡ Some (body_sealed (sealing_of (line_of c) chosen.leaf chosen.new_key change) c.opening.kit.pairs)
 unfolding entry_made change_of
-change_made_is c chosen change is = ap result_ok (change_body_again (version_of (roster_of c.opening.genesis c.entries).upgraded) 0 (body_sealed (sealing_of c chosen change) c.opening.kit.pairs) is)
+change_made_is c chosen change is = ap result_ok (change_body_again (version_of (roster_of c.opening.genesis c.entries).upgraded) 0 (body_sealed (sealing_of (line_of c) chosen.leaf chosen.new_key change) c.opening.kit.pairs) is)
 
 -- ---- what the entry of a due item holds is spelled as its format has it
 
@@ -173,7 +173,7 @@ parts_typed (Insert text ∷ ps) all = ((omega (arith, all.0.1), all.0.0), parts
 parts_typed (Remove n ∷ ps) all = (omega (arith, all.0), parts_typed ps all.1)
 
 pub due_spelled : (s : Setup) (who : Device) (c : PlainClient) (chosen : Chosen) (item : Pending) → IsWellFormed s → IsReached s who c → IsSoundAndTyped c → length chosen.new_key ≡ 32 → IsDue c item
-    → IsSpelled c chosen item
+    → IsSpelled (line_of c) chosen.leaf chosen.new_key item
 due_spelled s who c chosen (items.Edit marks) well reached known size due = parts_typed (runs marks) (edit_spelled c marks known.sound known.typed due).in_range
 due_spelled s who c chosen (items.Change change) well reached known size due =
     let g = c.opening.genesis in
@@ -182,7 +182,7 @@ due_spelled s who c chosen (items.Change change) well reached known size due =
     let few = few_members g c.opening.kit c.entries is reached.good in
     let typed : IsTypedChange change = (subst AreTypedItems due.first known.typed).0 in
     let written = change_written roster change few due.fits.0 typed in
-    let sealing = sealing_of c chosen change in
+    let sealing = sealing_of (line_of c) chosen.leaf chosen.new_key change in
     let members = (after_change roster change).members in
     let small = numbers_small members (small_change roster change written (small_roster g c.entries is.founders known.bytes)) in
     body_spelled (version_of roster.upgraded) sealing c.opening.kit.pairs (body_sealed sealing c.opening.kit.pairs) (sealed_change_of sealing c.opening.kit.pairs due.fits.1) (kind_written roster change due.fits.0) written
@@ -191,12 +191,12 @@ due_spelled s who c chosen (items.Change change) well reached known size due =
 
 -- ---- so the entry is that of the item
 
-pub item_of : (c : PlainClient) (chosen : Chosen) (item : Pending) → IsSound c → IsSpelled c chosen item → IsDue c item → IsEntryOf c (entry_made c chosen item) item
+pub item_of : (c : PlainClient) (chosen : Chosen) (item : Pending) → IsSound c → IsSpelled (line_of c) chosen.leaf chosen.new_key item → IsDue c item → IsEntryOf c (entry_made c chosen item) item
 item_of c chosen (items.Edit marks) sound typed due = edit_made c chosen marks (key_there c sound.good due.not_removed) (spelled_due c marks sound (scalars_of marks typed) due)
 item_of c chosen (items.Change change) sound is due = record {
-  body = body_sealed (sealing_of c chosen change) c.opening.kit.pairs;
+  body = body_sealed (sealing_of (line_of c) chosen.leaf chosen.new_key change) c.opening.kit.pairs;
   reads = change_made_is c chosen change is;
-  same = sealed_change (sealing_of c chosen change) c.opening.kit.pairs;
+  same = sealed_change (sealing_of (line_of c) chosen.leaf chosen.new_key change) c.opening.kit.pairs;
 }
 
 -- the entry on its way

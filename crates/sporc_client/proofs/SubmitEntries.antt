@@ -7,7 +7,7 @@ use Rattle.sporc_client.proofs.Common.{SpellsChange, change_bytes, wrap_bytes, I
 use Rattle.sporc_client.proofs.Common.{length-counted_bytes, length-header_bytes, Keys, Sealing, least_unpaired, wraps_sealed, entry_stream, stream_of, epoch_of, roster_of, Pending, first_sealed}
 use Rattle.sporc_client.proofs.Common.{is_entry, is_made, new_key_in, new_key_of, randomizer_in, IsSpelled, IsSubmission, CanTake, Fits, Chosen, bytes_made, current_key, kind_of, next_header}
 use Rattle.sporc_client.proofs.Common.{sealing_of, unsigned_entry, body_of, PlainClient, me_of, IsInFlight, IsOfFirst, IsSound, Sign, answered, due, draw_fault, is_signing, LeafFault, LmsPrivate}
-use Rattle.sporc_client.proofs.Common.{LineModel, plain_of, WorkspaceModel}
+use Rattle.sporc_client.proofs.Common.{LineModel, plain_of, WorkspaceModel, line_of}
 use Rattle.std.proofs.lemmas.List.Concat.{flat_map-cons}
 use Rattle.sporc_cipher.specs.Mask.{mask_of}
 use Rattle.sporc_member.specs.Role.{role_code_of}
@@ -25,7 +25,6 @@ use Rattle.sporc_client.proofs.Submitting.{IsDue, is_due, is_there, signing}
 use Rattle.sporc_entry.proofs.VersionLaws.{header_len-le}
 use Rattle.sporc_client.specs.declared.client.submitting.draft.Made.{Made}
 use Rattle.sporc_client.specs.Drafts.{AreCopies, IsDraft, prefix_bytes}
-use Rattle.sporc_client.proofs.Submitting as submitting
 use Rattle.sporc_entry.proofs.Written.{header_bytes-append}
 use Rattle.sporc_client.specs.declared.client.submitting.draft.Draft.{Draft}
 
@@ -39,8 +38,8 @@ pub record IsMaking (c : PlainClient) (random : List ℕ) (leaf : ℕ) (item : P
   pub sound : IsSound c
   pub size : length random ≡ 64
   pub within : leaf < 2 ^ height_of c.opening.key.lms
-  pub header : IsHeader (next_header c leaf item)
-  pub spelled : IsSpelled c (chosen_by random leaf) item
+  pub header : IsHeader (next_header (line_of c) leaf item)
+  pub spelled : IsSpelled (line_of c) leaf (drop 32 random) item
 
 first_size : (random : List ℕ) → length random ≡ 64 → length (take 32 random) ≡ 32
 first_size random size = length-take-le 32 random (omega (arith, size))
@@ -85,32 +84,32 @@ change_body_size version b is =
     )
 
 signature_is : (c : PlainClient) (chosen : Chosen) (item : Pending)
-    → (entry_made c chosen item).signature ≡ lms_signature_of c.opening.key chosen.leaf chosen.randomizer (signed_string (unsigned_entry c chosen item))
+    → (entry_made c chosen item).signature ≡ lms_signature_of c.opening.key chosen.leaf chosen.randomizer (signed_string (unsigned_entry (line_of c) chosen.leaf chosen.new_key item))
 unfolding entry_made
 signature_is c chosen item = refl
 
 edit_limit : (c : PlainClient) (chosen : Chosen) (marks : List Mark) → length (delta_bytes marks) ≤ body_limit 1 → length (entry_made c chosen (items.Edit marks)).body ≤ body_limit (entry_made c chosen (items.Edit marks)).header.kind
 unfolding entry_made
-edit_limit c chosen marks few = omega (arith, few, length-mask_from (current_key c) (entry_stream (me_of c) chosen.leaf) 0 (delta_bytes marks))
+edit_limit c chosen marks few = omega (arith, few, length-mask_from (current_key (line_of c)) (entry_stream (me_of c) chosen.leaf) 0 (delta_bytes marks))
 
-change_limit : (c : PlainClient) (chosen : Chosen) (change : MemberChange) → IsChangeBody (version_of (roster_of c.opening.genesis c.entries).upgraded) (body_sealed (sealing_of c chosen change) c.opening.kit.pairs)
+change_limit : (c : PlainClient) (chosen : Chosen) (change : MemberChange) → IsChangeBody (version_of (roster_of c.opening.genesis c.entries).upgraded) (body_sealed (sealing_of (line_of c) chosen.leaf chosen.new_key change) c.opening.kit.pairs)
     → length (entry_made c chosen (items.Change change)).body ≤ body_limit (entry_made c chosen (items.Change change)).header.kind
 unfolding entry_made
-change_limit c chosen change is = change_body_size (version_of (roster_of c.opening.genesis c.entries).upgraded) (body_sealed (sealing_of c chosen change) c.opening.kit.pairs) is
+change_limit c chosen change is = change_body_size (version_of (roster_of c.opening.genesis c.entries).upgraded) (body_sealed (sealing_of (line_of c) chosen.leaf chosen.new_key change) c.opening.kit.pairs) is
 
 edit_no_change : (c : PlainClient) (chosen : Chosen) (marks : List Mark) → (entry_made c chosen (items.Edit marks)).header.kind ≡ 2 → SpellsChange (entry_made c chosen (items.Edit marks)).header.version (entry_made c chosen (items.Edit marks)).body
 unfolding entry_made
 edit_no_change c chosen marks two = absurd (omega (arith, two))
 
-change_spelled : (c : PlainClient) (chosen : Chosen) (change : MemberChange) → IsChangeBody (version_of (roster_of c.opening.genesis c.entries).upgraded) (body_sealed (sealing_of c chosen change) c.opening.kit.pairs) → SpellsChange (entry_made c chosen (items.Change change)).header.version (entry_made c chosen (items.Change change)).body
+change_spelled : (c : PlainClient) (chosen : Chosen) (change : MemberChange) → IsChangeBody (version_of (roster_of c.opening.genesis c.entries).upgraded) (body_sealed (sealing_of (line_of c) chosen.leaf chosen.new_key change) c.opening.kit.pairs) → SpellsChange (entry_made c chosen (items.Change change)).header.version (entry_made c chosen (items.Change change)).body
 unfolding entry_made
-change_spelled c chosen change is = (body_sealed (sealing_of c chosen change) c.opening.kit.pairs, is, refl)
+change_spelled c chosen change is = (body_sealed (sealing_of (line_of c) chosen.leaf chosen.new_key change) c.opening.kit.pairs, is, refl)
 
 pub made_is_entry : (c : PlainClient) (random : List ℕ) (leaf : ℕ) (item : Pending) → IsMaking c random leaf item → IsEntry (entry_made c (chosen_by random leaf) item)
 made_is_entry c random leaf item m =
     let chosen = chosen_by random leaf in
     let e = entry_made c chosen item in
-    let string = signed_string (unsigned_entry c chosen item) in
+    let string = signed_string (unsigned_entry (line_of c) chosen.leaf chosen.new_key item) in
     record {
       header = subst IsHeader (sym (header_of_made c chosen item)) m.header;
       body = limit item m.is_due m.spelled;
@@ -118,11 +117,11 @@ made_is_entry c random leaf item m =
       signature = omega (arith, ap length (signature_is c chosen item), signature_size c.opening.key leaf (take 32 random) string (first_size random m.size) m.within);
     }
   where
-    limit : (item : Pending) → due c ≡ Sign item → IsSpelled c (chosen_by random leaf) item → length (entry_made c (chosen_by random leaf) item).body ≤ body_limit (entry_made c (chosen_by random leaf) item).header.kind
+    limit : (item : Pending) → due c ≡ Sign item → IsSpelled (line_of c) leaf (drop 32 random) item → length (entry_made c (chosen_by random leaf) item).body ≤ body_limit (entry_made c (chosen_by random leaf) item).header.kind
     limit (items.Edit marks) is s = edit_limit c (chosen_by random leaf) marks (is_due c (items.Edit marks) is).fits
     limit (items.Change change) is s = change_limit c (chosen_by random leaf) change s
 
-    changes : (item : Pending) → IsSpelled c (chosen_by random leaf) item → (entry_made c (chosen_by random leaf) item).header.kind ≡ 2 → SpellsChange (entry_made c (chosen_by random leaf) item).header.version (entry_made c (chosen_by random leaf) item).body
+    changes : (item : Pending) → IsSpelled (line_of c) leaf (drop 32 random) item → (entry_made c (chosen_by random leaf) item).header.kind ≡ 2 → SpellsChange (entry_made c (chosen_by random leaf) item).header.version (entry_made c (chosen_by random leaf) item).body
     changes (items.Edit marks) s two = edit_no_change c (chosen_by random leaf) marks two
     changes (items.Change change) s two = change_spelled c (chosen_by random leaf) change s
 
@@ -132,7 +131,7 @@ shown_first : (c : PlainClient) (random : List ℕ) (leaf : ℕ) (item : Pending
 shown_first c random leaf item size =
     let chosen = chosen_by random leaf in
     ap (λ (signature : List ℕ). take 32 (drop 8 signature)) (signature_is c chosen item)
-    ∙ shown_randomizer c.opening.key leaf (take 32 random) (signed_string (unsigned_entry c chosen item)) (first_size random size)
+    ∙ shown_randomizer c.opening.key leaf (take 32 random) (signed_string (unsigned_entry (line_of c) chosen.leaf chosen.new_key item)) (first_size random size)
 
 -- the first wrap opens under the author's key with that member
 first_opens : (s : Sealing) (pairs : Keys) (m : ℕ) (ms pair : List ℕ) → s.members ≡ m ∷ ms → get pairs m ≡ Some pair → first_sealed pairs s.stream (body_sealed s pairs).wraps ≡ s.new
@@ -147,11 +146,11 @@ first_opens s pairs m ms pair are is =
     ∙ ap (λ (o : Option (List ℕ)). mask_of (unwrap_or o []) stream (mask_of pair stream s.new)) is
     ∙ mask_from-mask_from pair stream 0 s.new
 
-shown_key : (c : PlainClient) (chosen : Chosen) (change : MemberChange) → IsChangeBody (version_of (roster_of c.opening.genesis c.entries).upgraded) (body_sealed (sealing_of c chosen change) c.opening.kit.pairs) → IsDue c (items.Change change)
+shown_key : (c : PlainClient) (chosen : Chosen) (change : MemberChange) → IsChangeBody (version_of (roster_of c.opening.genesis c.entries).upgraded) (body_sealed (sealing_of (line_of c) chosen.leaf chosen.new_key change) c.opening.kit.pairs) → IsDue c (items.Change change)
     → new_key_in c.opening.kit.pairs (entry_made c chosen (items.Change change)) ≡ chosen.new_key
 shown_key c chosen change is is_due =
     let pairs = c.opening.kit.pairs in
-    let s = sealing_of c chosen change in
+    let s = sealing_of (line_of c) chosen.leaf chosen.new_key change in
     let e = entry_made c chosen (items.Change change) in
     let some = some_member (roster_of c.opening.genesis c.entries) change (me_of c).member (is_there (kind_of (items.Change change)) (member_at (roster_of c.opening.genesis c.entries) (me_of c).member) is_due.right) is_due.fits.0 in
     let pair = paired_first pairs some.first some.others (subst (λ (ns : List ℕ). least_unpaired pairs ns ≡ None) some.are is_due.fits.1) in
@@ -183,7 +182,7 @@ made_again c random leaf item m = go item m.is_due m.spelled
     k : Pending → List ℕ
     k item = new_key_in c.opening.kit.pairs (entry_made c (chosen_by random leaf) item)
 
-    go : (item : Pending) → due c ≡ Sign item → IsSpelled c (chosen_by random leaf) item
+    go : (item : Pending) → due c ≡ Sign item → IsSpelled (line_of c) leaf (drop 32 random) item
         → bytes_made c (chosen_by (shown_in c (entry_made c (chosen_by random leaf) item)) leaf) item ≡ bytes_made c (chosen_by random leaf) item
     go (items.Edit marks) is s =
         let item = items.Edit marks in
@@ -275,47 +274,39 @@ can_take key line own item h sound =
     let d = is_due (plain_of key line own) item h in
     record { good = sound.good; room = omega (arith, d.room); not_removed = d.not_removed; live = d.live; fits = fits item d.fits }
   where
-    fits : (item : Pending) → submitting.Fits (plain_of key line own) item → Fits line item
+    fits : (item : Pending) → Fits (record line { spare = 0 }) item → Fits line item
     fits (items.Edit marks) f = f
     fits (items.Change change) f = f
 
 -- ---- the unsigned entry
 
--- the random bytes of its signature make no difference to it
-unsigned_same : (c : PlainClient) (leaf : ℕ) (a b new_key : List ℕ) (item : Pending)
-    → unsigned_entry c (record { leaf = leaf; randomizer = a; new_key = new_key }) item ≡ unsigned_entry c (record { leaf = leaf; randomizer = b; new_key = new_key }) item
-unsigned_same c leaf a b new_key (items.Edit marks) = refl
-unsigned_same c leaf a b new_key (items.Change change) = refl
+-- how much memory is left makes no difference to it
+entry_by_line : (line : LineModel) (leaf : ℕ) (new_key : List ℕ) (item : Pending) → unsigned_entry line leaf new_key item ≡ unsigned_entry (record line { spare = 0 }) leaf new_key item
+entry_by_line line leaf new_key (items.Edit marks) = refl
+entry_by_line line leaf new_key (items.Change change) = refl
 
-spelled_same : (c : PlainClient) (leaf : ℕ) (a b new_key : List ℕ) (item : Pending)
-    → IsSpelled c (record { leaf = leaf; randomizer = a; new_key = new_key }) item → IsSpelled c (record { leaf = leaf; randomizer = b; new_key = new_key }) item
-spelled_same c leaf a b new_key (items.Edit marks) h = h
-spelled_same c leaf a b new_key (items.Change change) h = h
+spelled_by_line : (line : LineModel) (leaf : ℕ) (new_key : List ℕ) (item : Pending) → IsSpelled line leaf new_key item → IsSpelled (record line { spare = 0 }) leaf new_key item
+spelled_by_line line leaf new_key (items.Edit marks) h = h
+spelled_by_line line leaf new_key (items.Change change) h = h
 
 -- what is signed, and the bytes that come of it
-pub bytes_signed : (c : PlainClient) (random : List ℕ) (leaf : ℕ) (item : Pending) (e : Entry) → e ≡ unsigned_entry c (record { leaf = leaf; randomizer = []; new_key = drop 32 random }) item
+bytes_signed : (c : PlainClient) (random : List ℕ) (leaf : ℕ) (item : Pending) (e : Entry) → e ≡ unsigned_entry (line_of c) leaf (drop 32 random) item
     → entry_bytes (record e { signature = lms_signature_of c.opening.key leaf (take 32 random) (signed_string e) }) ≡ bytes_made c (chosen_by random leaf) item
 unfolding entry_made
-bytes_signed c random leaf item e is =
-    ap (λ (e : Entry). entry_bytes (record e { signature = lms_signature_of c.opening.key leaf (take 32 random) (signed_string e) }))
-    (is ∙ unsigned_same c leaf [] (take 32 random) (drop 32 random) item)
+bytes_signed c random leaf item e is = ap (λ (e : Entry). entry_bytes (record e { signature = lms_signature_of c.opening.key leaf (take 32 random) (signed_string e) })) is
 
 -- an unsigned entry, by the leaf and the random bytes
 pub record IsUnsigned (c : PlainClient) (random : List ℕ) (leaf : ℕ) (item : Pending) (e : Entry) : Type 0 where
-  pub value : e ≡ unsigned_entry c (record { leaf = leaf; randomizer = []; new_key = drop 32 random }) item
+  pub value : e ≡ unsigned_entry (line_of c) leaf (drop 32 random) item
   pub header : IsHeader e.header
-  pub spelled : IsSpelled c (record { leaf = leaf; randomizer = []; new_key = drop 32 random }) item
+  pub spelled : IsSpelled (line_of c) leaf (drop 32 random) item
 
-pub unsigned_is : (c : PlainClient) (random : List ℕ) (leaf n : ℕ) (key : List ℕ) (item : Pending) (e : Entry) → n ≡ leaf → key ≡ drop 32 random
-    → e ≡ unsigned_entry c (record { leaf = n; randomizer = []; new_key = key }) item → IsHeader e.header → IsSpelled c (record { leaf = n; randomizer = []; new_key = key }) item → IsUnsigned c random leaf item e
-unsigned_is c random leaf n key item e same same' value header spelled = record {
-  value = value
-      ∙ ap (λ (n : ℕ). unsigned_entry c (record { leaf = n; randomizer = []; new_key = key }) item) same
-      ∙ ap (λ (key : List ℕ). unsigned_entry c (record { leaf = leaf; randomizer = []; new_key = key }) item) same';
+pub unsigned_is : (key : LmsPrivate) (line : LineModel) (own : WorkspaceModel) (random : List ℕ) (leaf n : ℕ) (new_key : List ℕ) (item : Pending) (e : Entry) → n ≡ leaf → new_key ≡ drop 32 random
+    → e ≡ unsigned_entry line n new_key item → IsHeader e.header → IsSpelled line n new_key item → IsUnsigned (plain_of key line own) random leaf item e
+unsigned_is key line own random leaf n new_key item e same same' value header spelled = record {
+  value = value ∙ entry_by_line line n new_key item ∙ rw (same, same') refl;
   header = header;
-  spelled =
-      subst (λ (key : List ℕ). IsSpelled c (record { leaf = leaf; randomizer = []; new_key = key }) item) same'
-      (subst (λ (n : ℕ). IsSpelled c (record { leaf = n; randomizer = []; new_key = key }) item) same spelled);
+  spelled = rw (sym same, sym same') (spelled_by_line line n new_key item spelled);
 }
 
 pub making : (c : PlainClient) (random : List ℕ) (leaf : ℕ) (item : Pending) (e : Entry) → due c ≡ Sign item → IsSound c → length random ≡ 64 → leaf < 2 ^ height_of c.opening.key.lms
@@ -326,7 +317,7 @@ making c random leaf item e due sound size within is = record {
   size = size;
   within = within;
   header = subst IsHeader (ap (λ (e : Entry). e.header) is.value) is.header;
-  spelled = spelled_same c leaf [] (take 32 random) (drop 32 random) item is.spelled;
+  spelled = is.spelled;
 }
 
 -- what was signed answers the submission
@@ -347,9 +338,9 @@ signed_is c random randomizer leaf item e (Ok made) m is first copies =
 
 -- ---- its size
 
-body_small : (c : PlainClient) (chosen : Chosen) (item : Pending) → submitting.Fits c item → IsSpelled c chosen item → length (body_of c chosen item) ≤ MAX_EDIT_BODY
-body_small c chosen (items.Edit marks) fits spelled = omega (arith, fits, length-mask_from (current_key c) (entry_stream (me_of c) chosen.leaf) 0 (delta_bytes marks))
-body_small c chosen (items.Change change) fits spelled = omega (arith, change_body_size (version_of (roster_of c.opening.genesis c.entries).upgraded) (body_sealed (sealing_of c chosen change) c.opening.kit.pairs) spelled)
+body_small : (line : LineModel) (leaf : ℕ) (new_key : List ℕ) (item : Pending) → Fits line item → IsSpelled line leaf new_key item → length (body_of line leaf new_key item) ≤ MAX_EDIT_BODY
+body_small line leaf new_key (items.Edit marks) fits spelled = omega (arith, fits, length-mask_from (current_key line) (entry_stream line.kit.me leaf) 0 (delta_bytes marks))
+body_small line leaf new_key (items.Change change) fits spelled = omega (arith, change_body_size (version_of (roster_of line.genesis line.entries).upgraded) (body_sealed (sealing_of line leaf new_key change) line.kit.pairs) spelled)
 
 pub record IsShortEntry (e : Entry) : Type 0 where
   pub body : length e.body < 2 ^ 32
@@ -361,9 +352,8 @@ string_size e header = omega (arith, length-header_bytes e.header (counted_bytes
 
 pub short_entry : (c : PlainClient) (random : List ℕ) (leaf : ℕ) (item : Pending) (e : Entry) → due c ≡ Sign item → IsUnsigned c random leaf item e → IsShortEntry e
 short_entry c random leaf item e due is =
-    let chosen : Chosen = record { leaf = leaf; randomizer = []; new_key = drop 32 random } in
-    let small = body_small c chosen item (is_due c item due).fits is.spelled in
-    let body : length e.body ≡ length (body_of c chosen item) = ap (λ (e : Entry). length e.body) is.value in
+    let small = body_small (line_of c) leaf (drop 32 random) item (is_due c item due).fits is.spelled in
+    let body : length e.body ≡ length (body_of (line_of c) leaf (drop 32 random) item) = ap (λ (e : Entry). length e.body) is.value in
     record { body = omega (arith, small, body); string = omega (arith, small, body, string_size e is.header) }
 
 -- ---- the bytes of an entry: those up to its signature, and the signature behind them

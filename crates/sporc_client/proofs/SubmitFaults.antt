@@ -2,7 +2,7 @@
 use Rattle.std.proofs.Common.{◌≡◌, ℕ, Bool, true, false, List, [], ◌∷◌, length, Option, Some, None, ap, ◌∙◌, refl}
 use Rattle.sporc_client.proofs.Common.{nat_le, nat_lt, not, Result, Ok, Err, LeafFault, first_of, unless, delta_bytes, MemberChange, ChangeFault, after_change, change_fault_of, numbers_of}
 use Rattle.sporc_client.proofs.Common.{least_unpaired, MAX_ENTRIES, roster_of, MAX_HEAD_BYTES, Pending, has_right, is_out, journal_has_room, kind_of, PlainClient, Due, Refuse, Sign, answered}
-use Rattle.sporc_client.proofs.Common.{change_due, due_behind, first_due, item_due, no_pair_key, or_due, signed}
+use Rattle.sporc_client.proofs.Common.{change_due, due_behind, first_due, item_due, no_pair_key, or_due, signed, line_of}
 use Rattle.lms_leaf.specs.declared.faults.LeafFault.TheVariants as leaves
 use Rattle.sporc_client.specs.declared.fault.SubmitFault.TheVariants as submits
 use Rattle.sporc_client.specs.declared.pending.Pending.TheVariants.{Edit, Change}
@@ -26,14 +26,15 @@ unpaired_early : (member : Option ℕ) (item : Pending) (next : ℕ) → or_due 
 unpaired_early None item next is = cc
 unpaired_early (Some member) item next is = cc
 
-change_early : (c : PlainClient) (change : MemberChange) (fault : Option ChangeFault) (next : ℕ) → change_due c change fault ≡ Refuse (submits.Exhausted next) → ⊥
-change_early c change (Some fault) next is = cc
-change_early c change None next is =
-    unpaired_early (least_unpaired c.opening.kit.pairs (numbers_of (after_change (roster_of c.opening.genesis c.entries) change).members)) (Change change) next is
+change_early : (change : MemberChange) (fault : Option ChangeFault) (unpaired : Option ℕ) (next : ℕ) → change_due change fault unpaired ≡ Refuse (submits.Exhausted next) → ⊥
+change_early change (Some fault) unpaired next is = cc
+change_early change None unpaired next is = unpaired_early unpaired (Change change) next is
 
-item_early : (c : PlainClient) (item : Pending) (next : ℕ) → item_due c item ≡ Refuse (submits.Exhausted next) → ⊥
+item_early : (c : PlainClient) (item : Pending) (next : ℕ) → item_due (line_of c) item ≡ Refuse (submits.Exhausted next) → ⊥
 item_early c (Edit marks) next is = let len = length (delta_bytes marks) in edit_early (nat_le len MAX_HEAD_BYTES) len (Edit marks) next is
-item_early c (Change change) next is = change_early c change (change_fault_of (roster_of c.opening.genesis c.entries) change) next is
+item_early c (Change change) next is =
+    let roster = roster_of c.opening.genesis c.entries in
+    change_early change (change_fault_of roster change) (least_unpaired c.opening.kit.pairs (numbers_of (after_change roster change).members)) next is
 
 due_early : (c : PlainClient) (next : ℕ) → due c ≡ Refuse (submits.Exhausted next) → ⊥
 unfolding due
@@ -42,7 +43,7 @@ due_early c next is = behind c.flight is
     at_first : (items : List Pending) → first_due c items ≡ Refuse (submits.Exhausted next) → ⊥
     at_first [] is = cc
     at_first (item ∷ items) is =
-        item_early c item next (checks_early (not (is_out c)) (has_right c (kind_of item)) (nat_lt (length c.entries) MAX_ENTRIES) (journal_has_room c) (item_due c item) next is)
+        item_early c item next (checks_early (not (is_out c)) (has_right c (kind_of item)) (nat_lt (length c.entries) MAX_ENTRIES) (journal_has_room c) (item_due (line_of c) item) next is)
 
     behind : (flight : Option (List ℕ)) → due_behind c flight ≡ Refuse (submits.Exhausted next) → ⊥
     behind (Some flight) is = cc

@@ -1,11 +1,11 @@
 -- The members of a good history: not too many, each with a number above 0. So a change that they accept can be written.
 use Rattle.std.proofs.Common.{◌≡◌, ℕ, ◌<◌, ◌≤◌, Bool, true, false, cond, List, [], ◌∷◌, ◌++◌, length, map, refl, ap, sym, ◌∙◌, subst, arith, Option, None, Some, Ok, Err, ◌≢◌, ◌+◌}
-use Rattle.sporc_client.proofs.Common.{filter, find, is_some, nat_lt, not, unwrap_or, ◌==◌, ◌&&◌, fold, is_none, min, AllByRecursion, list_any, and_parts, eqb-false, eqb-true, ltb-true, not-true}
+use Rattle.sporc_client.proofs.Common.{filter, find, is_some, nat_lt, not, ◌==◌, ◌&&◌, fold, is_none, min, AllByRecursion, list_any, and_parts, eqb-false, eqb-true, ltb-true, not-true}
 use Rattle.sporc_client.proofs.Common.{first_of, length-map, from_end, MemberChange, Add, Remove, SetRole, AddDevice, DropDevice, Upgrade, ChangeFault, Device, Member, Roster, after_change}
 use Rattle.sporc_client.proofs.Common.{change_fault_of, device_by, insert_sorted, key_of_device, member_by, is_used, member_at, numbers_of, with_role, has_admin, has_role, first_device, same_device}
 use Rattle.sporc_client.proofs.Common.{passes, ChangeBody, Entry, Genesis, IsChange, change_of, entry_of, fits_version, has_kind, version_of, IsFounder, IsGenesis, Keys, Sealing, body_sealed}
-use Rattle.sporc_client.proofs.Common.{body_unless, least_unpaired, entry_stream, bad_change, roster_checks, Refusal, CommittedChange, change_in, epoch_of, roster_of, change_in_read, roster_change}
-use Rattle.sporc_client.proofs.Common.{roster_edit, Good, Kit, good_front, last_passes, epoch_key, LineModel, CanTake, Chosen, current_key, sealing_of, PlainClient, me_of, IsTypedChange, get}
+use Rattle.sporc_client.proofs.Common.{body_unless, least_unpaired, bad_change, roster_checks, Refusal, CommittedChange, change_in, roster_of, change_in_read, roster_change}
+use Rattle.sporc_client.proofs.Common.{roster_edit, Good, Kit, good_front, last_passes, LineModel, CanTake, IsTypedChange, get}
 use Rattle.sporc_client.proofs.Common.{length-filter, count_by-le-length}
 use Rattle.sporc_member.specs.declared.change.ChangeFault.TheVariants as faults
 use Rattle.sporc_member.specs.declared.limits.TheConstants.{MAX_MEMBERS}
@@ -204,14 +204,6 @@ can_seal line change members may genesis typed are =
     }
 
 -- what is sealed, as its parts are found
-pub sealing_same : (c : PlainClient) (chosen : Chosen) (change : MemberChange) (members document : List ℕ) (author stream epoch : ℕ) (old : List ℕ)
-    → members ≡ numbers_of (after_change (roster_of c.opening.genesis c.entries) change).members → document ≡ c.opening.genesis.document → author ≡ (me_of c).member → stream ≡ entry_stream (me_of c) chosen.leaf → epoch ≡ epoch_of c.entries
-    → epoch_key c.opening.genesis c.opening.kit c.entries (epoch_of c.entries) ≡ Some old
-    → let s : Sealing = record { change = change; members = members; document = document; author = author; stream = stream; epoch = epoch; old = old; new = chosen.new_key } in s ≡ sealing_of c chosen change
-sealing_same c chosen change members document author stream epoch old m d a s e k =
-    let key : old ≡ current_key c = sym (ap (λ (key : Option (List ℕ)). unwrap_or key []) k) in
-    rw (m, d, a, s, e, key) refl
-
 pub sealed_same : (s t : Sealing) (pairs kit : Keys) (body : ChangeBody) → change_sealed s pairs ≡ Ok body → s ≡ t → pairs ≡ kit → body ≡ body_sealed t kit
 sealed_same s t pairs kit body h same keys = (sealed s pairs body h).0 ∙ ap (λ (s : Sealing). body_sealed s pairs) same ∙ ap (body_sealed t) keys
 

@@ -1,9 +1,9 @@
 -- What is due at a submission, and what a client submits when its log allows it: the one entry of its first pending item.
-use Rattle.std.proofs.Common.{◌≡◌, ℕ, ◌^◌, ◌<◌, ◌≤◌, Bool, true, false, List, [], ◌∷◌, ◌++◌, length, take, drop, refl, ap, subst, ◌∙◌, Option, None, Some, Result, Ok, Err, sym, Bor}
+use Rattle.std.proofs.Common.{◌≡◌, ℕ, ◌^◌, ◌<◌, Bool, true, false, List, [], ◌∷◌, ◌++◌, length, take, drop, refl, ap, subst, ◌∙◌, Option, None, Some, Result, Ok, Err, sym, Bor}
 use Rattle.sporc_client.proofs.Common.{is_some, nat_le, nat_lt, not, IfOk, and_parts, leb-true, ltb-true, not-true, bytes_eq-Decides, unless, first_of, height_of, delta_bytes, Mark, MemberChange}
 use Rattle.sporc_client.proofs.Common.{ChangeFault, Member, after_change, change_fault_of, key_of, member_at, numbers_of, passes, Entry, entry_of, least_unpaired, MAX_ENTRIES, allows_member}
-use Rattle.sporc_client.proofs.Common.{roster_of, MAX_EVENTS, MAX_HEAD_BYTES, SubmitFault, Removed, NoRight, HistoryFull, JournalFull, HeadTooLong, Memory, Pending, has_right, is_out}
-use Rattle.sporc_client.proofs.Common.{journal_has_room, Chosen, bytes_made, kind_of, PlainClient, me_of, Due, Drop, Sign, answered, change_due, due_behind, first_due, is_signing, item_due}
+use Rattle.sporc_client.proofs.Common.{roster_of, MAX_EVENTS, MAX_HEAD_BYTES, SubmitFault, Removed, NoRight, HistoryFull, JournalFull, HeadTooLong, Memory, Pending, has_right, is_out, line_of}
+use Rattle.sporc_client.proofs.Common.{journal_has_room, Chosen, bytes_made, kind_of, PlainClient, me_of, Due, Drop, Sign, answered, change_due, due_behind, first_due, is_signing, item_due, Fits}
 use Rattle.sporc_client.proofs.Common.{no_pair_key, or_due, submit_checks, Nothing, Waiting, step_of, is_drop, is_entry, is_made, new_key_in, randomizer_in, Dropped, Submit, LeafFault, Step}
 use Rattle.std.specs.Prelude.{IfErr, option_copied, slice_get}
 use Rattle.sporc_client.specs.declared.pending.Pending.TheVariants.{Edit, Change}
@@ -18,12 +18,6 @@ use Rattle.sporc_client.specs.declared.pending.Pending.TheVariants as items
 -- ---- an item that is due to be signed
 
 -- what its client knows of it
-abbrev pub Fits : PlainClient → Pending → Type 0
-Fits c (Edit marks) = length (delta_bytes marks) ≤ MAX_HEAD_BYTES
-Fits c (Change change) =
-    (change_fault_of (roster_of c.opening.genesis c.entries) change ≡ None)
-    × (least_unpaired c.opening.kit.pairs (numbers_of (after_change (roster_of c.opening.genesis c.entries) change).members) ≡ None)
-
 pub record IsDue (c : PlainClient) (item : Pending) : Type 0 where
   pub others : List Pending
   pub first : c.pending ≡ item ∷ others
@@ -32,7 +26,7 @@ pub record IsDue (c : PlainClient) (item : Pending) : Type 0 where
   pub live : is_some (key_of (roster_of c.opening.genesis c.entries) (me_of c)) ≡ true
   pub room : length c.entries < MAX_ENTRIES
   pub events : length c.shown < MAX_EVENTS
-  pub fits : Fits c item
+  pub fits : Fits (line_of c) item
 
 -- who has a right is a member
 pub is_there : (kind : ℕ) (o : Option Member) → allows_member kind o ≡ true → is_some o ≡ true
@@ -51,21 +45,22 @@ no_key_missing : (member : Option ℕ) → no_pair_key member ≡ None → membe
 no_key_missing None h = refl
 no_key_missing (Some member) h = absurd cc
 
-change_fits : (c : PlainClient) (change : MemberChange) (fault : Option ChangeFault) (item : Pending) → change_due c change fault ≡ Sign item
-    → (fault ≡ None) × (least_unpaired c.opening.kit.pairs (numbers_of (after_change (roster_of c.opening.genesis c.entries) change).members) ≡ None) × (Change change ≡ item)
-change_fits c change (Some fault) item h = absurd cc
-change_fits c change None item h =
-    let p = or_signs (no_pair_key (least_unpaired c.opening.kit.pairs (numbers_of (after_change (roster_of c.opening.genesis c.entries) change).members))) (Sign (Change change)) item h in
+change_fits : (change : MemberChange) (fault : Option ChangeFault) (unpaired : Option ℕ) (item : Pending) → change_due change fault unpaired ≡ Sign item
+    → (fault ≡ None) × (unpaired ≡ None) × (Change change ≡ item)
+change_fits change (Some fault) unpaired item h = absurd cc
+change_fits change None unpaired item h =
+    let p = or_signs (no_pair_key unpaired) (Sign (Change change)) item h in
     let signs = p.1 in
     (refl, no_key_missing _ p.0, cc)
 
-item_fits : (c : PlainClient) (first item : Pending) → item_due c first ≡ Sign item → (first ≡ item) × Fits c first
+item_fits : (c : PlainClient) (first item : Pending) → item_due (line_of c) first ≡ Sign item → (first ≡ item) × Fits (line_of c) first
 item_fits c (Edit marks) item h =
     let p = or_signs (unless (nat_le (length (delta_bytes marks)) MAX_HEAD_BYTES) (HeadTooLong (length (delta_bytes marks)))) (Sign (Edit marks)) item h in
     let signs = p.1 in
     (cc, leb-true (length (delta_bytes marks)) MAX_HEAD_BYTES (unless_none (nat_le (length (delta_bytes marks)) MAX_HEAD_BYTES) (HeadTooLong (length (delta_bytes marks))) p.0))
 item_fits c (Change change) item h =
-    let p = change_fits c change (change_fault_of (roster_of c.opening.genesis c.entries) change) item h in
+    let roster = roster_of c.opening.genesis c.entries in
+    let p = change_fits change (change_fault_of roster change) (least_unpaired c.opening.kit.pairs (numbers_of (after_change roster change).members)) item h in
     (p.2, (p.0, p.1))
 
 -- ---- what is due of the first pending item
@@ -87,13 +82,13 @@ pub record IsAtHead (c : PlainClient) (d : Due) : Type 0 where
   pub live : is_some (key_of (roster_of c.opening.genesis c.entries) (me_of c)) ≡ true
   pub room : length c.entries < MAX_ENTRIES
   pub events : length c.shown < MAX_EVENTS
-  pub is : item_due c item ≡ d
+  pub is : item_due (line_of c) item ≡ d
 
 pub due_of_first : (c : PlainClient) (d : Due) → due c ≡ d → is_event d ≡ true → IsAtHead c d
 unfolding due
 due_of_first c d is event = behind c.flight refl is
   where
-    checked : c.flight ≡ None → (item : Pending) (others : List Pending) → c.pending ≡ item ∷ others → (fault : Option SubmitFault) → first_of (submit_checks c item) ≡ fault → or_due fault (item_due c item) ≡ d → IsAtHead c d
+    checked : c.flight ≡ None → (item : Pending) (others : List Pending) → c.pending ≡ item ∷ others → (fault : Option SubmitFault) → first_of (submit_checks c item) ≡ fault → or_due fault (item_due (line_of c) item) ≡ d → IsAtHead c d
     checked flight item others first (Some fault) fails is = let no : false ≡ true = ap is_event is ∙ event in absurd cc
     checked flight item others first None passed is =
         let a = passes (not (is_out c)) Removed _ passed in
@@ -161,7 +156,7 @@ pub dropped : (c : PlainClient) (by : ℕ) (fault : ChangeFault) → can_log c (
 unfolding can_log
 dropped c by fault may = go (due c) refl may
   where
-    taken : (found : ChangeFault) → (of : IsAtHead c (Drop found)) → (item : Pending) → of.item ≡ item → item_due c item ≡ Drop found → IsDropped c
+    taken : (found : ChangeFault) → (of : IsAtHead c (Drop found)) → (item : Pending) → of.item ≡ item → item_due (line_of c) item ≡ Drop found → IsDropped c
     taken found of (Edit marks) is drops = absurd (no_drop (unless (nat_le (length (delta_bytes marks)) MAX_HEAD_BYTES) (HeadTooLong (length (delta_bytes marks)))) marks found drops)
     taken found of (Change change) is drops = record { change = change; rest = of.others; flight = of.flight; pending = of.first ∙ ap (λ (item : Pending). item ∷ of.others) is; events = of.events }
 
@@ -240,21 +235,21 @@ goes_on (Err fault) checks rest is found = λ apart. ap (λ (o : Option SubmitFa
 -- of the first pending item
 module _ (c : PlainClient) (item : Pending) where
   pub long_edit : (marks : List Mark) (fault : SubmitFault) → item ≡ items.Edit marks → first_of (submit_checks c item) ≡ None
-      → unless (nat_le (length (delta_bytes marks)) MAX_HEAD_BYTES) (HeadTooLong (length (delta_bytes marks))) ≡ Some fault → Finds (Err fault) (or_due (first_of (submit_checks c item)) (item_due c item))
+      → unless (nat_le (length (delta_bytes marks)) MAX_HEAD_BYTES) (HeadTooLong (length (delta_bytes marks))) ≡ Some fault → Finds (Err fault) (or_due (first_of (submit_checks c item)) (item_due (line_of c) item))
   long_edit marks fault is passed found =
-      goes_on (Err fault) (first_of (submit_checks c item)) (item_due c item) passed
-      (λ apart. ap (λ (i : Pending). step_of (item_due c i)) is ∙ ap (λ (o : Option SubmitFault). step_of (or_due o (Sign (items.Edit marks)))) found)
+      goes_on (Err fault) (first_of (submit_checks c item)) (item_due (line_of c) item) passed
+      (λ apart. ap (λ (i : Pending). step_of (item_due (line_of c) i)) is ∙ ap (λ (o : Option SubmitFault). step_of (or_due o (Sign (items.Edit marks)))) found)
 
   pub checked_edit : (marks : List Mark) → item ≡ items.Edit marks → first_of (submit_checks c item) ≡ None
-      → unless (nat_le (length (delta_bytes marks)) MAX_HEAD_BYTES) (HeadTooLong (length (delta_bytes marks))) ≡ None → Finds (Ok steps.Sign) (or_due (first_of (submit_checks c item)) (item_due c item))
+      → unless (nat_le (length (delta_bytes marks)) MAX_HEAD_BYTES) (HeadTooLong (length (delta_bytes marks))) ≡ None → Finds (Ok steps.Sign) (or_due (first_of (submit_checks c item)) (item_due (line_of c) item))
   checked_edit marks is passed found =
-      goes_on (Ok steps.Sign) (first_of (submit_checks c item)) (item_due c item) passed
-      (ap (λ (i : Pending). step_of (item_due c i)) is ∙ ap (λ (o : Option SubmitFault). step_of (or_due o (Sign (items.Edit marks)))) found)
+      goes_on (Ok steps.Sign) (first_of (submit_checks c item)) (item_due (line_of c) item) passed
+      (ap (λ (i : Pending). step_of (item_due (line_of c) i)) is ∙ ap (λ (o : Option SubmitFault). step_of (or_due o (Sign (items.Edit marks)))) found)
 
   pub checked_change : (change : MemberChange) (result : Result Step SubmitFault) → item ≡ items.Change change → first_of (submit_checks c item) ≡ None
-      → Finds result (change_due c change (change_fault_of (roster_of c.opening.genesis c.entries) change)) → Finds result (or_due (first_of (submit_checks c item)) (item_due c item))
+      → Finds result (item_due (line_of c) (items.Change change)) → Finds result (or_due (first_of (submit_checks c item)) (item_due (line_of c) item))
   checked_change change result is passed found =
-      goes_on result (first_of (submit_checks c item)) (item_due c item) passed (subst (λ (i : Pending). Finds result (item_due c i)) (sym is) found)
+      goes_on result (first_of (submit_checks c item)) (item_due (line_of c) item) passed (subst (λ (i : Pending). Finds result (item_due (line_of c) i)) (sym is) found)
 
 -- ---- behind an entry on its way
 
@@ -286,7 +281,7 @@ is_nothing c none empty = go c.pending refl empty
     go (item ∷ items) is h = absurd cc
 
 pub is_of_first : (c : PlainClient) (item : Pending) (result : Result Step SubmitFault) → is_some c.flight ≡ false → slice_get c.pending 0 ≡ Some item
-    → Finds result (or_due (first_of (submit_checks c item)) (item_due c item)) → Finds result (due c)
+    → Finds result (or_due (first_of (submit_checks c item)) (item_due (line_of c) item)) → Finds result (due c)
 is_of_first c item result none first found = go c.pending refl first
   where
     go : (items : List Pending) → c.pending ≡ items → slice_get items 0 ≡ Some item → Finds result (due c)
@@ -294,7 +289,7 @@ is_of_first c item result none first found = go c.pending refl first
     go (head ∷ items) is h =
         let same : head ≡ item = cc in
         let F : Due → Type 0 = λ d. Finds result d in
-        subst F (sym (due_is_first c (head ∷ items) none is)) (subst (λ (i : Pending). Finds result (or_due (first_of (submit_checks c i)) (item_due c i))) (sym same) found)
+        subst F (sym (due_is_first c (head ∷ items) none is)) (subst (λ (i : Pending). Finds result (or_due (first_of (submit_checks c i)) (item_due (line_of c) i))) (sym same) found)
 
 -- ---- what a submission answers, by what the code found due
 

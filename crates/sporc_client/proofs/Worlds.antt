@@ -1,6 +1,6 @@
 -- The world after a move of a device that has this client, or none.
-use Rattle.std.proofs.Common.{ℕ, List, ◌++◌, take, Option, Some, cond}
-use Rattle.sporc_client.proofs.Common.{Device, same_device, refusal_of, Logged, PlainClient, World, given, put, signings, log_of_entries, replay, step}
+use Rattle.std.proofs.Common.{ℕ, List, ◌++◌, Option, Some, cond}
+use Rattle.sporc_client.proofs.Common.{Device, same_device, refusal_of, Logged, PlainClient, World, given, put, signings, log_of_first, replay, step}
 use Rattle.std.specs.Option.{option_map_or}
 
 -- the clients with this one in its place
@@ -15,7 +15,7 @@ gives_to w who position bytes client = option_map_or (λ c. put w who (given c b
 
 -- a client that went back to its first k entries
 abbrev pub restarted : PlainClient → ℕ → PlainClient
-restarted c k = replay c.opening (log_of_entries (take k c.entries))
+restarted c k = replay c.opening (log_of_first k c)
 
 abbrev pub restarts : World → Device → ℕ → Option PlainClient → World
 restarts w who k client = option_map_or (λ c. put w who (restarted c k)) client w

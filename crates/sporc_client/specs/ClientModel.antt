@@ -1,6 +1,6 @@
 -- What contracts see of a client, and of its leaves.
-use Rattle.std.specs.Prelude.{◌≡◌, ℕ, ◌+◌, ◌-◌, ◌<◌, ◌≤◌, List, [], ◌∷◌, length, Option, None, Some}
-use Rattle.std.specs.Prelude.{IfSome, ⊤}
+use Rattle.std.specs.Prelude.{◌≡◌, ℕ, ◌+◌, ◌-◌, ◌<◌, ◌≤◌, List, [], ◌∷◌, ◌++◌, length, Option, None}
+use Rattle.std.specs.Prelude.{Some, IfSome, slice_get, ⊤}
 use Rattle.std.specs.List.{filter_map}
 use Rattle.std.specs.Option.{option_map}
 use Rattle.std.specs.Result.{result_ok}
@@ -29,6 +29,10 @@ begun genesis kit log signer = record {
   ticket = None;
 }
 
+-- one with these events more
+abbrev pub with_events : {D : Type 0} → ClientModel D → List Logged → ClientModel D
+with_events c events = record c { log = c.log ++ events }
+
 -- all that follows from its log
 abbrev pub state_of : {D : Type 0} → ClientModel D → PlainClient
 state_of c = replay c.opening c.log
@@ -42,7 +46,11 @@ leaf_in _ = None
 abbrev pub leaves_of : List Logged → List ℕ
 leaves_of log = filter_map leaf_in log
 
--- numbers that rise, from the first on and below the end: each stands once
+-- each of the numbers stands once
+abbrev pub StandOnce : List ℕ → Type 0
+StandOnce ns = (i j n : ℕ) → slice_get ns i ≡ Some n → slice_get ns j ≡ Some n → i ≡ j
+
+-- numbers that rise, from the first on and below the end
 abbrev pub Rise : ℕ → ℕ → List ℕ → Type 0
 Rise first end [] = ⊤
 Rise first end (n ∷ ns) = (first ≤ n) × (n < end) × Rise (n + 1) end ns

@@ -16,7 +16,7 @@ use Rattle.sporc_client.specs.declared.pending.Pending.{Pending}
 use Rattle.sporc_client.specs.declared.pending.Pending.TheVariants.{Edit, Change}
 use Rattle.sporc_client.specs.Allowed.{is_made}
 use Rattle.sporc_client.specs.ClientModel.{leaf_in}
-use Rattle.sporc_client.specs.Entries.{Chosen, sealing_of}
+use Rattle.sporc_client.specs.Entries.{sealing_of}
 use Rattle.sporc_client.specs.Log.{Submit}
 use Rattle.sporc_client.specs.PlainClient.{PlainClient}
 use Rattle.sporc_client.specs.Soundness.{IsInFlight}
@@ -38,11 +38,11 @@ pub record CanTake (line : LineModel) (item : Pending) : Type 0 where
   pub fits : Fits line item
 
 -- what the entry of an item holds is spelled as its format has it
-abbrev pub IsSpelled : PlainClient → Chosen → Pending → Type 0
-IsSpelled c chosen (Edit marks) = IsTypedDelta marks
-IsSpelled c chosen (Change change) =
-    IsChangeBody (version_of (roster_of c.opening.genesis c.entries).upgraded)
-    (body_sealed (sealing_of c chosen change) c.opening.kit.pairs)
+abbrev pub IsSpelled : LineModel → ℕ → List ℕ → Pending → Type 0
+IsSpelled line leaf new_key (Edit marks) = IsTypedDelta marks
+IsSpelled line leaf new_key (Change change) =
+    IsChangeBody (version_of (roster_of line.genesis line.entries).upgraded)
+    (body_sealed (sealing_of line leaf new_key change) line.kit.pairs)
 
 -- a client can submit these bytes, signed by this leaf: its log allows them, and they are the entry
 -- of its first item

@@ -14,6 +14,7 @@ use Rattle.sporc_head.specs.History.{CommittedChange, change_in, epoch_of, is_by
 use Rattle.sporc_head.specs.History.{roster_of}
 use Rattle.sporc_client.specs.Agree.{NoCollision}
 use Rattle.sporc_client.specs.Allowed.{can_log, new_key_of}
+use Rattle.sporc_client.specs.Answers.{refusal_of}
 use Rattle.sporc_client.specs.Log.{Submit}
 use Rattle.sporc_client.specs.PlainClient.{PlainClient, me_of}
 
@@ -58,3 +59,9 @@ pub record CanReceive (c d : PlainClient) (bytes : List ℕ) : Type 0 where
   pub key : IfSome (change_in bytes)
       (λ change. removes (me_of d) change.body.change ≡ false → CanLearnKey c d change)
   pub free : NoCollision c d
+
+-- each entry that the first submits under its own key passes all checks of the second, if that can
+-- receive it
+abbrev pub EntriesPass : PlainClient → PlainClient → Type 0
+EntriesPass c d = (by : ℕ) (bytes : List ℕ) → SubmitsUnderOwnKey c by bytes
+    → CanReceive c d bytes → refusal_of d (length d.entries + 1) bytes ≡ None

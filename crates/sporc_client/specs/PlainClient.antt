@@ -7,6 +7,7 @@ use Rattle.sporc_member.specs.declared.device.Device.{Device}
 use Rattle.sporc_entry.specs.declared.genesis.Genesis.{Genesis}
 use Rattle.sporc_line.specs.Kit.{Kit}
 use Rattle.sporc_line.specs.Document.{text_after, text_of}
+use Rattle.sporc_line.specs.LineModel.{LineModel}
 use Rattle.sporc_client.specs.declared.pending.Pending.{Pending}
 use Rattle.sporc_client.specs.declared.pending.Pending.TheVariants.{Edit, Change}
 
@@ -30,6 +31,15 @@ pub record PlainClient : Type 0 where
 -- a client that was just opened
 abbrev pub opened : Opening → PlainClient
 opened opening = record { opening = opening; entries = []; pending = []; flight = None; shown = [] }
+
+-- what it shares with the others of its document: its history, and what reads it
+abbrev pub line_of : PlainClient → LineModel
+line_of c = record {
+  genesis = c.opening.genesis;
+  kit = c.opening.kit;
+  entries = c.entries;
+  spare = 0;
+}
 
 -- its device
 abbrev pub me_of : PlainClient → Device

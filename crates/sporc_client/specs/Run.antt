@@ -14,7 +14,7 @@ use Rattle.sporc_line.specs.Good.{Meets}
 use Rattle.sporc_line.specs.Kit.{Kit}
 use Rattle.sporc_client.specs.Log.{Logged, Submit}
 use Rattle.sporc_client.specs.PlainClient.{Opening, PlainClient, opened}
-use Rattle.sporc_client.specs.Step.{accepted, log_of_entries, replay, step}
+use Rattle.sporc_client.specs.Step.{accepted, log_of_first, replay, step}
 use Rattle.sporc_client.specs.Answers.{journal_has_room, refusal_of}
 use Rattle.sporc_client.specs.Allowed.{can_log}
 
@@ -84,7 +84,7 @@ after s w (Happen who e) = option_map_or
 after s w (Give who position bytes) =
     option_map_or (λ c. put w who (given c bytes (refusal_of c position bytes))) (w.clients who) w
 after s w (Restart who k) = option_map_or
-    (λ c. put w who (replay c.opening (log_of_entries (take k c.entries)))) (w.clients who) w
+    (λ c. put w who (replay c.opening (log_of_first k c))) (w.clients who) w
 
 -- after moves in order
 abbrev pub after_all : Setup → World → List Move → World

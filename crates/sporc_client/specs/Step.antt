@@ -1,6 +1,6 @@
 -- What each event does to a client, and the replay of a log.
-use Rattle.std.specs.Prelude.{ℕ, ◌++◌, List, [], ◌∷◌, length, drop, map, fold, Bool, false, Option}
-use Rattle.std.specs.Prelude.{None, Some, if◌then◌else◌}
+use Rattle.std.specs.Prelude.{ℕ, ◌++◌, List, [], ◌∷◌, length, drop, take, map, fold, Bool, false}
+use Rattle.std.specs.Prelude.{Option, None, Some, if◌then◌else◌}
 use Rattle.std.specs.Str.{bytes_eq}
 use Rattle.std.specs.Option.{is_some}
 use Rattle.sporc_delta.specs.Marks.{Mark, replacement, keep_marks}
@@ -95,3 +95,7 @@ replay opening log = replay_from (opened opening) log
 -- resumed
 abbrev pub log_of_entries : List (List ℕ) → List Logged
 log_of_entries entries = map (Accept 0) entries
+
+-- the log of one that went back to its first k entries
+abbrev pub log_of_first : ℕ → PlainClient → List Logged
+log_of_first k c = log_of_entries (take k c.entries)

@@ -12,6 +12,7 @@ use Rattle.sporc_member.specs.Roster.{after_change, change_fault_of, numbers_of}
 use Rattle.sporc_epoch.specs.Sealing.{least_unpaired}
 use Rattle.sporc_head.specs.declared.limits.TheConstants.{MAX_ENTRIES}
 use Rattle.sporc_head.specs.History.{roster_of}
+use Rattle.sporc_line.specs.LineModel.{LineModel}
 use Rattle.sporc_client.specs.declared.client.submitting.due.Due.{Due as Step}
 use Rattle.sporc_client.specs.declared.client.submitting.due.Due.TheVariants as steps
 use Rattle.sporc_client.specs.declared.limits.TheConstants.{MAX_HEAD_BYTES}
@@ -27,7 +28,7 @@ use Rattle.sporc_client.specs.declared.submitted.Submitted.TheVariants as submit
 use Rattle.sporc_client.specs.Answers.{has_right, is_out, journal_has_room}
 use Rattle.sporc_client.specs.Entries.{bytes_made, kind_of}
 use Rattle.sporc_client.specs.Log.{Logged, Submit, Dropped}
-use Rattle.sporc_client.specs.PlainClient.{PlainClient}
+use Rattle.sporc_client.specs.PlainClient.{PlainClient, line_of}
 
 -- what is due at a submission
 pub data Due : Type 0 where
@@ -50,21 +51,22 @@ abbrev pub no_pair_key : Option ℕ → Option SubmitFault
 no_pair_key None = None
 no_pair_key (Some member) = Some (NoPairKey member)
 
--- a change that the members accept needs a pairwise key with each member after it
-abbrev pub change_due : PlainClient → MemberChange → Option ChangeFault → Due
-change_due c change (Some fault) = Drop fault
-change_due c change None = or_due (no_pair_key (least_unpaired c.opening.kit.pairs
-    (numbers_of (after_change (roster_of c.opening.genesis c.entries) change).members)))
-    (Sign (Change change))
+-- of a change, by why the members refuse it and by the least member after it without a pairwise
+-- key
+abbrev pub change_due : MemberChange → Option ChangeFault → Option ℕ → Due
+change_due change (Some fault) unpaired = Drop fault
+change_due change None unpaired = or_due (no_pair_key unpaired) (Sign (Change change))
 
 abbrev pub edit_due : List Mark → Due
 edit_due marks = or_due (unless (nat_le (length (delta_bytes marks)) MAX_HEAD_BYTES)
     (HeadTooLong (length (delta_bytes marks)))) (Sign (Edit marks))
 
-abbrev pub item_due : PlainClient → Pending → Due
-item_due c (Edit marks) = edit_due marks
-item_due c (Change change) =
-    change_due c change (change_fault_of (roster_of c.opening.genesis c.entries) change)
+abbrev pub item_due : LineModel → Pending → Due
+item_due line (Edit marks) = edit_due marks
+item_due line (Change change) =
+    let roster = roster_of line.genesis line.entries in
+    change_due change (change_fault_of roster change)
+    (least_unpaired line.kit.pairs (numbers_of (after_change roster change).members))
 
 -- the checks of a submission of an item, whatever the item says
 abbrev pub submit_checks : PlainClient → Pending → List (Option SubmitFault)
@@ -77,7 +79,7 @@ submit_checks c item =
 
 abbrev pub first_due : PlainClient → List Pending → Due
 first_due c [] = Nothing
-first_due c (item ∷ items) = or_due (first_of (submit_checks c item)) (item_due c item)
+first_due c (item ∷ items) = or_due (first_of (submit_checks c item)) (item_due (line_of c) item)
 
 abbrev pub due_behind : PlainClient → Option (List ℕ) → Due
 due_behind c (Some flight) = Waiting

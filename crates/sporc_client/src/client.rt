@@ -29,6 +29,7 @@ ghost use Rattle.sporc_suffix.specs.Forms.{Follow, all_inserted, later_over, rea
 ghost use Rattle.sporc_client.specs.Allowed.{is_allowed};
 ghost use Rattle.sporc_client.specs.Soundness.{IsSound};
 ghost use Rattle.sporc_client.specs.ClientModel.{Rise, begun, first_leaf_of, leaves_of, state_of};
+ghost use Rattle.sporc_client.specs.ClientModel.{with_events};
 ghost use Rattle.sporc_client.specs.Workspace.{SameOwn};
 
 mod accepting;
@@ -259,8 +260,7 @@ impl<D: LeafDisk> Client<D> {
         ensures fault { AnswersUnless EditFault.Memory result
             (edit_fault (state_of self.old) seen delta.now) }
         ensures ok { IfOk result (λ n. n ≡ length self.new.log) }
-        ensures log { self.new
-            ≡ record self.old { log = self.old.log ++ added result (Edited by seen delta.now) } }
+        ensures log { self.new ≡ with_events self.old (added result (Edited by seen delta.now)) }
     {
         check_edit(&self.line, &self.own, seen, delta)?;
         record_edit(&mut self.own, by, seen as u32, delta)?;
@@ -271,8 +271,7 @@ impl<D: LeafDisk> Client<D> {
     pub fn change(&mut self, by: u32, change: Change) -> Result<u64, EditFault>
         ensures fault { AnswersUnless EditFault.Memory result (change_fault (state_of self.old)) }
         ensures ok { IfOk result (λ n. n ≡ length self.new.log) }
-        ensures log { self.new
-            ≡ record self.old { log = self.old.log ++ added result (Changed by change) } }
+        ensures log { self.new ≡ with_events self.old (added result (Changed by change)) }
     {
         check_change(&self.line, &self.own)?;
         let ready = ready_keep(self.alloc, &mut self.own)?;

@@ -1,27 +1,24 @@
 //! Laws of runs: what all clients of a document agree on, whatever the server hands them.
 
-ghost use Rattle.std.specs.Prelude.{◌≡◌, ◌↔◌, ℕ, ◌+◌, ◌≤◌, List, [], ◌∷◌, ◌++◌, length, take, true};
-ghost use Rattle.std.specs.Prelude.{None, Some, Contains, slice_get};
-ghost use Rattle.std.specs.FinMap.{get};
+ghost use Rattle.std.specs.Prelude.{◌≡◌, ◌↔◌, ℕ, ◌+◌, ◌≤◌, List, [], ◌∷◌, ◌++◌, length, true};
+ghost use Rattle.std.specs.Prelude.{None, Some};
 ghost use Rattle.sporc_base.specs.Bytes.{IsBytes};
 ghost use Rattle.sporc_member.specs.declared.device.Device.{Device};
 ghost use Rattle.sporc_epoch.specs.Keys.{Keys};
 ghost use Rattle.sporc_epoch.specs.Streams.{entry_stream};
-ghost use Rattle.sporc_line.specs.Good.{Meets};
 ghost use Rattle.sporc_client.specs.Allowed.{can_log, is_allowed};
-ghost use Rattle.sporc_client.specs.Answers.{refusal_of};
 ghost use Rattle.sporc_client.specs.Calls.{LeadTo, events_of};
-ghost use Rattle.sporc_client.specs.ClientModel.{Rise, leaves_of};
+ghost use Rattle.sporc_client.specs.ClientModel.{Rise, StandOnce, leaves_of};
 ghost use Rattle.sporc_client.specs.Closed.{IsClosed};
 ghost use Rattle.sporc_client.specs.Genuine.{Genuine};
-ghost use Rattle.sporc_client.specs.HonestEntries.{CanReceive, SubmitsUnderOwnKey};
+ghost use Rattle.sporc_client.specs.HonestEntries.{EntriesPass};
 ghost use Rattle.sporc_client.specs.LeafUses.{AreUses, IsUse, LeafSupply, LeafUse, leaves_used};
 ghost use Rattle.sporc_client.specs.Log.{Logged, Submit};
 ghost use Rattle.sporc_client.specs.Makings.{CanMake};
 ghost use Rattle.sporc_client.specs.PlainClient.{Opening, PlainClient};
-ghost use Rattle.sporc_client.specs.Run.{IsAt, IsRun, Move, Open, Restart, Setup, World};
+ghost use Rattle.sporc_client.specs.Run.{IsAt, IsRun, May, Move, Open, Restart, Setup, World};
 ghost use Rattle.sporc_client.specs.Run.{opening_of, start};
-ghost use Rattle.sporc_client.specs.Step.{log_of_entries, replay};
+ghost use Rattle.sporc_client.specs.Step.{log_of_first, replay};
 ghost use Rattle.sporc_client.specs.WellFormed.{IsWellFormed};
 ghost use Rattle.sporc_client.specs.Reached.{IsReached};
 ghost use Rattle.sporc_client.specs.Soundness.{IsSound};
@@ -58,10 +55,8 @@ pub fn clients_stay_sound()
 /// the new key of a change, unless that removes it or drops its device. So in every run of values
 /// of their types.
 pub fn honest_entries_pass()
-    ensures accepted { (s : Setup) (moves : List Move) (m n by : ℕ) (i j : Device)
-        (c d : PlainClient) (bytes : List ℕ) → IsTypedRun s moves → IsAt s moves m i c
-        → SubmitsUnderOwnKey c by bytes → IsAt s moves n j d → CanReceive c d bytes
-        → refusal_of d (length d.entries + 1) bytes ≡ None }
+    ensures accepted { (s : Setup) (moves : List Move) (m n : ℕ) (i j : Device) (c d : PlainClient)
+        → IsTypedRun s moves → IsAt s moves m i c → IsAt s moves n j d → EntriesPass c d }
 {}
 
 /// No one forges in a run in which a server hands out only what clients of the run signed, and each
@@ -79,13 +74,11 @@ pub fn calls_are_moves()
     ensures events { (s : Setup) (w : World) (who : Device) (o : Opening) (log added : List Logged)
         → w.clients who ≡ Some (replay o log) → is_allowed o (log ++ added) ≡ true
         → LeadTo s w (events_of who added) who (replay o (log ++ added)) }
-    ensures restarts { (s : Setup) (w : World) (who : Device) (k : ℕ) (o : Opening)
-        (log : List Logged)
-        → w.clients who ≡ Some (replay o log) → k ≤ length (replay o log).entries → LeadTo s w
-        (Restart who k ∷ []) who (replay o (log_of_entries (take k (replay o log).entries))) }
+    ensures restarts { (s : Setup) (w : World) (who : Device) (o : Opening) (log : List Logged)
+        (k : ℕ) → w.clients who ≡ Some (replay o log) → k ≤ length (replay o log).entries
+        → LeadTo s w (Restart who k ∷ []) who (replay o (log_of_first k (replay o log))) }
     ensures opens { (s : Setup) (w : World) (who : Device) (ring : Keys) (log : List Logged)
-        → Contains s.devices who → Meets s.genesis 0 (get ring 0) s.genesis.commitment
-        → is_allowed (opening_of s who ring) log ≡ true
+        → May s w (Open who ring) → is_allowed (opening_of s who ring) log ≡ true
         → LeadTo s w (Open who ring ∷ events_of who log) who (replay (opening_of s who ring) log) }
 {}
 
@@ -101,9 +94,8 @@ pub fn allowed_submissions_can_be_made()
 /// No two entries that a client's journal shows as submitted carry one leaf, and so no stream
 /// number masks the bodies of two.
 pub fn leaves_sign_once()
-    ensures once { (first end : ℕ) (log : List Logged) (x y leaf : ℕ)
-        → Rise first end (leaves_of log) → slice_get (leaves_of log) x ≡ Some leaf
-        → slice_get (leaves_of log) y ≡ Some leaf → x ≡ y }
+    ensures once { (first end : ℕ) (log : List Logged) → Rise first end (leaves_of log)
+        → StandOnce (leaves_of log) }
     ensures streams { (device : Device) (leaf other : ℕ)
         → entry_stream device leaf ≡ entry_stream device other → leaf ≡ other }
 {}
@@ -112,9 +104,7 @@ pub fn leaves_sign_once()
 /// between, or is closed and its leaves are opened again. Each call is a use of leaves: `submit` by
 /// its contract, and all others since they leave the kept ticket and the leaves as they were.
 pub fn leaves_never_repeat()
-    ensures once { (next : ℕ) (uses : List LeafUse) (x y leaf : ℕ)
-        → AreUses (record { next = next; ticket = None }) uses
-        → slice_get (leaves_used uses) x ≡ Some leaf
-        → slice_get (leaves_used uses) y ≡ Some leaf → x ≡ y }
+    ensures once { (next : ℕ) (uses : List LeafUse)
+        → AreUses (record { next = next; ticket = None }) uses → StandOnce (leaves_used uses) }
     ensures others { (s : LeafSupply) → IsUse s None s }
 {}

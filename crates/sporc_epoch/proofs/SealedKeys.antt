@@ -95,20 +95,20 @@ sealed s pairs body h = by (least_unpaired pairs s.members) refl h
     by (Some m) is h = absurd cc
 
 -- a wrap opens under the key that sealed it
-pub new_opens : (s : Sealing) (pairs mine : Keys) (body : ChangeBody) (member : ℕ) → change_sealed s pairs ≡ Ok body → Contains s.members member
-    → get mine s.author ≡ get pairs member → wrap_opened body s.author s.stream member mine ≡ Some s.new
+pub new_opens : (s : Sealing) (pairs mine : Keys) (body : ChangeBody) (author member : ℕ) → change_sealed s pairs ≡ Ok body → Contains s.members member
+    → get mine author ≡ get pairs member → wrap_opened body author s.stream member mine ≡ Some s.new
 unfolding wrap_opened body_sealed
-new_opens s pairs mine body member h c same =
+new_opens s pairs mine body author member h c same =
     let is = sealed s pairs body h in
     by (get pairs member) refl is.0 (paired pairs s.members member is.1 c)
   where
     by : (o : Option (List ℕ)) → get pairs member ≡ o → body ≡ body_sealed s pairs → is_none o ≡ false
-        → option_and_then (opened_under s.stream (get mine s.author)) (wrap_for member body.wraps) ≡ Some s.new
+        → option_and_then (opened_under s.stream (get mine author)) (wrap_for member body.wraps) ≡ Some s.new
     by None at is none = absurd cc
     by (Some pair) at is none =
         let first : wrap_for member body.wraps ≡ Some (wrap_with s.stream s.new member pair) =
         ap (λ (b : ChangeBody). wrap_for member b.wraps) is ∙ first_wrap s.stream s.new pairs member pair s.members at c in
-        ap (option_and_then (opened_under s.stream (get mine s.author))) first
+        ap (option_and_then (opened_under s.stream (get mine author))) first
         ∙ ap (λ o. opened_under s.stream o (wrap_with s.stream s.new member pair)) (same ∙ at)
         ∙ ap Some (mask_from-mask_from pair s.stream 0 s.new)
 

@@ -14,33 +14,37 @@ use Rattle.sporc_entry.specs.ChangeBody.{kind_of, IsChange}
 use Rattle.sporc_entry.specs.Version.{has_kind}
 use Rattle.sporc_epoch.specs.declared.fault.SealFault.{SealFault}
 use Rattle.sporc_epoch.specs.declared.fault.SealFault.TheVariants.{NoPairKey}
+use Rattle.sporc_epoch.specs.declared.sealing.Sealing as parts
 use Rattle.sporc_epoch.specs.Keys.{Keys}
 use Rattle.sporc_epoch.specs.Streams.{previous_stream}
 
--- a change and the numbers of the members after it; its document, its author and its entry's
--- stream; the epoch that it ends, with its key, and the key of the next
+-- a change and the numbers of the members after it; its document and its entry's stream; the epoch
+-- that it ends, with its key, and the key of the next
 pub record Sealing : Type 0 where
   pub change : Change
   pub members : List ℕ
   pub document : List ℕ
-  pub author : ℕ
   pub stream : ℕ
   pub epoch : ℕ
   pub old : List ℕ
   pub new : List ℕ
 
 -- that of these values
-abbrev pub sealing_of : Change → List ℕ → List ℕ → ℕ → ℕ → ℕ → List ℕ → List ℕ → Sealing
-sealing_of change members document author stream epoch old new = record {
+abbrev pub sealing_of : Change → List ℕ → List ℕ → ℕ → ℕ → List ℕ → List ℕ → Sealing
+sealing_of change members document stream epoch old new = record {
   change = change;
   members = members;
   document = document;
-  author = author;
   stream = stream;
   epoch = epoch;
   old = old;
   new = new;
 }
+
+-- what is said by references to its parts
+abbrev pub sealing_in : parts.Sealing → Sealing
+sealing_in s =
+    sealing_of s.change.now s.members.now s.document.now s.stream s.epoch s.old.now s.new.now
 
 -- its change has a spelling in a version, its keys have 32 bytes, and it is for at most as many
 -- members as a document can have

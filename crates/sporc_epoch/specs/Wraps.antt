@@ -5,7 +5,6 @@ use Rattle.sporc_cipher.specs.Mask.{mask_of}
 use Rattle.sporc_entry.specs.declared.change.ChangeBody.{ChangeBody}
 use Rattle.sporc_entry.specs.declared.wrap.Wrap.{Wrap}
 use Rattle.sporc_epoch.specs.Keys.{Keys}
-use Rattle.sporc_epoch.specs.Sealing.{Sealing}
 use Rattle.sporc_epoch.specs.Streams.{previous_stream}
 
 -- the first wrap for a member
@@ -21,10 +20,6 @@ opened_under stream pair wrap = option_map (λ key. mask_of key stream wrap.seal
 unfoldable pub wrap_opened : ChangeBody → ℕ → ℕ → ℕ → Keys → Option (List ℕ)
 wrap_opened body author stream me pairs =
     option_and_then (opened_under stream (get pairs author)) (wrap_for me body.wraps)
-
--- that key, of a change that was sealed so
-abbrev pub new_opened : Sealing → ChangeBody → ℕ → Keys → Option (List ℕ)
-new_opened s body me pairs = wrap_opened body s.author s.stream me pairs
 
 -- the key of the epoch before this one, which a change ends, under the key of the epoch that it
 -- starts

@@ -9,7 +9,7 @@ ghost use Rattle.sporc_epoch.specs.declared.streams.TheConstants.{MAX_EPOCH};
 ghost use Rattle.sporc_epoch.specs.Keys.{Keys};
 ghost use Rattle.sporc_epoch.specs.Sealing.{IsSealing, Sealing, change_sealed};
 ghost use Rattle.sporc_epoch.specs.Streams.{entry_stream, previous_stream};
-ghost use Rattle.sporc_epoch.specs.Wraps.{new_opened, previous_opened};
+ghost use Rattle.sporc_epoch.specs.Wraps.{previous_opened, wrap_opened};
 
 /// The limit in numbers.
 pub fn limits()
@@ -32,9 +32,10 @@ pub fn streams_do_not_meet()
 /// What the author of a change seals, each member opens who holds the same pairwise key, and the
 /// new key opens the key of the epoch before.
 pub fn sealed_keys_open()
-    ensures new { (s : Sealing) (pairs mine : Keys) (body : ChangeBody) (member : ℕ)
+    ensures new { (s : Sealing) (pairs mine : Keys) (body : ChangeBody) (author member : ℕ)
         → change_sealed s pairs ≡ Ok body → Contains s.members member
-        → get mine s.author ≡ get pairs member → new_opened s body member mine ≡ Some s.new }
+        → get mine author ≡ get pairs member
+        → wrap_opened body author s.stream member mine ≡ Some s.new }
     ensures previous { (s : Sealing) (pairs : Keys) (body : ChangeBody)
         → change_sealed s pairs ≡ Ok body → previous_opened body (s.epoch + 1) s.new ≡ s.old }
 {}

@@ -13,7 +13,9 @@
 //!
 //! ```text
 //! let stream = entry_stream(device, leaf);
-//! let body = seal_change_at(alloc, &change, &members, &document, device.member, stream, epoch, &old, &new, &pairs)?;
+//! let (change, members, document) = (&change, &members, &document);
+//! let sealing = Sealing { change, members, document, stream, epoch, old: &old, new: &new };
+//! let body = seal_change_at(alloc, &sealing, &pairs)?;
 //! // Some(new), under the same pairwise key
 //! open_wrap_at(&body, device.member, stream, me, &mine)
 //! open_previous(&body, epoch + 1, &new)                // old
@@ -34,6 +36,7 @@ pub mod laws;
 mod pairs;
 mod ring;
 mod seal;
+mod sealing;
 mod start;
 mod streams;
 mod wraps;
@@ -43,6 +46,7 @@ pub use hints::hints_from;
 pub use pairs::Pairs;
 pub use ring::Ring;
 pub use seal::{least_unpaired, seal_change, seal_change_at};
+pub use sealing::Sealing;
 pub use sporc_base::Memory;
 pub use streams::{MAX_EPOCH, entry_stream, stream_of};
 pub use wraps::{open_previous, open_wrap, open_wrap_at};

@@ -1,7 +1,8 @@
 //! Keys, sealed.
 
-ghost use Rattle.std.specs.Prelude.{◌≡◌, ℕ, ◌<◌, ◌≤◌, true, length, IfOk, filter, fold, is_none};
+ghost use Rattle.std.specs.Prelude.{◌≡◌, ℕ, ◌<◌, ◌≤◌, ◌^◌, true, length, IfOk, filter, fold, is_none};
 ghost use Rattle.std.specs.FinMap as map;
+ghost use Rattle.std.specs.List.{All};
 ghost use Rattle.sporc_base.specs.Outcome.{GivesUnless};
 ghost use Rattle.sporc_member.specs.declared.limits.TheConstants.{MAX_MEMBERS};
 ghost use Rattle.sporc_member.specs.Device.{first_device};
@@ -9,11 +10,12 @@ ghost use Rattle.sporc_entry.specs.ChangeBody.{kind_of, IsChange, IsChangeBody};
 ghost use Rattle.sporc_entry.specs.Version.{has_kind};
 ghost use Rattle.sporc_epoch.specs.Keys.{pairs_in};
 ghost use Rattle.sporc_epoch.specs.Sealing.{wrap_sealed, wraps_sealed, lesser, least_unpaired};
-ghost use Rattle.sporc_epoch.specs.Sealing.{change_sealed, sealing_of};
+ghost use Rattle.sporc_epoch.specs.Sealing.{change_sealed, sealing_in, sealing_of};
 ghost use Rattle.sporc_epoch.specs.Streams.{entry_stream};
 
 use crate::fault::SealFault;
 use crate::pairs::Pairs;
+use crate::sealing::Sealing;
 use crate::streams::{MAX_EPOCH, entry_stream, masked, previous_stream};
 use sporc_base::Memory;
 use sporc_entry::{ChangeBody, Wrap, Wraps};
@@ -39,51 +41,50 @@ pub fn seal_change(
 ) -> Result<ChangeBody, SealFault>
     requires limit { epoch < MAX_EPOCH }
     ensures value { GivesUnless SealFault.Memory (λ body. body) result (change_sealed
-        (sealing_of change.now members.now document.now author
-        (entry_stream (first_device author) leaf) epoch old.now new.now) (pairs_in pairs.now)) }
+        (sealing_of change.now members.now document.now (entry_stream (first_device author) leaf)
+        epoch old.now new.now) (pairs_in pairs.now)) }
     // The body has a spelling.
     ensures spelled { (version : ℕ) → has_kind version (kind_of change.now) ≡ true
         → IsChange change.now
         → length members.now ≤ MAX_MEMBERS → IfOk result (IsChangeBody version) }
 {
-    let stream = entry_stream(Device::first(author), leaf);
-    seal_change_at(
-        alloc, change, members, document, author, stream, epoch, old, new, pairs,
-    )
+    let sealing = Sealing {
+        change,
+        members,
+        document,
+        stream: entry_stream(Device::first(author), leaf),
+        epoch,
+        old,
+        new,
+    };
+    seal_change_at(alloc, &sealing, pairs)
 }
 
-/// The body of a change, its keys sealed for an entry by the number of its stream.
+/// The body of a change, its keys sealed under the author's pairwise keys. NoPairKey if there is a
+/// member without a pairwise key.
 #[tactic(auto, unfolding(crate::specs::Sealing::body_sealed, crate::specs::Sealing::change_sealed))]
 pub fn seal_change_at(
     alloc: Global,
-    change: &Change,
-    members: &[u16],
-    document: &[u8; 16],
-    author: u16,
-    stream: u64,
-    epoch: u32,
-    old: &[u8; 32],
-    new: &[u8; 32],
+    sealing: &Sealing<'_>,
     pairs: &Pairs,
 ) -> Result<ChangeBody, SealFault>
-    requires limit { epoch < MAX_EPOCH }
-    ensures value { GivesUnless SealFault.Memory (λ body. body) result (change_sealed
-        (sealing_of change.now members.now document.now author stream epoch old.now new.now)
-        (pairs_in pairs.now)) }
+    requires limit { sealing.now.epoch < MAX_EPOCH }
+    ensures value { GivesUnless SealFault.Memory (λ body. body) result
+        (change_sealed (sealing_in sealing.now) (pairs_in pairs.now)) }
     // The body has a spelling.
-    ensures spelled { (version : ℕ) → has_kind version (kind_of change.now) ≡ true
-        → IsChange change.now
-        → length members.now ≤ MAX_MEMBERS → IfOk result (IsChangeBody version) }
+    ensures spelled { (version : ℕ) → has_kind version (kind_of sealing.now.change.now) ≡ true
+        → IsChange sealing.now.change.now
+        → length sealing.now.members.now ≤ MAX_MEMBERS → IfOk result (IsChangeBody version) }
 {
-    let _ = author;
-    if let Some(member) = least_unpaired(members, pairs) {
+    if let Some(member) = least_unpaired(sealing.members, pairs) {
         return Err(SealFault::NoPairKey(member));
     }
-    let wraps = seal_wraps(alloc, members, stream, new, pairs)?;
+    let wraps = seal_wraps(alloc, sealing.members, sealing.stream, sealing.new, pairs)?;
+    let next = sealing.epoch + 1;
     Ok(ChangeBody {
-        change: *change,
-        commitment: commit(document, epoch + 1, new),
-        previous: masked(new, previous_stream(epoch + 1), old),
+        change: *sealing.change,
+        commitment: commit(sealing.document, next, sealing.new),
+        previous: masked(sealing.new, previous_stream(next), sealing.old),
         wraps: Wraps::new(wraps),
     })
 }
@@ -118,7 +119,7 @@ fn lesser(least: Option<u16>, number: u16) -> Option<u16>
     }
 }
 
-// A key, sealed for each of some members.
+// A key, sealed for each of some members. The key and the numbers are in range.
 fn seal_wraps(
     alloc: Global,
     members: &[u16],
@@ -128,6 +129,7 @@ fn seal_wraps(
 ) -> Result<Vec<Wrap>, Memory>
     ensures value { IfOk result
         (λ wraps. wraps.items ≡ wraps_sealed stream key.now (pairs_in pairs.now) members.now) }
+    ensures typed { (length key.now ≡ 32) × All (λ m. m < 2 ^ 16) members.now }
 {
     members
         .iter()

@@ -1,7 +1,7 @@
 -- Commands that act on one client, on the state and on the scene that it stands for.
-use Rattle.std.proofs.Common.{◌≡◌, ℕ, Bool, true, false, cond, List, [], ◌∷◌, ◌++◌, length, take, map, refl, sym, ap, ◌∙◌, subst, append-nil, Option, None, Some, arith}
+use Rattle.std.proofs.Common.{◌≡◌, ℕ, Bool, true, false, cond, List, [], ◌∷◌, ◌++◌, length, map, refl, sym, ap, ◌∙◌, subst, append-nil, Option, None, Some, arith}
 use Rattle.sporc_play.proofs.Common.{nat_le, MemoryDiskModel, Refusal, journal_has_room, refusal_of, ClientModel, state_of, Logged, Opening, PlainClient, Setup, Give, Restart, given}
-use Rattle.sporc_play.proofs.Common.{log_of_entries, replay, replay_from, restarted, replay_append, replay_opening, Device, PlayLine, Seat, PlayState, setup_of, accepted_event, events_by}
+use Rattle.sporc_play.proofs.Common.{log_of_first, replay, replay_from, restarted, replay_append, replay_opening, Device, PlayLine, Seat, PlayState, setup_of, accepted_event, events_by}
 use Rattle.sporc_play.proofs.Common.{first_accepts, given_by, given_events, line_by, Scene, adds, if_open, nothing, restarts, IsSeatAt, plain_in, seat_logged, seat_restarted}
 use Rattle.sporc_play.proofs.Common.{IsSeatOf, StandsFor, Effect}
 use Rattle.sporc_play.specs.Scene.{gives, moved}
@@ -88,13 +88,13 @@ restart_quiet who k c = go (nat_le k (length c.entries))
     go true = record { moves = (refl, tt); entries = refl }
     go false = record { moves = tt; entries = refl }
 
-back_is : (o : Opening) (log : List Logged) (k : ℕ) → restarted (replay o log) k ≡ replay o (log_of_entries (take k (replay o log).entries))
-back_is o log k = ap (λ (p : Opening). replay p (log_of_entries (take k (replay o log).entries))) (replay_opening o log)
+back_is : (o : Opening) (log : List Logged) (k : ℕ) → restarted (replay o log) k ≡ replay o (log_of_first k (replay o log))
+back_is o log k = ap (λ (p : Opening). replay p (log_of_first k (replay o log))) (replay_opening o log)
 
 restart_leads : (s : Setup) (scene : Scene) (who : Device) (k : ℕ) → LeadsTo s scene (restarts who k) (λ c. restarted_log c.log k (state_of c)) who
 restart_leads s scene who k c there log = go (nat_le k (length (state_of c).entries))
   where
-    go : (b : Bool) → Leads s scene who c (cond b (moved (Restart who k ∷ [])) nothing).moves (cond b (log_of_entries (take k (state_of c).entries)) c.log)
+    go : (b : Bool) → Leads s scene who c (cond b (moved (Restart who k ∷ [])) nothing).moves (cond b (log_of_first k (state_of c)) c.log)
     go true = record {
       client = client_goes_back s scene.world who k (state_of c) there ∙ ap Some (back_is c.opening c.log k);
       logs = log_moved s scene.world scene.logs (Restart who k) ∙ ap (λ (o : Option PlainClient). first_accepts o k) there;

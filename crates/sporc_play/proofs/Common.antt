@@ -1,5 +1,5 @@
 -- The names of this crate and of those below that many of its proofs cite, passed on from one place.
-pub use Rattle.std.proofs.lemmas.Bool.{and_parts, cases_lt, eqb-true, le-leb, leb-true, lt-ltb, ltb-true, ne_eqb, or_left, or_right}
+pub use Rattle.std.proofs.lemmas.Bool.{and_parts, cases_lt, eqb-true, le-leb, leb-true, lt-ltb, ltb-true, ne_eqb, or_left}
 pub use Rattle.std.proofs.lemmas.List.{length-map, length-take-le, map-append, map_more, reverse-append, take-append-le, take_all, take_more}
 pub use Rattle.std.proofs.lemmas.List.Elements.{All-from_recursion, Contains-append_left, Contains-append_right, filter_map-append, filter_more}
 pub use Rattle.std.proofs.lemmas.List.Sums.{fold-append}
@@ -16,7 +16,7 @@ pub use Rattle.std.specs.Option.{option_to_list}
 pub use Rattle.std.specs.Ordering.{eq_by_cmp, nat_cmp}
 pub use Rattle.std.specs.Prelude.{Contains, Err, IfSome, IsSome, IsSomeAnd, IsTrue, None, Ok, Result, bit_xor, false, filter_map, flat_map, if◌then◌else◌, is_none, is_some, min, nat_le, nat_lt, not}
 pub use Rattle.std.specs.Prelude.{option_and_then, option_map, replicate, slice_get, slice_index, take_while, unwrap_or, ⊤, ◌&&◌, ◌==◌, ◌||◌, ◌↔◌, ◌⊎◌}
-pub use Rattle.std.specs.Result.{IfErr, IfOk, OnErr, OnOk, is_ok}
+pub use Rattle.std.specs.Result.{IfErr, OnErr, OnOk, is_ok}
 pub use Rattle.std.specs.Str.{IsAscii, all_scalars, bytes_eq, chars, encode_utf8_all}
 pub use Rattle.sha2.proofs.Facts256.{length-sha256}
 pub use Rattle.lms_leaf.specs.declared.faults.LeafFault.{LeafFault}
@@ -29,7 +29,7 @@ pub use Rattle.sporc_base.specs.Bytes.{IsBytes}
 pub use Rattle.sporc_base.specs.FirstFault.{AnswersUnless, first_of, unless}
 pub use Rattle.sporc_base.specs.Numbers.{up_to}
 pub use Rattle.sporc_memory.specs.MemoryDisk.{MemoryDiskModel, state_after}
-pub use Rattle.sporc_hash.specs.Chain.{chain, commitment_of, commitment_string, last_value}
+pub use Rattle.sporc_hash.specs.Chain.{chain, commitment_of, last_value}
 pub use Rattle.sporc_cipher.specs.Mask.{mask_of}
 pub use Rattle.sporc_delta.proofs.Typing.{inserted, inserted-append, inserted-insert_marks, inserted-insertion, inserted-removal, scalars_append, typed_delta}
 pub use Rattle.sporc_delta.specs.Format.{delta_bytes, part_bytes, parts_bytes}
@@ -73,9 +73,9 @@ pub use Rattle.sporc_client.specs.Answers.{added, change_fault, discard_fault, e
 pub use Rattle.sporc_client.specs.ClientModel.{ClientModel, state_of}
 pub use Rattle.sporc_client.specs.Entries.{Chosen, bytes_made, current_key}
 pub use Rattle.sporc_client.specs.Log.{Accept, Change, Discard, Dropped, Edit, Logged, Submit, entries_by, journal_from, journal_of}
-pub use Rattle.sporc_client.specs.PlainClient.{Opening, PlainClient, committed_of, me_of, opened, shown_after, shown_of}
+pub use Rattle.sporc_client.specs.PlainClient.{Opening, PlainClient, committed_of, line_of, me_of, opened, shown_after, shown_of}
 pub use Rattle.sporc_client.specs.Run.{Give, Happen, IsAt, IsRun, Move, Open, Restart, Restart as GoesBack, Setup, World, after as after_move, after_all, given, opening_of, start}
-pub use Rattle.sporc_client.specs.Step.{accepted, change_comes, edit_comes, form_coming, is_flight, keeps, log_of_entries, own_comes, replay, replay_from, restated, step}
+pub use Rattle.sporc_client.specs.Step.{accepted, change_comes, edit_comes, form_coming, is_flight, keeps, log_of_entries, log_of_first, own_comes, replay, replay_from, restated, step}
 pub use Rattle.sporc_client.specs.Submissions.{Drop, Due, Nothing, Refuse, Sign, Waiting, answered, due, is_signing, signed, submission, submission_added}
 pub use Rattle.sporc_client.specs.Typed.{AreEpochKeys, IsTypedChange, IsTypedEvent, IsTypedMove, IsTypedRun}
 pub use Rattle.sporc_client.specs.declared.fault.SubmitFault.{SubmitFault}
@@ -99,9 +99,9 @@ pub use Rattle.sporc_report.proofs.Parts.{told_in_parts}
 pub use Rattle.sporc_report.specs.ClientLines.{Stands, compare_line, hash_line, members_line, show_line}
 pub use Rattle.sporc_report.specs.Names.{hint_fault_name, open_fault_name, submit_fault_name}
 pub use Rattle.sporc_play.specs.Batches.{AreOpen, HasRoom, IsAsked, Performs}
-pub use Rattle.sporc_play.specs.Cast.{declared_member, device_by, first_ring, founder_by, founder_of, founders_of, genesis_by, genesis_of, has_admin, is_founder, is_pair, member_change, opener_by}
+pub use Rattle.sporc_play.specs.Cast.{declared_member, device_by, first_ring, founder_by, founder_of, founders_of, genesis_by, has_admin, is_founder, is_pair, member_change, opener_by}
 pub use Rattle.sporc_play.specs.Cast.{openers_by, private_of, public_of, rogue_by, setup_of, tree_of, unpaired_by}
-pub use Rattle.sporc_play.specs.Derived.{derived, document_number, first_key, pair_key, random_of}
+pub use Rattle.sporc_play.specs.Derived.{derived, first_key, pair_key, random_of}
 pub use Rattle.sporc_play.specs.Forged.{IsSmallBody, base_by, derived_pairs, device_in, epoch_by, first_flipped, forged_body, forged_change, forged_entry, forged_header, forged_sealing, key_there}
 pub use Rattle.sporc_play.specs.Forged.{kind_of, number_by, sealed_for, signed_by, spoiled, unsigned_by, value_at, version_by, wrap_flipped}
 pub use Rattle.sporc_play.specs.Generated.{batch, batches, edits, generated_cast, generated_commands, generated_edit, generated_scene, gives, inserts, removes, seen_len, submits, summary_line}
@@ -116,7 +116,7 @@ pub use Rattle.sporc_play.specs.Report.{submit_line}
 pub use Rattle.sporc_play.specs.Scene.{Effect, Scene, adds, after, after_each, commands_of, cuts, delta_by, edit_events, edit_size, effect_of, entries_at, entries_in, entry_at, flip_byte, flipped}
 pub use Rattle.sporc_play.specs.Scene.{flips, if_open, joins, leaf_after, leaf_next, marks_of, nothing, opening, opening_moves, openings, opens_unless, opens_with, performed, restarts, scene_at}
 pub use Rattle.sporc_play.specs.Scene.{scene_moved, scene_opened, seen_by, signer_of, signs_by, submission_in, text_size, what_size, with_entry, with_more}
-pub use Rattle.sporc_play.specs.Seats.{AreDrawn, ClientSubmitted, HasSubmitted, IsReady, IsRogueAt, IsSeatAt, IsSubmitted, answer_of, client_logged, client_restarted, last_with, plain_in}
+pub use Rattle.sporc_play.specs.Seats.{AreDrawn, ClientSubmitted, HasSubmitted, IsReady, IsRogueAt, IsSeatAt, IsSubmitted, answer_of, last_with, plain_in}
 pub use Rattle.sporc_play.specs.Seats.{rogue_devices, seat_logged, seat_restarted, seated, submission_line}
 pub use Rattle.sporc_play.specs.Signing.{HasSigned, forged_by, signed_line, signing_line}
 pub use Rattle.sporc_play.specs.Stage.{AppendsLineOf, AreDeclared, AreOfOneDocument, Becomes, CanPerform, HasSameMembers, Holds, IsCast, IsCastOf, IsClientOf, IsReadyRogue, IsReadySeat, IsRogueOf}

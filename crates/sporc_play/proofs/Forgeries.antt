@@ -3,7 +3,7 @@ use Rattle.std.proofs.Common.{◌≡◌, ℕ, ◌+◌, ◌*◌, ◌<◌, ◌≤�
 use Rattle.sporc_play.proofs.Common.{le-leb, Result, Ok, Err, is_none, option_map, length-map, w16, to_be_bytes, AllByRecursion, cons_option, nat_cmp, eq_by_cmp, nat_cmp_total, unsigned_tied, empty}
 use Rattle.sporc_play.proofs.Common.{get, get-insert, length-sha256, LeafFault, LmsPrivate, height_of, mask_of, MAX_MEMBERS, MemberChange, first_device, role_code_of, Roster, after_change}
 use Rattle.sporc_play.proofs.Common.{change_fault_of, numbers_of, ChangeBody, Entry, Genesis, Header, Wrap, change_bytes, wrap_bytes, entry_bytes, signed_string, IsGenesis, fits_version}
-use Rattle.sporc_play.proofs.Common.{Keys, previous_stream, stream_of, count_of, epoch_of, hash_of, roster_of, Good, Kit, PlainClient, Setup, Forgery, Suffix, pair_key, random_of}
+use Rattle.sporc_play.proofs.Common.{Keys, previous_stream, count_of, epoch_of, hash_of, roster_of, Good, Kit, PlainClient, Setup, Forgery, Suffix, pair_key, random_of}
 use Rattle.sporc_play.proofs.Common.{IsSmallBody, base_by, derived_pairs, device_in, epoch_by, first_flipped, forged_body, forged_change, forged_header, forged_sealing, key_there, kind_of, number_by}
 use Rattle.sporc_play.proofs.Common.{sealed_for, spoiled, unsigned_by, value_at, version_by, wrap_flipped, leaf_after, IsTrue, AreDrawn}
 use Rattle.std.proofs.lemmas.List.Concat.{flat_map-cons}
@@ -203,13 +203,11 @@ few_sealed g kit entries change is good = go (change_fault_of (roster_of g entri
 
 -- ---- what is sealed, as its parts are found
 
-pub forged_same : (c : PlainClient) (h : Header) (change : MemberChange) (members document old new : List ℕ) (stream epoch : ℕ) (pairs : Keys) (body : ChangeBody)
-    → members ≡ sealed_for (roster_of c.opening.genesis c.entries) change → document ≡ c.opening.genesis.document → stream ≡ stream_of h → epoch ≡ epoch_of c.entries → old ≡ key_there c → pairs ≡ derived_pairs h.author members
-    → change_sealed (record { change = change; members = members; document = document; author = h.author; stream = stream; epoch = epoch; old = old; new = new }) pairs ≡ Ok body → body ≡ forged_change c h change new
-forged_same c h change members document old new stream epoch pairs body m d t e o p is =
-    let s : Sealing = record { change = change; members = members; document = document; author = h.author; stream = stream; epoch = epoch; old = old; new = new } in
-    let same : s ≡ forged_sealing c h change new = rw (m, d, t, e, o) refl in
-    sealed_same s (forged_sealing c h change new) pairs (derived_pairs h.author (sealed_for (roster_of c.opening.genesis c.entries) change)) body is same (p ∙ ap (derived_pairs h.author) m)
+pub forged_same : (c : PlainClient) (h : Header) (change : MemberChange) (new : List ℕ) (s : Sealing) (pairs : Keys) (body : ChangeBody) → s ≡ forged_sealing c h change new → pairs ≡ derived_pairs h.author s.members
+    → change_sealed s pairs ≡ Ok body → body ≡ forged_change c h change new
+forged_same c h change new s pairs body same p is =
+    sealed_same s (forged_sealing c h change new) pairs (derived_pairs h.author (sealed_for (roster_of c.opening.genesis c.entries) change)) body is same
+    (p ∙ ap (λ (s : Sealing). derived_pairs h.author s.members) same)
 
 pub forged_paired : (s : Sealing) (pairs : Keys) (author member : ℕ) → pairs ≡ derived_pairs author s.members → change_sealed s pairs ≡ Err (NoPairKey member) → ⊥
 forged_paired s pairs author member p is = all_paired s pairs (derived_pairs author s.members) s.members member refl p (none_unpaired author s.members) is

@@ -2,7 +2,7 @@
 use Rattle.std.proofs.Common.{◌≡◌, ℕ, zero, suc, Bool, true, false, cond, List, [], ◌∷◌, ◌++◌, length, map, take, refl, sym, subst, Option, None, Some, Result, Ok, Err, IfSome}
 use Rattle.sporc_play.proofs.Common.{◌==◌, flat_map, is_some, option_and_then, slice_get, unwrap_or, get, w16, w32, to_be_bytes, AllByRecursion, cons_option, eqb-true, IsBytes, MemberChange, Add}
 use Rattle.sporc_play.proofs.Common.{Remove, SetRole, AddDevice, DropDevice, Upgrade, role_code_of, ChangeBody, Entry, Genesis, Header, Wrap, change_bytes, wrap_bytes, Keys, stream_of}
-use Rattle.sporc_play.proofs.Common.{CommittedChange, change_read, changes, committed_by, epoch_of, Kit, current_key, PlainClient, mask_of}
+use Rattle.sporc_play.proofs.Common.{CommittedChange, change_read, changes, committed_by, epoch_of, Kit, current_key, PlainClient, mask_of, line_of}
 use Rattle.sporc_member.specs.Roster.{member_at, removes, roster_after}
 use Rattle.sporc_entry.specs.ChangeBody.{change_body_bytes}
 use Rattle.sporc_entry.specs.Entry.{IsEntry, change_of, entry_bytes, entry_of, header_bytes}
@@ -145,7 +145,7 @@ key_bytes g kit cs (suc e) ring all = go (slice_get cs e) (typed_at IsByteCommit
 pub epoch_bytes : (c : PlainClient) → AreByteKeys c.opening.kit.ring → AllByRecursion IsBytes c.entries → IfSome (key_after c.opening.genesis c.opening.kit (changes c.entries) (epoch_of c.entries)) AreBytes
 epoch_bytes c ring all = key_bytes c.opening.genesis c.opening.kit (changes c.entries) (epoch_of c.entries) ring (changes_bytes c.entries all)
 
-pub current_bytes : (c : PlainClient) → AreByteKeys c.opening.kit.ring → AllByRecursion IsBytes c.entries → AreBytes (current_key c)
+pub current_bytes : (c : PlainClient) → AreByteKeys c.opening.kit.ring → AllByRecursion IsBytes c.entries → AreBytes (current_key (line_of c))
 current_bytes c ring all = go (key_after c.opening.genesis c.opening.kit (changes c.entries) (epoch_of c.entries)) (epoch_bytes c ring all)
   where
     go : (o : Option (List ℕ)) → IfSome o AreBytes → AreBytes (unwrap_or o [])

@@ -2,7 +2,7 @@
 use Rattle.std.proofs.Common.{ℕ, ◌+◌, ◌<◌, Bool, List, [], ◌∷◌, ◌++◌, length, arith, Option, None, Some}
 use Rattle.sporc_play.proofs.Common.{flat_map, option_map, get, w16, to_be_bytes, AllByRecursion, cons_option, mask_of, delta_bytes, last_value, MemberChange, Add, Remove, SetRole, AddDevice}
 use Rattle.sporc_play.proofs.Common.{DropDevice, Upgrade, role_code_of, ChangeBody, Wrap, change_bytes, wrap_bytes, signed_string, genesis_bytes, version_of, Keys, entry_stream, previous_stream}
-use Rattle.sporc_play.proofs.Common.{roster_of, Pending, Chosen, bytes_made, current_key, PlainClient, me_of}
+use Rattle.sporc_play.proofs.Common.{roster_of, Pending, Chosen, bytes_made, current_key, PlainClient, me_of, line_of}
 use Rattle.sporc_hash.specs.Chain.{genesis_value, next_value, value_after}
 use Rattle.sporc_member.specs.declared.role.Role.{Role}
 use Rattle.sporc_entry.specs.ChangeBody.{change_body_bytes}
@@ -89,22 +89,22 @@ abbrev pub IsWritten : Pending → Type 0
 IsWritten (items.Edit marks) = HasScalars marks
 IsWritten (items.Change change) = IsByteChange change
 
-body_are : (c : PlainClient) (chosen : Chosen) (item : Pending) → IsWritten item → AreBytes chosen.new_key → AreBytes (current_key c) → AreBytes (body_of c chosen item)
+body_are : (c : PlainClient) (chosen : Chosen) (item : Pending) → IsWritten item → AreBytes chosen.new_key → AreBytes (current_key (line_of c)) → AreBytes (body_of (line_of c) chosen.leaf chosen.new_key item)
 unfolding body_sealed
-body_are c chosen (items.Edit marks) is new old = bytes_mask (current_key c) (entry_stream (me_of c) chosen.leaf) (delta_bytes marks) (delta_are marks is)
+body_are c chosen (items.Edit marks) is new old = bytes_mask (current_key (line_of c)) (entry_stream (me_of c) chosen.leaf) (delta_bytes marks) (delta_are marks is)
 body_are c chosen (items.Change change) is new old =
-    let sealing = sealing_of c chosen change in
+    let sealing = sealing_of (line_of c) chosen.leaf chosen.new_key change in
     bytes_body (body_sealed sealing c.opening.kit.pairs) (record {
       change = is;
       commitment = bytes_sha _;
-      previous = bytes_mask chosen.new_key (previous_stream (sealing.epoch + 1)) (current_key c) old;
+      previous = bytes_mask chosen.new_key (previous_stream (sealing.epoch + 1)) (current_key (line_of c)) old;
       wraps = sealed_are sealing.stream chosen.new_key c.opening.kit.pairs sealing.members new;
     })
 
 version_fits : (upgraded : Bool) → version_of upgraded < 256
 version_fits upgraded = grind arith
 
-pub made_are : (c : PlainClient) (chosen : Chosen) (item : Pending) → IsWritten item → (me_of c).number < 256 → AreBytes c.opening.genesis.document → AreBytes chosen.randomizer → AreBytes chosen.new_key → AreBytes (current_key c) → AreBytes (bytes_made c chosen item)
+pub made_are : (c : PlainClient) (chosen : Chosen) (item : Pending) → IsWritten item → (me_of c).number < 256 → AreBytes c.opening.genesis.document → AreBytes chosen.randomizer → AreBytes chosen.new_key → AreBytes (current_key (line_of c)) → AreBytes (bytes_made c chosen item)
 unfolding entry_made
 made_are c chosen item is device document randomizer new old =
     bytes_entry (entry_made c chosen item)
@@ -116,7 +116,7 @@ made_are c chosen item is device document randomizer new old =
       kind = kind_fits item;
     })
     (body_are c chosen item is new old)
-    (bytes_signature c.opening.key chosen.leaf chosen.randomizer (signed_string (unsigned_entry c chosen item)) randomizer)
+    (bytes_signature c.opening.key chosen.leaf chosen.randomizer (signed_string (unsigned_entry (line_of c) chosen.leaf chosen.new_key item)) randomizer)
 
 -- the first of pending items is written by its bytes
 pub first_written : (item : Pending) (items : List Pending) → AreTypedItems (item ∷ items) → AllByRecursion IsByteItem (item ∷ items) → IsWritten item

@@ -123,7 +123,6 @@ forged_sealing c h change new = record {
   change = change;
   members = sealed_for (roster_of c.opening.genesis c.entries) change;
   document = c.opening.genesis.document;
-  author = h.author;
   stream = stream_of h;
   epoch = epoch_of c.entries;
   old = key_there c;

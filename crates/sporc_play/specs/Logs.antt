@@ -1,5 +1,5 @@
 -- The logs of the clients of a play.
-use Rattle.std.specs.Prelude.{ℕ, nat_le, List, [], ◌∷◌, ◌++◌, length, take, Bool, true, Option}
+use Rattle.std.specs.Prelude.{ℕ, nat_le, List, [], ◌∷◌, ◌++◌, length, Bool, true, Option}
 use Rattle.std.specs.Prelude.{None, Some, if◌then◌else◌}
 use Rattle.sporc_member.specs.declared.change.Change.{Change as MemberChange}
 use Rattle.sporc_member.specs.declared.device.Device.{Device}
@@ -11,7 +11,7 @@ use Rattle.sporc_client.specs.Answers.{refusal_of}
 use Rattle.sporc_client.specs.Log.{Logged, Accept, Change, Discard, Edit}
 use Rattle.sporc_client.specs.PlainClient.{PlainClient}
 use Rattle.sporc_client.specs.Run.{Setup, World, Move, Open, Happen, Give, Restart, after}
-use Rattle.sporc_client.specs.Step.{log_of_entries}
+use Rattle.sporc_client.specs.Step.{log_of_first}
 
 -- whose client a move is of
 abbrev pub mover_of : Move → Device
@@ -58,12 +58,12 @@ events_by events (Some c) = events c
 
 abbrev pub first_accepts : Option PlainClient → ℕ → List Logged
 first_accepts None k = []
-first_accepts (Some c) k = log_of_entries (take k c.entries)
+first_accepts (Some c) k = log_of_first k c
 
 -- the log of a client that is to go back to its first k entries, if it has so many
 abbrev pub restarted_log : List Logged → ℕ → PlainClient → List Logged
 restarted_log log k c =
-    if nat_le k (length c.entries) then log_of_entries (take k c.entries) else log
+    if nat_le k (length c.entries) then log_of_first k c else log
 
 -- the log of a move's client after it
 abbrev pub log_after : World → List Logged → Move → List Logged

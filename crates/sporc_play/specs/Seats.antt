@@ -8,7 +8,7 @@ use Rattle.lms_tree.specs.LmsType.{height_of}
 use Rattle.sporc_member.specs.declared.device.Device.{Device}
 use Rattle.sporc_client.specs.declared.fault.SubmitFault.{SubmitFault}
 use Rattle.sporc_client.specs.declared.submitted.Submitted.{Submitted}
-use Rattle.sporc_client.specs.ClientModel.{ClientModel, state_of}
+use Rattle.sporc_client.specs.ClientModel.{ClientModel, state_of, with_events}
 use Rattle.sporc_client.specs.Log.{Logged}
 use Rattle.sporc_client.specs.PlainClient.{PlainClient}
 use Rattle.sporc_client.specs.Submissions.{submission, submission_added}
@@ -63,7 +63,7 @@ pub record IsReady {D : Type 0} (private : LmsPrivate) (drawn : ℕ)
 -- a client whose log has the events of a call behind it
 abbrev pub client_logged : {D : Type 0} → (PlainClient → List Logged) → ClientModel D
     → ClientModel D
-client_logged events c = record c { log = c.log ++ events (state_of c) }
+client_logged events c = with_events c (events (state_of c))
 
 abbrev pub seat_logged : (PlainClient → List Logged) → Seat → Seat
 seat_logged events seat = record seat { client = option_map (client_logged events) seat.client }

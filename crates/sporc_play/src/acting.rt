@@ -1,6 +1,6 @@
 //! Commands that act on the client of a device, and the lines that tell their answers.
 
-ghost use Rattle.std.specs.Prelude.{◌≡◌, ◌≢◌, ℕ, ◌+◌, ◌<◌, ◌≤◌, ◌^◌, ◌++◌, codes, length, take};
+ghost use Rattle.std.specs.Prelude.{◌≡◌, ◌≢◌, ℕ, ◌+◌, ◌<◌, ◌≤◌, ◌^◌, ◌++◌, codes, length};
 ghost use Rattle.std.specs.Prelude.{Some, true, false, Ok, Err, Option, OnOk, OnErr, IfOk, IfErr};
 ghost use Rattle.std.specs.Prelude.{IfSome, option_map, string_bytes};
 ghost use Rattle.std.specs.Option.{option_copied, option_to_list};
@@ -11,7 +11,7 @@ ghost use Rattle.sporc_delta.specs.declared.limits.TheConstants.{MAX_COUNT};
 ghost use Rattle.sporc_client.specs.Answers.{restart_fault};
 ghost use Rattle.sporc_client.specs.ClientModel.{state_of};
 ghost use Rattle.sporc_client.specs.PlainClient.{shown_after};
-ghost use Rattle.sporc_client.specs.Step.{log_of_entries};
+ghost use Rattle.sporc_client.specs.Step.{log_of_first};
 ghost use Rattle.sporc_client.specs.Submissions.{submission};
 ghost use Rattle.sporc_script.specs.Spelling.{device_text};
 ghost use Rattle.sporc_play.specs.Logs.{change_events, discard_events, edit_logged, given_by};
@@ -442,7 +442,7 @@ fn restart_to(client: &mut PlayClient, k: u64) -> Result<(), RestartFault>
     ensures fault { AnswersUnless RestartFault.Memory result
         (restart_fault (state_of client.old) k) }
     ensures ok { OnOk result (client.new
-        ≡ record client.old { log = log_of_entries (take k (state_of client.old).entries) }) }
+        ≡ record client.old { log = log_of_first k (state_of client.old) }) }
     ensures err { OnErr result (client.new ≡ client.old) }
 {
     match u32::try_from(k) {

@@ -40,7 +40,7 @@ use sporc_entry::{
     CHANGE, ChangeBody, DEVICES_VERSION, EDIT, Entry, Header, Wrap, Wraps, signed_part, version_of,
     write_change, write_entry,
 };
-use sporc_epoch::{Pairs, SealFault, seal_change_at, stream_of};
+use sporc_epoch::{Pairs, SealFault, Sealing, seal_change_at, stream_of};
 use sporc_member::{Change, Device, FIRST_DEVICE};
 use sporc_memory::MemoryDisk;
 use sporc_script::{Forgery, Insertion, Suffix, What};
@@ -369,18 +369,16 @@ fn sealed(
     let _count = heads.len();
     let members = sealed_for(alloc, client, change)?;
     let pairs = pairs_with(alloc, header.author, members.as_slice())?;
-    match seal_change_at(
-        alloc,
+    let sealing = Sealing {
         change,
-        members.as_slice(),
-        &heads.genesis().document,
-        header.author,
-        stream_of(header),
-        heads.epoch(),
-        old_key,
-        new_key,
-        &pairs,
-    ) {
+        members: members.as_slice(),
+        document: &heads.genesis().document,
+        stream: stream_of(header),
+        epoch: heads.epoch(),
+        old: old_key,
+        new: new_key,
+    };
+    match seal_change_at(alloc, &sealing, &pairs) {
         Ok(body) => Ok(body),
         Err(SealFault::Memory) => Err(AllocError),
         Err(SealFault::NoPairKey(_)) => unreachable!(),

@@ -1,45 +1,41 @@
 -- Records of a tail, taken one after another as a loop does.
 use Rattle.std.proofs.Common.{◌≡◌, ℕ, suc, ◌+◌, ◌-◌, ◌<◌, ◌≤◌, List, [], ◌++◌, length, take, drop, Bool, true, false, cond, ltb, leb, Result, Ok, Err, refl, sym, ap, ◌∙◌, subst, arith, append-nil}
-use Rattle.sporc_store.proofs.Common.{le-leb, ltb-false, length-drop, take_all, w32, from_be_bytes, Reading, bind_ok, ok_is, TailFault, TAIL_HEAD_LEN, GoesOn, TailTaken, behind_head, behind_taken}
+use Rattle.sporc_store.proofs.Common.{le-leb, ltb-false, length-drop, take_all, w32, from_be_bytes, Reading, bind_ok, ok_is, TailFault, TAIL_HEAD_LEN, GoesOn, TailTaken, behind_head, taken_from}
 use Rattle.sporc_store.proofs.Common.{records_of, taken_to}
 use Rattle.sporc_bytes.specs.Fields.{bytes_at, number_at, past}
 use Rattle.sporc_store.specs.TailBytes.{records_behind}
-
--- what is taken in all: these entries, and what stands in the records behind
-abbrev pub taken_from : List (List ℕ) → ℕ → List (List ℕ) → ℕ → Reading → Result TailTaken TailFault
-taken_from front n ahead position r = behind_taken front (records_behind n ahead position r)
 
 -- ---- the loop
 
 -- so many are left before a step
 pub one_left : (front ahead : List (List ℕ)) (count i first position : ℕ) (r : Reading) (total : Result TailTaken TailFault) → i < count → position ≡ first + i
-    → taken_from front (count - i) ahead (first + i) r ≡ total → taken_from front (suc (count - (i + 1))) ahead position r ≡ total
+    → taken_from front ahead (first + i) r (count - i) ≡ total → taken_from front ahead position r (suc (count - (i + 1))) ≡ total
 one_left front ahead count i first position r total lt at so_far =
     let left : suc (count - (i + 1)) ≡ count - i = omega arith in
-    (λ j. taken_from front (left j) ahead (at j) r) ∙ so_far
+    (λ j. taken_from front ahead (at j) r (left j)) ∙ so_far
 
 -- and one fewer behind it
 pub goes_on : (front more ahead later : List (List ℕ)) (count i first position : ℕ) (r after : Reading) (taken : TailTaken) (goes : Bool) (total : Result TailTaken TailFault)
-    → i < count → position ≡ first + i → taken_from front (count - i) ahead (first + i) r ≡ total → goes ≡ true
-    → GoesOn (taken_from front (suc (count - (i + 1))) ahead position r) (taken_from more (count - (i + 1)) later (position + 1) after) taken (Ok goes)
-    → taken_from more (count - (i + 1)) later (first + (i + 1)) after ≡ total
+    → i < count → position ≡ first + i → taken_from front ahead (first + i) r (count - i) ≡ total → goes ≡ true
+    → GoesOn (taken_from front ahead position r (suc (count - (i + 1)))) (taken_from more later (position + 1) after (count - (i + 1))) taken (Ok goes)
+    → taken_from more later (first + (i + 1)) after (count - (i + 1)) ≡ total
 goes_on front more ahead later count i first position r after taken true total lt at so_far is step =
     let next : first + (i + 1) ≡ position + 1 = omega (arith, at) in
-    ap (λ (n : ℕ). taken_from more (count - (i + 1)) later n after) next ∙ sym step ∙ one_left front ahead count i first position r total lt at so_far
+    ap (λ (n : ℕ). taken_from more later n after (count - (i + 1))) next ∙ sym step ∙ one_left front ahead count i first position r total lt at so_far
 goes_on front more ahead later count i first position r after taken false total lt at so_far is step = absurd cc
 
 pub stops : (front ahead : List (List ℕ)) (count i first position : ℕ) (r : Reading) (after : Result TailTaken TailFault) (taken : TailTaken) (goes : Bool) (total : Result TailTaken TailFault)
-    → i < count → position ≡ first + i → taken_from front (count - i) ahead (first + i) r ≡ total → goes ≡ false
-    → GoesOn (taken_from front (suc (count - (i + 1))) ahead position r) after taken (Ok goes) → total ≡ Ok taken
+    → i < count → position ≡ first + i → taken_from front ahead (first + i) r (count - i) ≡ total → goes ≡ false
+    → GoesOn (taken_from front ahead position r (suc (count - (i + 1)))) after taken (Ok goes) → total ≡ Ok taken
 stops front ahead count i first position r after taken true total lt at so_far is step = absurd cc
 stops front ahead count i first position r after taken false total lt at so_far is step = sym (one_left front ahead count i first position r total lt at so_far) ∙ step
 
 pub ends : (front ahead : List (List ℕ)) (count i position : ℕ) (r : Reading) (whole : ℕ) (total : Result TailTaken TailFault) → count ≤ i → whole ≡ r.at
-    → taken_from front (count - i) ahead position r ≡ total → total ≡ Ok (taken_to front whole)
+    → taken_from front ahead position r (count - i) ≡ total → total ≡ Ok (taken_to front whole)
 unfolding records_behind
 ends front ahead count i position r whole total le at so_far =
     let left : count - i ≡ 0 = omega arith in
-    let none : taken_from front (count - i) ahead position r ≡ Ok (taken_to (front ++ []) r.at) = rw left refl in
+    let none : taken_from front ahead position r (count - i) ≡ Ok (taken_to (front ++ []) r.at) = rw left refl in
     sym so_far ∙ none ∙ (λ j. Ok (taken_to (append-nil front j) (sym at j)))
 
 -- ---- the first position

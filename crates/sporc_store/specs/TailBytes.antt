@@ -95,6 +95,11 @@ abbrev pub behind_taken : List (List ℕ) → Result TailTaken TailFault → Res
 behind_taken entries (Ok others) = Ok (taken_to (entries ++ others.entries) others.whole)
 behind_taken entries (Err fault) = Err fault
 
+-- what is taken in all, of at most so many records: these entries, and what is taken behind them
+abbrev pub taken_from : List (List ℕ) → List (List ℕ) → ℕ → Reading → ℕ → Result TailTaken TailFault
+taken_from entries ahead position r n =
+    behind_taken entries (records_behind n ahead position r)
+
 -- a tail that is read so is malformed at a place, or memory ran out
 abbrev pub IsUnread : Result TailTaken TailFault → TailFault → Type 0
 IsUnread tail (Malformed at) = tail ≡ Err (Malformed at)
@@ -108,6 +113,12 @@ abbrev pub GoesOn : Result TailTaken TailFault → Result TailTaken TailFault �
 GoesOn before after taken (Ok true) = before ≡ after
 GoesOn before after taken (Ok false) = before ≡ Ok taken
 GoesOn before after taken (Err fault) = IsUnread before fault
+
+-- so for any number of records, of which there is one fewer behind it
+abbrev pub TakesOne : (ℕ → Result TailTaken TailFault) → (ℕ → Result TailTaken TailFault)
+    → TailTaken → Result Bool TailFault → Type 0
+TakesOne before after taken result =
+    (n : ℕ) → GoesOn (before (suc n)) (after n) taken result
 
 -- the records behind a head, of which there are fewer than bytes: the first of them has a position
 -- of the log, or the one behind it

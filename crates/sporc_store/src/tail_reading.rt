@@ -1,15 +1,15 @@
 //! The tail of a log that is read, unchecked.
 
-ghost use Rattle.std.specs.Prelude.{◌≡◌, ◌+◌, ◌≤◌, ℕ, suc, length, map, Ok, Err, IfOk, IfErr, OnOk};
+ghost use Rattle.std.specs.Prelude.{◌≡◌, ◌+◌, ◌≤◌, length, map, Ok, Err, IfOk, IfErr, OnOk};
 ghost use Rattle.std.specs.Prelude.{IsTrue};
 ghost use Rattle.std.specs.Int.{w32};
 ghost use Rattle.sporc_bytes.specs.Fields.{number_at};
 ghost use Rattle.sporc_head.specs.declared.limits.TheConstants.{MAX_ENTRIES};
 ghost use Rattle.sporc_outside.specs.declared.file_fault.TheConstants.{MAX_FILE};
 ghost use Rattle.sporc_store.specs.declared.tail_head.TheConstants.{TAIL_HEAD_LEN};
-ghost use Rattle.sporc_store.specs.TailBytes.{GoesOn, IsUnread, behind_head, behind_taken};
+ghost use Rattle.sporc_store.specs.TailBytes.{IsUnread, TakesOne, behind_head};
 ghost use Rattle.sporc_store.specs.TailBytes.{record_at, records_behind, records_of, tail_behind};
-ghost use Rattle.sporc_store.specs.TailBytes.{taken_to};
+ghost use Rattle.sporc_store.specs.TailBytes.{taken_from, taken_to};
 
 use crate::saved_entry::SavedEntry;
 use crate::tail_fault::TailFault;
@@ -146,11 +146,9 @@ fn take_record<'a, 'b>(
     cursor: &mut Cursor<'a>,
 ) -> Result<bool, TailFault>
     requires whole { tail.old.whole ≡ cursor.old.at }
-    ensures goes { (n : ℕ) → GoesOn (behind_taken tail.old.entries.items
-        (records_behind (suc n) (map (λ e. e.items) ahead.old.now) position cursor.old))
-        (behind_taken tail.new.entries.items
-        (records_behind n (map (λ e. e.items) ahead.new.now) (position + 1) cursor.new))
-        (taken_to tail.new.entries.items tail.new.whole) result }
+    ensures goes { TakesOne (taken_from tail.old.entries.items (map (λ e. e.items) ahead.old.now)
+        position cursor.old) (taken_from tail.new.entries.items (map (λ e. e.items) ahead.new.now)
+        (position + 1) cursor.new) (taken_to tail.new.entries.items tail.new.whole) result }
     ensures whole { IfOk result (λ goes. IsTrue goes → tail.new.whole ≡ cursor.new.at) }
     ensures end { IfOk result (λ goes. IsTrue goes
         → cursor.new.at + length cursor.new.rest ≡ cursor.old.at + length cursor.old.rest) }

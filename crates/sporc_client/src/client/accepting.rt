@@ -1,6 +1,6 @@
 //! Entries that come.
 
-ghost use Rattle.std.specs.Prelude.{◌≡◌, ◌<◌, ◌≤◌, ◌++◌, length, nat_lt, IfOk, IfSome, OnOk, OnErr};
+ghost use Rattle.std.specs.Prelude.{◌≡◌, ◌<◌, ◌≤◌, length, nat_lt, IfOk, IfSome, OnOk, OnErr};
 ghost use Rattle.sporc_base.specs.FirstFault.{AnswersUnless};
 ghost use Rattle.sporc_suffix.specs.Runs.{IsReadyAt};
 ghost use Rattle.sporc_head.specs.Examined.{IsExact};
@@ -8,7 +8,7 @@ ghost use Rattle.sporc_line.specs.LineChecks.{first_fault};
 ghost use Rattle.sporc_line.specs.Prepared.{IsPrepared};
 ghost use Rattle.sporc_client.specs.declared.limits.TheConstants.{MAX_EVENTS};
 ghost use Rattle.sporc_client.specs.Answers.{accept_fault, added, or_full};
-ghost use Rattle.sporc_client.specs.ClientModel.{state_of};
+ghost use Rattle.sporc_client.specs.ClientModel.{state_of, with_events};
 ghost use Rattle.sporc_client.specs.Log.{Accept as Accepted};
 ghost use Rattle.sporc_client.specs.Coming.{CanCome, effect};
 ghost use Rattle.sporc_client.specs.Taking.{CanSettle, Takes, coming_at, form_at};
@@ -39,8 +39,7 @@ impl<D: LeafDisk> Client<D> {
         ensures fault { AnswersUnless AcceptFault.Memory result
             (accept_fault (state_of self.old) pos bytes.now) }
         ensures ok { IfOk result (λ n. n ≡ length self.new.log) }
-        ensures log { self.new
-            ≡ record self.old { log = self.old.log ++ added result (Accepted by bytes.now) } }
+        ensures log { self.new ≡ with_events self.old (added result (Accepted by bytes.now)) }
     {
         self.accept_known(by, pos, bytes, None)
     }
@@ -56,10 +55,8 @@ impl<D: LeafDisk> Client<D> {
         ensures fault { AnswersUnless AcceptFault.Memory result
             (accept_fault (state_of self.old) pos examined.now.entry) }
         ensures ok { IfOk result (λ n. n ≡ length self.new.log) }
-        ensures log { self.new ≡ record self.old {
-          log = self.old.log
-              ++ added result (Accepted by examined.now.entry);
-        } }
+        ensures log { self.new
+            ≡ with_events self.old (added result (Accepted by examined.now.entry)) }
     {
         self.accept_known(by, pos, examined.entry(), Some(examined.known()))
     }
@@ -76,8 +73,7 @@ impl<D: LeafDisk> Client<D> {
         ensures fault { AnswersUnless AcceptFault.Memory result
             (accept_fault (state_of self.old) pos bytes.now) }
         ensures ok { IfOk result (λ n. n ≡ length self.new.log) }
-        ensures log { self.new
-            ≡ record self.old { log = self.old.log ++ added result (Accepted by bytes.now) } }
+        ensures log { self.new ≡ with_events self.old (added result (Accepted by bytes.now)) }
     {
         let prepared = check_entry(&mut self.line, &self.own, pos, bytes, known)?;
         take_entry(

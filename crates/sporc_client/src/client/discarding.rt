@@ -1,10 +1,10 @@
 //! Giving up what is pending.
 
-ghost use Rattle.std.specs.Prelude.{◌≡◌, ◌++◌, length, nat_lt, IfOk};
+ghost use Rattle.std.specs.Prelude.{◌≡◌, length, nat_lt, IfOk};
 ghost use Rattle.sporc_base.specs.FirstFault.{Answers, AnswersUnless, unless};
 ghost use Rattle.sporc_client.specs.declared.limits.TheConstants.{MAX_EVENTS};
 ghost use Rattle.sporc_client.specs.Answers.{added, discard_fault};
-ghost use Rattle.sporc_client.specs.ClientModel.{state_of};
+ghost use Rattle.sporc_client.specs.ClientModel.{state_of, with_events};
 ghost use Rattle.sporc_client.specs.Log.{Discard as Discarded};
 
 use super::Client;
@@ -21,8 +21,7 @@ impl<D: LeafDisk> Client<D> {
     pub fn discard(&mut self, by: u32) -> Result<u64, EditFault>
         ensures fault { AnswersUnless EditFault.Memory result (discard_fault (state_of self.old)) }
         ensures ok { IfOk result (λ n. n ≡ length self.new.log) }
-        ensures log { self.new
-            ≡ record self.old { log = self.old.log ++ added result (Discarded by) } }
+        ensures log { self.new ≡ with_events self.old (added result (Discarded by)) }
     {
         check_events(&self.own)?;
         let text = self.line.text()?;

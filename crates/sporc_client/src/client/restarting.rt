@@ -10,7 +10,7 @@ ghost use Rattle.sporc_line.specs.LineChecks.{first_fault};
 ghost use Rattle.sporc_client.specs.Answers.{restart_fault};
 ghost use Rattle.sporc_client.specs.ClientModel.{begun, state_of};
 ghost use Rattle.sporc_client.specs.Log.{journal_of};
-ghost use Rattle.sporc_client.specs.Step.{log_of_entries};
+ghost use Rattle.sporc_client.specs.Step.{log_of_entries, log_of_first};
 
 use super::Client;
 use crate::event::Event;
@@ -57,7 +57,7 @@ impl<D: LeafDisk> Client<D> {
         ensures fault { AnswersUnless RestartFault.Memory result
             (restart_fault (state_of self.old) k) }
         ensures ok { OnOk result (self.new
-            ≡ record self.old { log = log_of_entries (take k (state_of self.old).entries) }) }
+            ≡ record self.old { log = log_of_first k (state_of self.old) }) }
         ensures unchanged { OnErr result (self.new ≡ self.old) }
     {
         let len = self.line.len();

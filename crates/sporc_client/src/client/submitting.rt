@@ -1,8 +1,8 @@
 //! Submissions.
 
-ghost use Rattle.std.specs.Prelude.{◌≡◌, ℕ, ◌⊎◌, ◌++◌, true, false, None, Some, Err, IfErr, IfOk};
+ghost use Rattle.std.specs.Prelude.{◌≡◌, ℕ, ◌⊎◌, true, false, None, Some, Err, IfErr, IfOk};
 ghost use Rattle.sporc_base.specs.Outcome.{GivesUnless};
-ghost use Rattle.sporc_client.specs.ClientModel.{state_of};
+ghost use Rattle.sporc_client.specs.ClientModel.{state_of, with_events};
 ghost use Rattle.sporc_client.specs.Drawing.{IsDraw, MayDraw, asks_draw, leaf_for, submitted_with};
 ghost use Rattle.sporc_client.specs.LeafUses.{IsUse, leaf_given, supply_of};
 ghost use Rattle.sporc_client.specs.Submissions.{Drop, due, is_signing, submission};
@@ -59,8 +59,7 @@ impl<D: LeafDisk> Client<D> {
         requires { due (state_of self.old) ≡ Drop fault }
         ensures ok { IfOk result (λ s. s ≡ Submitted.Dropped fault) }
         ensures err { IfErr result (λ e. e ≡ SubmitFault.Memory) }
-        ensures log { self.new
-            ≡ record self.old { log = self.old.log ++ submission_added by result } }
+        ensures log { self.new ≡ with_events self.old (submission_added by result) }
     {
         let ready = ready_keep(self.alloc, &mut self.own)?;
         self.own.record_drop(Event::Dropped { by, fault }, ready);

@@ -5,6 +5,6 @@ use Rattle.sporc_client.proofs.laws.leaves_sign_once.Goals as goal
 
 pub returns : goal.returns
 returns c = record {
-  once = λ first end log x y leaf rise at at'. rise_once first end (leaves_of log) x y leaf rise at at';
+  once = λ first end log rise. rise_once first end (leaves_of log) rise;
   streams = λ author leaf other same. omega (arith, same);
 }

@@ -1,17 +1,15 @@
 //! What is due at a submission.
 
-ghost use Rattle.std.specs.Prelude.{◌≡◌, length, nat_le};
+ghost use Rattle.std.specs.Prelude.{◌≡◌, [], ◌∷◌, length, nat_le};
 ghost use Rattle.lms_tree.specs.LmsPrivate.{LmsPrivate};
 ghost use Rattle.sporc_base.specs.FirstFault.{Answers, first_of, unless};
 ghost use Rattle.sporc_base.specs.Outcome.{GivesUnless};
 ghost use Rattle.sporc_delta.specs.Format.{delta_bytes};
-ghost use Rattle.sporc_member.specs.Roster.{change_fault_of};
-ghost use Rattle.sporc_head.specs.History.{roster_of};
 ghost use Rattle.sporc_client.specs.ClientInvariant.{plain_of};
 ghost use Rattle.sporc_client.specs.Entries.{kind_of};
-ghost use Rattle.sporc_client.specs.Submissions.{change_due, due, item_due, or_due, step_of};
+ghost use Rattle.sporc_client.specs.Submissions.{due, first_due, item_due, step_of};
 ghost use Rattle.sporc_client.specs.Submissions.{submit_checks};
-ghost use Rattle.sporc_client.specs.Workspace.{WorkspaceModel};
+ghost use Rattle.sporc_client.specs.declared.pending.Pending.TheVariants as items;
 
 use crate::client::has_right;
 use crate::fault::SubmitFault;
@@ -55,8 +53,7 @@ pub(crate) fn find_due(line: &Line, own: &Workspace) -> Result<Due, SubmitFault>
 // What is due of the first pending item.
 fn find_due_first(line: &Line, own: &Workspace, item: &Pending) -> Result<Due, SubmitFault>
     ensures value { (key : LmsPrivate) → GivesUnless SubmitFault.Memory (λ d. d) result
-        (step_of (or_due (first_of (submit_checks (plain_of key line.now own.now) item.now))
-        (item_due (plain_of key line.now own.now) item.now))) }
+        (step_of (first_due (plain_of key line.now own.now) (item.now ∷ []))) }
 {
     check_submission(line, own, item)?;
     match item {
@@ -113,9 +110,8 @@ fn check_length(delta: &Delta) -> Result<(), SubmitFault>
 // What is due of a change at the head: it is taken off if the members refuse it, and needs a
 // pairwise key with each member after it.
 fn find_due_change(line: &Line, change: &Change) -> Result<Due, SubmitFault>
-    ensures value { (key : LmsPrivate) (own : WorkspaceModel) → GivesUnless SubmitFault.Memory
-        (λ d. d) result (step_of (change_due (plain_of key line.now own) change.now
-        (change_fault_of (roster_of line.now.genesis line.now.entries) change.now))) }
+    ensures value { GivesUnless SubmitFault.Memory (λ d. d) result
+        (step_of (item_due line.now (items.Change change.now))) }
 {
     let roster = line.heads().roster();
     if let Err(fault) = roster.test(change) {

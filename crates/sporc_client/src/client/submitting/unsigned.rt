@@ -1,7 +1,6 @@
 //! The entry of a pending item, before it is signed.
 
 ghost use Rattle.std.specs.Prelude.{◌≡◌, ◌+◌, ◌≤◌, [], length, is_some, true, Some, IfOk, OnOk};
-ghost use Rattle.lms_tree.specs.LmsPrivate.{LmsPrivate};
 ghost use Rattle.sporc_cipher.specs.Mask.{mask_of};
 ghost use Rattle.sporc_delta.specs.Format.{delta_bytes};
 ghost use Rattle.sporc_delta.specs.Typed.{IsTypedDelta};
@@ -14,11 +13,9 @@ ghost use Rattle.sporc_head.specs.declared.limits.TheConstants.{MAX_ENTRIES};
 ghost use Rattle.sporc_head.specs.History.{count_of, epoch_of, hash_of, roster_of};
 ghost use Rattle.sporc_line.specs.Keys.{epoch_key};
 ghost use Rattle.sporc_member.specs.Roster.{key_of as key_of_device};
-ghost use Rattle.sporc_client.specs.ClientInvariant.{plain_of};
 ghost use Rattle.sporc_client.specs.Contents.{CanTake, IsSpelled};
 ghost use Rattle.sporc_client.specs.Entries.{body_of, sealing_of, unsigned_entry};
 ghost use Rattle.sporc_client.specs.Typed.{IsTypedChange};
-ghost use Rattle.sporc_client.specs.Workspace.{WorkspaceModel};
 ghost use Rattle.sporc_client.specs.declared.pending.Pending.TheVariants as items;
 
 use super::due::kind_of;
@@ -27,7 +24,7 @@ use sporc_base::{Bytes, Memory};
 use sporc_cipher::mask;
 use sporc_delta::Delta;
 use sporc_entry::{ChangeBody, Entry, Header, version_of, write_change};
-use sporc_epoch::{SealFault, entry_stream, seal_change_at};
+use sporc_epoch::{SealFault, Sealing, entry_stream, seal_change_at};
 use sporc_line::Line;
 use sporc_member::Change;
 use std::alloc::{AllocError, Global};
@@ -42,13 +39,9 @@ pub(crate) fn unsigned_entry(
     new_key: &[u8; 32],
 ) -> Result<Entry, Memory>
     requires { CanTake line.now item.now }
-    ensures value { IfOk result (λ e. (key : LmsPrivate) (own : WorkspaceModel) → e
-        ≡ unsigned_entry (plain_of key line.now own)
-        (record { leaf = leaf; randomizer = []; new_key = new_key.now }) item.now) }
+    ensures value { IfOk result (λ e. e ≡ unsigned_entry line.now leaf new_key.now item.now) }
     ensures header { IfOk result (λ e. IsHeader e.header) }
-    ensures spelled { OnOk result
-        ((key : LmsPrivate) (own : WorkspaceModel) → IsSpelled (plain_of key line.now own)
-        (record { leaf = leaf; randomizer = []; new_key = new_key.now }) item.now) }
+    ensures spelled { OnOk result (IsSpelled line.now leaf new_key.now item.now) }
 {
     let header = next_header(line, leaf, kind_of(item));
     let body = entry_body(alloc, line, item, leaf, new_key)?;
@@ -105,12 +98,8 @@ fn entry_body(
     new_key: &[u8; 32],
 ) -> Result<Bytes, Memory>
     requires { CanTake line.now item.now }
-    ensures value { IfOk result (λ body. (key : LmsPrivate) (own : WorkspaceModel) → body
-        ≡ body_of (plain_of key line.now own)
-        (record { leaf = leaf; randomizer = []; new_key = new_key.now }) item.now) }
-    ensures spelled { OnOk result
-        ((key : LmsPrivate) (own : WorkspaceModel) → IsSpelled (plain_of key line.now own)
-        (record { leaf = leaf; randomizer = []; new_key = new_key.now }) item.now) }
+    ensures value { IfOk result (λ body. body ≡ body_of line.now leaf new_key.now item.now) }
+    ensures spelled { OnOk result (IsSpelled line.now leaf new_key.now item.now) }
 {
     let Some(key) = line.key() else {
         unreachable!()
@@ -143,12 +132,10 @@ fn change_body(
     requires can_take { CanTake line.now (items.Change change.now) }
     requires key { epoch_key line.now.genesis line.now.kit line.now.entries
         (epoch_of line.now.entries) ≡ Some old_key.now }
-    ensures value { IfOk result (λ body. (key : LmsPrivate) (own : WorkspaceModel) → body ≡ body_of
-        (plain_of key line.now own) (record { leaf = leaf; randomizer = []; new_key = new_key.now })
-        (items.Change change.now)) }
-    ensures spelled { OnOk result ((key : LmsPrivate) (own : WorkspaceModel) → IsSpelled
-        (plain_of key line.now own) (record { leaf = leaf; randomizer = []; new_key = new_key.now })
-        (items.Change change.now)) }
+    ensures value { IfOk result
+        (λ body. body ≡ body_of line.now leaf new_key.now (items.Change change.now)) }
+    ensures spelled { OnOk result
+        (IsSpelled line.now leaf new_key.now (items.Change change.now)) }
 {
     let body = seal(alloc, line, old_key, change, leaf, new_key)?;
     let bytes = write_change(alloc, &body)?;
@@ -167,28 +154,24 @@ fn seal(
     requires can_take { CanTake line.now (items.Change change.now) }
     requires key { epoch_key line.now.genesis line.now.kit line.now.entries
         (epoch_of line.now.entries) ≡ Some old_key.now }
-    ensures value { IfOk result (λ body. (key : LmsPrivate) (own : WorkspaceModel)
-        → body ≡ body_sealed (sealing_of (plain_of key line.now own)
-        (record { leaf = leaf; randomizer = []; new_key = new_key.now }) change.now)
-        line.now.kit.pairs) }
+    ensures value { IfOk result (λ body. body
+        ≡ body_sealed (sealing_of line.now leaf new_key.now change.now) line.now.kit.pairs) }
     ensures spelled { IfOk result
         (IsChangeBody (version_of (roster_of line.now.genesis line.now.entries).upgraded)) }
 {
     let heads = line.heads();
     let members = heads.roster().members_after(change)?;
     let _subject = subject_of(change);
-    match seal_change_at(
-        alloc,
+    let sealing = Sealing {
         change,
-        members.as_slice(),
-        &heads.genesis().document,
-        line.me(),
-        entry_stream(line.own_device(), leaf),
-        heads.epoch(),
-        old_key,
-        new_key,
-        line.pairs(),
-    ) {
+        members: members.as_slice(),
+        document: &heads.genesis().document,
+        stream: entry_stream(line.own_device(), leaf),
+        epoch: heads.epoch(),
+        old: old_key,
+        new: new_key,
+    };
+    match seal_change_at(alloc, &sealing, line.pairs()) {
         Ok(body) => Ok(body),
         Err(SealFault::Memory) => Err(AllocError),
         Err(SealFault::NoPairKey(_)) => unreachable!(),

@@ -1,5 +1,5 @@
 use Rattle.std.proofs.Common.{◌≡◌, ◌≤◌, ℕ, List, Err, ap, sym, subst, ◌∙◌, length, arith}
-use Rattle.sporc_play.proofs.Common.{MAX_MEMBERS, Genesis, epoch_of, roster_of, state_of, Opening, replay_opening, IsSmallBody, derived_pairs, sealed_for}
+use Rattle.sporc_play.proofs.Common.{MAX_MEMBERS, Genesis, epoch_of, roster_of, state_of, Opening, replay_opening, IsSmallBody, derived_pairs, forged_sealing, sealed_for}
 use Rattle.sporc_epoch.specs.declared.fault.SealFault.{SealFault}
 use Rattle.sporc_epoch.specs.declared.fault.SealFault.TheVariants.{Memory, NoPairKey}
 use Rattle.sporc_head.proofs.Grows.{epoch_le}
@@ -27,12 +27,12 @@ returns-in-Ok-clause-value c =
     let e = c.heads-heads.ensures in
     let opening = sym (replay_opening client.opening client.log) in
     let members = c.in_ok-members.ensures.value ∙ ap (λ (o : Opening). sealed_for (roster_of o.genesis (state_of client).entries) c.args.change.now) opening in
-    forged_same (state_of client) c.args.header.now c.args.change.now c.as_slice-2.result.now _ _ _ _ _ _ c.in-Ok.body
-    (c.as_slice-2.ensures.value ∙ members)
-    (ap (λ (g : Genesis). g.document) (c.genesis.ensures.value ∙ e.genesis) ∙ ap (λ (o : Opening). o.genesis.document) opening)
-    c.stream_of.ensures.value
-    (c.epoch.ensures.value ∙ ap epoch_of e.entries)
-    c.requires.old
+    let named = c.as_slice-2.ensures.value ∙ members in
+    let document = ap (λ (g : Genesis). g.document) (c.genesis.ensures.value ∙ e.genesis) ∙ ap (λ (o : Opening). o.genesis.document) opening in
+    let epoch = c.epoch.ensures.value ∙ ap epoch_of e.entries in
+    let same : _ ≡ forged_sealing (state_of client) c.args.header.now c.args.change.now c.args.new_key.now =
+    λ i. record { change = c.args.change.now; members = named i; document = document i; stream = c.stream_of.ensures.value i; epoch = epoch i; old = c.requires.old i; new = c.args.new_key.now } in
+    forged_same (state_of client) c.args.header.now c.args.change.now c.args.new_key.now _ _ c.in-Ok.body same
     (c.in_ok-pairs.ensures ∙ ap (derived_pairs c.args.header.now.author) (c.as_slice.ensures.value ∙ sym c.as_slice-2.ensures.value))
     c.in-Ok.ensures.value
 

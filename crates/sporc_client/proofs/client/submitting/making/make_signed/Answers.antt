@@ -20,8 +20,8 @@ sign_entry-requires g c =
     let random = c.args.random.now in
     let e = c.in-Ok.ensures in
     let is = due_first plain item (drop 1 c.args.own.now.pending) c.requires.due c.first_item.ensures in
-    let unsigned = unsigned_is plain random c.args.ticket c.leaf.result c.second_half-new_key.result item c.in-Ok.entry c.leaf.ensures.value c.second_half-new_key.ensures.value
-    (e.value key c.args.own.now) e.header (e.spelled key c.args.own.now) in
+    let unsigned = unsigned_is key c.args.line.now c.args.own.now random c.args.ticket c.leaf.result c.second_half-new_key.result item c.in-Ok.entry c.leaf.ensures.value c.second_half-new_key.ensures.value
+    e.value e.header e.spelled in
     let short = short_entry plain random c.args.ticket item c.in-Ok.entry is unsigned in
     record { ticket_limit = c.requires.limit; version = unsigned.header.version; body_limit = short.body; limit = short.string }
 
@@ -33,8 +33,8 @@ returns-in-Ok-clause-answer g c =
     let random = c.args.random.now in
     let e = c.in-Ok.ensures in
     let is = due_first plain item (drop 1 c.args.own.now.pending) c.requires.due c.first_item.ensures in
-    let unsigned = unsigned_is plain random c.args.ticket c.leaf.result c.second_half-new_key.result item c.in-Ok.entry c.leaf.ensures.value c.second_half-new_key.ensures.value
-    (e.value key c.args.own.now) e.header (e.spelled key c.args.own.now) in
+    let unsigned = unsigned_is key c.args.line.now c.args.own.now random c.args.ticket c.leaf.result c.second_half-new_key.result item c.in-Ok.entry c.leaf.ensures.value c.second_half-new_key.ensures.value
+    e.value e.header e.spelled in
     let makes = making plain random c.args.ticket item c.in-Ok.entry is c.requires.sound c.told-random c.requires.limit unsigned in
     (signed_is plain random c.first_half.result c.args.ticket item c.in-Ok.entry c.sign_entry.result makes unsigned c.first_half.ensures.value c.sign_entry.ensures.made).answer
 
@@ -46,7 +46,7 @@ returns-in-Ok-clause-submission g c =
     let random = c.args.random.now in
     let e = c.in-Ok.ensures in
     let is = due_first plain item (drop 1 c.args.own.now.pending) c.requires.due c.first_item.ensures in
-    let unsigned = unsigned_is plain random c.args.ticket c.leaf.result c.second_half-new_key.result item c.in-Ok.entry c.leaf.ensures.value c.second_half-new_key.ensures.value
-    (e.value key c.args.own.now) e.header (e.spelled key c.args.own.now) in
+    let unsigned = unsigned_is key c.args.line.now c.args.own.now random c.args.ticket c.leaf.result c.second_half-new_key.result item c.in-Ok.entry c.leaf.ensures.value c.second_half-new_key.ensures.value
+    e.value e.header e.spelled in
     let makes = making plain random c.args.ticket item c.in-Ok.entry is c.requires.sound c.told-random c.requires.limit unsigned in
     (signed_is plain random c.first_half.result c.args.ticket item c.in-Ok.entry c.sign_entry.result makes unsigned c.first_half.ensures.value c.sign_entry.ensures.made).is_submission
