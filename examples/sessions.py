@@ -2,7 +2,6 @@
 which the toolchain's commands need too, since bash can't listen at a port."""
 
 import collections
-import contextlib
 import os
 import pathlib
 import random
@@ -30,15 +29,15 @@ looking = threading.Lock()
 
 
 def free_address():
-    """An address of this machine where nobody listens, and that was not given lately. Its port is none that the system takes for
-    the near end of a connection. One that was given is not tried: a server may be about to listen there."""
+    """An address of this machine whose port nobody has, and that was not given lately. Its port is none that the system takes
+    for the near end of a connection. No port is tried: a program that another thread starts meanwhile would have it for a
+    moment longer, and at one that was given a server may be about to listen."""
     with looking:
+        sockets = pathlib.Path("/proc/net/tcp").read_text().splitlines()[1:]
+        taken = {int(line.split()[1].partition(":")[2], 16) for line in sockets}
         while True:
             port = random.randrange(20_000, 30_000)
-            if port in given:
-                continue
-            with socket.socket() as link, contextlib.suppress(OSError):
-                link.bind(("127.0.0.1", port))
+            if port not in taken and port not in given:
                 given.append(port)
                 return f"127.0.0.1:{port}"
 
