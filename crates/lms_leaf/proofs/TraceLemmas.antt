@@ -58,11 +58,6 @@ module _ {D : Type 0} (disk_told : D → DiskTold)
   never_again (AtRest disk) (OpenCut result at found ∷ moves) leaf told trace used =
       never_again (AtRest found) moves leaf (told_found _ found at trace.2) trace.3
       (stable_found _ found at leaf trace.2 (trace.0.stable.each (leaf / LEAVES_PER_BLOCK) used at trace.1.0 trace.1.1))
-  never_again (AtRest disk) (Draw result after ∷ moves) leaf told trace used = absurd trace
-  never_again (AtRest disk) (DrawCut result after at found ∷ moves) leaf told trace used = absurd trace
-  never_again (AtRest disk) (Close ∷ moves) leaf told trace used = absurd trace
-  never_again (InUse leaves) (Open result ∷ moves) leaf told trace used = absurd trace
-  never_again (InUse leaves) (OpenCut result at found ∷ moves) leaf told trace used = absurd trace
   never_again (InUse leaves) (Draw (Ok other) after ∷ moves) leaf told trace used =
       let stable = trace.0.stable.each (leaf / LEAVES_PER_BLOCK) used.0 (disk_told after.disk).moment trace.0.stable.later (omega arith) in
       All-cons (λ x. leaf < x) other (drawn moves) (omega (arith, trace.0.given, used.1))
@@ -74,6 +69,7 @@ module _ {D : Type 0} (disk_told : D → DiskTold)
       never_again (AtRest found) moves leaf (told_found _ found at trace.2) trace.3
       (stable_found _ found at leaf trace.2 (trace.0.stable.each (leaf / LEAVES_PER_BLOCK) used.0 at trace.1.0 trace.1.1))
   never_again (InUse leaves) (Close ∷ moves) leaf told trace used = never_again (AtRest leaves.disk) moves leaf told trace used.0
+  never_again state moves leaf told trace used = absurd trace
 
   -- so the given numbers rise
   pub rising : (state : FileState D) (moves : List (LeafMove D)) → IsSome (disk_told (disk_of state)).stored → IsTrace disk_told state moves
@@ -83,11 +79,6 @@ module _ {D : Type 0} (disk_told : D → DiskTold)
   rising (AtRest disk) (Open (Ok leaves) ∷ moves) told trace = rising (InUse leaves) moves (rw trace.0.unwritten told) trace.1
   rising (AtRest disk) (Open (Err fault) ∷ moves) told trace = rising (AtRest fault.1) moves (rw trace.0.unwritten told) trace.1
   rising (AtRest disk) (OpenCut result at found ∷ moves) told trace = rising (AtRest found) moves (told_found _ found at trace.2) trace.3
-  rising (AtRest disk) (Draw result after ∷ moves) told trace = absurd trace
-  rising (AtRest disk) (DrawCut result after at found ∷ moves) told trace = absurd trace
-  rising (AtRest disk) (Close ∷ moves) told trace = absurd trace
-  rising (InUse leaves) (Open result ∷ moves) told trace = absurd trace
-  rising (InUse leaves) (OpenCut result at found ∷ moves) told trace = absurd trace
   rising (InUse leaves) (Draw (Ok leaf) after ∷ moves) told trace =
       let told' = told_after _ 1 _ _ trace.0.others told in
       AllPairs-cons (λ x y. x < y) leaf (drawn moves)
@@ -97,6 +88,7 @@ module _ {D : Type 0} (disk_told : D → DiskTold)
       rising (InUse after) moves (told_after _ 1 _ _ trace.0.others told) trace.1
   rising (InUse leaves) (DrawCut result after at found ∷ moves) told trace = rising (AtRest found) moves (told_found _ found at trace.2) trace.3
   rising (InUse leaves) (Close ∷ moves) told trace = rising (AtRest leaves.disk) moves told trace
+  rising state moves told trace = absurd trace
 
   pub no_leaf_twice : NoLeafTwice disk_told
   no_leaf_twice disk moves told trace = λ i j d below within. let up = rising (AtRest disk) moves told trace i j d below within in λ same. absurd (omega (arith, up, same))
@@ -122,15 +114,11 @@ module _ {D : Type 0} (disk_told : D → DiskTold)
   kept_along (AtRest disk) (Open (Err fault) ∷ moves) byte trace kept = kept_along (AtRest fault.1) moves byte trace.1 (kept_over disk fault.1 byte trace.0.stable kept)
   kept_along (AtRest disk) (OpenCut result at found ∷ moves) byte trace kept =
       kept_along (AtRest found) moves byte trace.3 (kept_found _ found at byte trace.2 (trace.0.stable.each byte kept at trace.1.0 trace.1.1))
-  kept_along (AtRest disk) (Draw result after ∷ moves) byte trace kept = absurd trace
-  kept_along (AtRest disk) (DrawCut result after at found ∷ moves) byte trace kept = absurd trace
-  kept_along (AtRest disk) (Close ∷ moves) byte trace kept = absurd trace
-  kept_along (InUse leaves) (Open result ∷ moves) byte trace kept = absurd trace
-  kept_along (InUse leaves) (OpenCut result at found ∷ moves) byte trace kept = absurd trace
   kept_along (InUse leaves) (Draw result after ∷ moves) byte trace kept = kept_along (InUse after) moves byte trace.1 (kept_over leaves.disk after.disk byte trace.0.stable kept)
   kept_along (InUse leaves) (DrawCut result after at found ∷ moves) byte trace kept =
       kept_along (AtRest found) moves byte trace.3 (kept_found _ found at byte trace.2 (trace.0.stable.each byte kept at trace.1.0 trace.1.1))
   kept_along (InUse leaves) (Close ∷ moves) byte trace kept = kept_along (AtRest leaves.disk) moves byte trace kept
+  kept_along state moves byte trace kept = absurd trace
 
   -- so each number that was given is passed at the end
   abbrev PassedAfter : FileState D → List (LeafMove D) → ℕ → Type 0
@@ -142,17 +130,13 @@ module _ {D : Type 0} (disk_told : D → DiskTold)
   passed_after (AtRest disk) (Open (Ok leaves) ∷ moves) trace = passed_after (InUse leaves) moves trace.1
   passed_after (AtRest disk) (Open (Err fault) ∷ moves) trace = passed_after (AtRest fault.1) moves trace.1
   passed_after (AtRest disk) (OpenCut result at found ∷ moves) trace = passed_after (AtRest found) moves trace.3
-  passed_after (AtRest disk) (Draw result after ∷ moves) trace = absurd trace
-  passed_after (AtRest disk) (DrawCut result after at found ∷ moves) trace = absurd trace
-  passed_after (AtRest disk) (Close ∷ moves) trace = absurd trace
-  passed_after (InUse leaves) (Open result ∷ moves) trace = absurd trace
-  passed_after (InUse leaves) (OpenCut result at found ∷ moves) trace = absurd trace
   passed_after (InUse leaves) (Draw (Ok leaf) after ∷ moves) trace =
       All-cons (PassedAfter (InUse after) moves) leaf (drawn moves) (leaf, omega arith, kept_along (InUse after) moves (leaf / LEAVES_PER_BLOCK) trace.1 trace.0.taken)
       (passed_after (InUse after) moves trace.1)
   passed_after (InUse leaves) (Draw (Err fault) after ∷ moves) trace = passed_after (InUse after) moves trace.1
   passed_after (InUse leaves) (DrawCut result after at found ∷ moves) trace = passed_after (AtRest found) moves trace.3
   passed_after (InUse leaves) (Close ∷ moves) trace = passed_after (AtRest leaves.disk) moves trace
+  passed_after state moves trace = absurd trace
 
   -- a trace that begins with the disk at rest is a life of it
   pub trace_is_life : TracesAreLives disk_told

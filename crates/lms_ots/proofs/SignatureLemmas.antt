@@ -5,7 +5,7 @@ use Rattle.std.proofs.lemmas.Nat.{from_be_bytes-to_be_bytes_4}
 use Rattle.std.proofs.lemmas.List.{length-append, take_at, drop_at}
 use Rattle.sha2.proofs.Facts256.{length-sha256}
 use Rattle.lms_ots.specs.declared.ots_type.OtsType.{OtsType}
-use Rattle.lms_ots.specs.declared.ots_type.OtsType.TheVariants.{W1, W2, W4, W8}
+use Rattle.lms_ots.specs.declared.ots_type.OtsType.TheVariants.{W1}
 use Rattle.lms_ots.specs.OtsType.{width_of, part_count_of, ots_code_of, ots_signature_len_of}
 use Rattle.lms_ots.specs.Coefficients.{coef_of, with_checksum}
 use Rattle.lms_ots.specs.Chains.{chain_of, concatenated, secret_part}
@@ -64,11 +64,9 @@ leads_signed t id q seed c message signature signed =
     (λ i below. ended_signed t id q seed string signature i (signed.parts i below)) in
     rw (signed.randomizer, same) refl
 
-code_fits : (t : OtsType) → ots_code_of t < 2 ^ 32
+pub code_fits : (t : OtsType) → ots_code_of t < 2 ^ 32
 code_fits W1 = omega arith
-code_fits W2 = omega arith
-code_fits W4 = omega arith
-code_fits W8 = omega arith
+code_fits _ = omega arith
 
 length-signed_part : (t : OtsType) (id : List ℕ) (q : ℕ) (seed string : List ℕ) (i : ℕ) → length (signed_part t id q seed string i) ≡ 32
 length-signed_part t id q seed string i = length-chain_of id q i 0 (coef_of string i (width_of t)) _ (length-sha256 _)

@@ -1,5 +1,5 @@
 -- The bytes of a public key, written and read back.
-use Rattle.std.proofs.Common.{◌≡◌, ℕ, ◌+◌, ◌^◌, ◌<◌, ◌≤◌, ◌==◌, List, [], ◌∷◌, ◌++◌, length, take, drop, Some, refl, ap, sym, ◌∙◌, arith, w32, eq-eqb}
+use Rattle.std.proofs.Common.{◌≡◌, ℕ, ◌+◌, ◌≤◌, ◌==◌, List, [], ◌∷◌, ◌++◌, length, take, drop, Some, refl, ap, sym, ◌∙◌, arith, w32, eq-eqb}
 use Rattle.std.specs.Int.{to_be_bytes, from_be_bytes}
 use Rattle.std.proofs.Math.Seq.{take-add}
 use Rattle.std.proofs.lemmas.Nat.{be_bytes_4, from_be_bytes-to_be_bytes_4}
@@ -11,6 +11,7 @@ use Rattle.sporc_base.proofs.ByteLemmas.{IsBytes-take, IsBytes-drop}
 use Rattle.lms_ots.specs.declared.ots_type.OtsType.{OtsType}
 use Rattle.lms_ots.specs.declared.ots_type.OtsType.TheVariants.{W1, W2, W4, W8}
 use Rattle.lms_ots.specs.OtsType.{ots_code_of, ots_type_with_code}
+use Rattle.lms_ots.proofs.SignatureLemmas.{code_fits as ots_code_fits}
 use Rattle.lms_tree.specs.declared.lms_type.LmsType.{LmsType}
 use Rattle.lms_tree.specs.declared.lms_type.LmsType.TheVariants.{H5, H10, H15, H20, H25}
 use Rattle.lms_tree.specs.declared.public_key.LmsPublic.{LmsPublic}
@@ -29,22 +30,11 @@ ots_code_of_found code t found = eqb-true _ _ (found_passes (λ (t : OtsType). o
 -- a type is found by its code
 lms_type_with_code_of : (t : LmsType) → lms_type_with_code (lms_code_of t) ≡ Some t
 lms_type_with_code_of H5 = refl
-lms_type_with_code_of H10 = refl
-lms_type_with_code_of H15 = refl
-lms_type_with_code_of H20 = refl
-lms_type_with_code_of H25 = refl
+lms_type_with_code_of _ = refl
 
 ots_type_with_code_of : (t : OtsType) → ots_type_with_code (ots_code_of t) ≡ Some t
 ots_type_with_code_of W1 = refl
-ots_type_with_code_of W2 = refl
-ots_type_with_code_of W4 = refl
-ots_type_with_code_of W8 = refl
-
-ots_code_fits : (t : OtsType) → ots_code_of t < 2 ^ 32
-ots_code_fits W1 = omega arith
-ots_code_fits W2 = omega arith
-ots_code_fits W4 = omega arith
-ots_code_fits W8 = omega arith
+ots_type_with_code_of _ = refl
 
 -- four bytes are the bytes of their number
 number_bytes : (bytes : List ℕ) (place : ℕ) → place + 4 ≤ length bytes → IsBytes bytes → to_be_bytes w32 (u32_at bytes place) ≡ take 4 (drop place bytes)

@@ -13,7 +13,7 @@ use Rattle.lms_ots.proofs.ConcatenatedLemmas.{concatenated_part, concatenated_sa
 use Rattle.lms_ots.proofs.SignatureLemmas.{code_of_signature, key_of_signature, length-ots_signature_of}
 use Rattle.lms_tree.specs.declared.public_key.LmsPublic.{LmsPublic}
 use Rattle.lms_tree.specs.declared.lms_type.LmsType.{LmsType}
-use Rattle.lms_tree.specs.declared.lms_type.LmsType.TheVariants.{H5, H10, H15, H20, H25}
+use Rattle.lms_tree.specs.declared.lms_type.LmsType.TheVariants.{H5}
 use Rattle.lms_tree.specs.LmsType.{lms_code_of, height_of}
 use Rattle.lms_tree.specs.Nodes.{node_of, leaf_value, sibling}
 use Rattle.lms_tree.specs.LmsPrivate.{LmsPrivate, node_at, root_of, lms_public_of, sibling_value, path_of, value_at}
@@ -63,18 +63,12 @@ way_up key q fits =
 
 pub code_fits : (t : LmsType) → lms_code_of t < 2 ^ 32
 code_fits H5 = omega arith
-code_fits H10 = omega arith
-code_fits H15 = omega arith
-code_fits H20 = omega arith
-code_fits H25 = omega arith
+code_fits _ = omega arith
 
 -- a leaf number is a u32
 height_fits : (t : LmsType) → height_of t ≤ 25
 height_fits H5 = omega arith
-height_fits H10 = omega arith
-height_fits H15 = omega arith
-height_fits H20 = omega arith
-height_fits H25 = omega arith
+height_fits _ = omega arith
 
 leaf_fits : (t : LmsType) (q : ℕ) → q < 2 ^ height_of t → q < 2 ^ 32
 leaf_fits t q below =

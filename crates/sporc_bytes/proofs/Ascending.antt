@@ -7,8 +7,7 @@ increasing_cons : (x y : ℕ) (ys : List ℕ) → x < y → IsStrictlyIncreasing
 increasing_cons x y ys lt is zero h = lt
 increasing_cons x y ys lt is (suc k) h =
     let one : suc k + 1 ≡ suc (k + 1) = omega arith in
-    let P : ℕ → Type 0 = λ j. get_or (y ∷ ys) k 0 < get_or (x ∷ y ∷ ys) j 0 in
-    subst P (sym one) (is k (omega (arith, h)))
+    subst (λ (j : ℕ). get_or (y ∷ ys) k 0 < get_or (x ∷ y ∷ ys) j 0) (sym one) (is k (omega (arith, h)))
 
 increasing_tail : (x y : ℕ) (ys : List ℕ) → IsStrictlyIncreasing (x ∷ y ∷ ys) → (x < y) × IsStrictlyIncreasing (y ∷ ys)
 increasing_tail x y ys is = (is 0 (omega arith), later)
@@ -16,8 +15,7 @@ increasing_tail x y ys is = (is 0 (omega arith), later)
     later : IsStrictlyIncreasing (y ∷ ys)
     later k h =
         let one : suc k + 1 ≡ suc (k + 1) = omega arith in
-        let P : ℕ → Type 0 = λ j. get_or (y ∷ ys) k 0 < get_or (x ∷ y ∷ ys) j 0 in
-        subst P one (is (suc k) (omega (arith, h)))
+        subst (λ (j : ℕ). get_or (y ∷ ys) k 0 < get_or (x ∷ y ∷ ys) j 0) one (is (suc k) (omega (arith, h)))
 
 -- each number is above the one before it, and the first is at least this
 abbrev pub Ascends : ℕ → List ℕ → Type 0
@@ -25,9 +23,8 @@ Ascends least [] = Unit {0}
 Ascends least (n ∷ ns) = (least ≤ n) × Ascends (n + 1) ns
 
 pub ascends_increasing : (least : ℕ) (ns : List ℕ) → Ascends least ns → IsStrictlyIncreasing ns
-ascends_increasing least [] is = λ k h. absurd (omega (arith, h))
-ascends_increasing least (n ∷ []) is = λ k h. absurd (omega (arith, h))
 ascends_increasing least (n ∷ m ∷ ns) is = increasing_cons n m ns (omega (arith, is.1.0)) (ascends_increasing (n + 1) (m ∷ ns) is.1)
+ascends_increasing least ns is = λ k h. absurd (omega (arith, h))
 
 pub increasing_ascends : (least n : ℕ) (ns : List ℕ) → least ≤ n → IsStrictlyIncreasing (n ∷ ns) → Ascends least (n ∷ ns)
 increasing_ascends least n [] le is = (le, tt)

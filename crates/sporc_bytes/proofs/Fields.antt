@@ -1,5 +1,6 @@
 -- A field that is read is spelled by the bytes that it took, and a spelled field is read again.
-use Rattle.std.proofs.Common.{◌≡◌, ℕ, ◌+◌, ◌^◌, ◌<◌, ◌≤◌, Bool, true, false, cond, ltb, leb, List, [], ◌∷◌, ◌++◌, length, take, drop, Option, Some, None, Result, Ok, Err, refl, sym, ap, subst, ◌∙◌, append_assoc, arith}
+use Rattle.std.proofs.Common.{◌≡◌, ℕ, ◌+◌, ◌^◌, ◌<◌, ◌≤◌, Bool, true, false, cond, ltb, leb, List, [], ◌∷◌, ◌++◌, length, take, drop, Option, Some, None, Result, Ok, Err, refl, sym, ap, subst, ◌∙◌}
+use Rattle.std.proofs.Common.{append_assoc, arith}
 use Rattle.std.specs.Int.{Width, w8, w16, w32, byte_len, from_be_bytes, to_be_bytes}
 use Rattle.std.specs.Prelude.{◌&&◌}
 use Rattle.std.proofs.lemmas.Bool.{ltb-false, le-ltb, leb-true, le-leb, and_parts}
@@ -55,30 +56,26 @@ Takes-nothing r h = record { parts = refl; at = omega arith; bytes = h }
 
 -- ---- so many bytes
 
+taken : (n : ℕ) (r : Reading) (x : List ℕ × Reading) (b : Bool) → cond b (Err r.at) (Ok (take n r.rest, past n r)) ≡ Ok x → (b ≡ false) × ((take n r.rest, past n r) ≡ x)
+taken n r x true e = absurd cc
+taken n r x false e = (refl, cc)
+
 pub bytes_takes : (n : ℕ) (r : Reading) (x : List ℕ × Reading) → IsBytes r.rest → bytes_at n r ≡ Ok x → Takes r x.0 x.1 × (length x.0 ≡ n) × IsBytes x.0
 unfolding bytes_at
 bytes_takes n r x h e =
-    let g = taken (ltb (length r.rest) n) e in
+    let g = taken n r x (ltb (length r.rest) n) e in
     let long : n ≤ length r.rest = ltb-false _ _ g.0 in
     let len : length (take n r.rest) ≡ n = omega (arith, length-take n r.rest) in
     subst (λ (y : List ℕ × Reading). Takes r y.0 y.1 × (length y.0 ≡ n) × IsBytes y.0) g.1
     (record { parts = sym (take-append-drop n r.rest); at = omega (arith, len); bytes = IsBytes-drop n r.rest h }, len, IsBytes-take n r.rest h)
-  where
-    taken : (b : Bool) → cond b (Err r.at) (Ok (take n r.rest, past n r)) ≡ Ok x → (b ≡ false) × ((take n r.rest, past n r) ≡ x)
-    taken true e = absurd cc
-    taken false e = (refl, cc)
 
 -- what is left after so many bytes
 pub bytes_len : (n : ℕ) (r : Reading) (x : List ℕ × Reading) → bytes_at n r ≡ Ok x → n + length x.1.rest ≡ length r.rest
 unfolding bytes_at
-bytes_len n r x e = by (ltb (length r.rest) n) refl e
-  where
-    by : (b : Bool) → ltb (length r.rest) n ≡ b → cond b (Err r.at) (Ok (take n r.rest, past n r)) ≡ Ok x → n + length x.1.rest ≡ length r.rest
-    by true is e = absurd cc
-    by false is e =
-        let same : (take n r.rest, past n r) ≡ x = cc in
-        let len : length (drop n r.rest) ≡ length x.1.rest = ap (λ (y : List ℕ × Reading). length y.1.rest) same in
-        omega (arith, ltb-false _ _ is, length-drop n r.rest, len)
+bytes_len n r x e =
+    let g = taken n r x (ltb (length r.rest) n) e in
+    let len : length (drop n r.rest) ≡ length x.1.rest = ap (λ (y : List ℕ × Reading). length y.1.rest) g.1 in
+    omega (arith, ltb-false _ _ g.0, length-drop n r.rest, len)
 
 pub bytes_again : (n at : ℕ) (xs rest : List ℕ) → length xs ≡ n → bytes_at n (record { rest = xs ++ rest; at = at }) ≡ Ok (xs, record { rest = rest; at = at + n })
 unfolding bytes_at
@@ -96,9 +93,8 @@ pub record IsWide (w : Width) (limit : ℕ) : Type 0 where
   pub below : (bytes : List ℕ) → IsBytes bytes → from_be_bytes w bytes < limit
 
 be_bytes_1 : (bytes : List ℕ) → length bytes ≡ 1 → IsBytes bytes → to_be_bytes w8 (from_be_bytes w8 bytes) ≡ bytes
-be_bytes_1 [] len fits = absurd (omega arith)
 be_bytes_1 (b ∷ []) len fits = ap (λ (x : ℕ). x ∷ []) (omega (arith, fits 0))
-be_bytes_1 (b ∷ c ∷ bs) len fits = absurd (omega arith)
+be_bytes_1 bytes len fits = absurd (omega arith)
 
 pub wide8 : IsWide w8 (2 ^ 8)
 wide8 = record {
@@ -167,8 +163,7 @@ pub byte_takes : (low high : ℕ) (r : Reading) (x : ℕ × Reading) → high < 
 byte_takes low high r x small h e =
     let t = within_takes low high w8 (2 ^ 8) wide8 r x h e in
     let one : to_be_bytes w8 x.0 ≡ x.0 ∷ [] = ap (λ (n : ℕ). n ∷ []) (omega (arith, t.2, small)) in
-    let P : List ℕ → Type 0 = λ text. Takes r text x.1 in
-    (subst P one t.0, t.1, t.2)
+    (subst (λ (text : List ℕ). Takes r text x.1) one t.0, t.1, t.2)
 
 pub within_again : (low high : ℕ) (w : Width) (limit : ℕ) (wide : IsWide w limit) (n at : ℕ) (rest : List ℕ) → low ≤ n → n ≤ high → n < limit
     → number_within low high w (record { rest = to_be_bytes w n ++ rest; at = at }) ≡ Ok (n, record { rest = rest; at = at + byte_len w })

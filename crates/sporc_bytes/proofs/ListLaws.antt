@@ -26,8 +26,7 @@ pub values_take : {A : Type 0} (read : Reading → Result (A × Reading) ℕ) (s
     → (n : ℕ) (r : Reading) (x : List A × Reading) → IsBytes r.rest → values_at read n r ≡ Ok x → AreRead spell Is n r x
 unfolding values_at
 values_take {A} read spell Is one zero r x h e =
-    let P : List A × Reading → Type 0 = λ y. AreRead spell Is 0 r y in
-    subst P (ok_is ([], r) x e) (record { text = Takes-nothing r h; count = refl; each = tt })
+    subst (AreRead spell Is 0 r) (ok_is ([], r) x e) (record { text = Takes-nothing r h; count = refl; each = tt })
 values_take {A} read spell Is one (suc n) r x h e =
     let a = bind_ok (read r) (λ first. values_at read n first.1 >>= λ others. Ok (first.0 ∷ others.0, others.1)) x e in
     let b = bind_ok (values_at read n a.0.1) (λ others. Ok (a.0.0 ∷ others.0, others.1)) x a.2 in
@@ -35,8 +34,7 @@ values_take {A} read spell Is one (suc n) r x h e =
     let second = values_take read spell Is one n a.0.1 b.0 first.0.bytes b.1 in
     let both : Takes r (spell a.0.0 ++ flat_map spell b.0.0) b.0.1 = Takes-then r (spell a.0.0) a.0.1 (flat_map spell b.0.0) b.0.1 first.0 second.text in
     let made : List A × Reading = (a.0.0 ∷ b.0.0, b.0.1) in
-    let P : List A × Reading → Type 0 = λ y. AreRead spell Is (suc n) r y in
-    subst P (ok_is made x b.2) (record { text = rw flat_map-cons both; count = ap suc second.count; each = (first.1, second.each) })
+    subst (AreRead spell Is (suc n) r) (ok_is made x b.2) (record { text = rw flat_map-cons both; count = ap suc second.count; each = (first.1, second.each) })
 
 pub values_again : {A : Type 0} (read : Reading → Result (A × Reading) ℕ) (spell : A → List ℕ) (Is : A → Type 0)
     → ((a : A) (at : ℕ) (rest : List ℕ) → Is a → (after : ℕ) × (read (record { rest = spell a ++ rest; at = at }) ≡ Ok (a, record { rest = rest; at = after })))
@@ -79,8 +77,7 @@ each_takes : {A : Type 0} (read : ℕ → Reading → Result (A × Reading) ℕ)
     → (n least : ℕ) (r : Reading) (x : List A × (ℕ × Reading)) → lowest ≤ least → IsBytes r.rest → values_at (next_of read number) n (least, r) ≡ Ok x → Ascend number spell Is n least r x
 unfolding values_at next_of
 each_takes {A} read number spell Is lowest one zero least r x low h e =
-    let P : List A × (ℕ × Reading) → Type 0 = λ y. Ascend number spell Is 0 least r y in
-    subst P (ok_is ([], (least, r)) x e) (record { text = Takes-nothing r h; count = refl; each = tt; ascending = tt })
+    subst (Ascend number spell Is 0 least r) (ok_is ([], (least, r)) x e) (record { text = Takes-nothing r h; count = refl; each = tt; ascending = tt })
 each_takes {A} read number spell Is lowest one (suc n) least r x low h e =
     let next = next_of read number in
     let a = bind_ok (next (least, r)) (λ first. values_at next n first.1 >>= λ others. Ok (first.0 ∷ others.0, others.1)) x e in

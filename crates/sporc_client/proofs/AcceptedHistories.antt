@@ -4,19 +4,18 @@ use Rattle.sporc_client.proofs.Common.{SignerModel, Genesis, text_of, forms_of, 
 use Rattle.sporc_client.proofs.Common.{me_of, IsSmall, IsSound, accepted, log_of_entries, step, WorkspaceModel, map-append, take_more, length-take-le, length-map, get_or-map, height_of, from_end}
 use Rattle.sporc_client.proofs.Common.{slice_get, Mark, base_len, Follow, reached, Follow-take, ChangeBody, same_device, Entry, author_device, change_of, MAX_ENTRIES, take_slice_get_more, change_form}
 use Rattle.sporc_client.proofs.Common.{forms_follow, length-forms, good_front, last_passes, forms_push, no_fault, Event, MAX_EVENTS, Pending, AreInOrder, ClientModel, leaves_of, coming_of}
-use Rattle.sporc_client.proofs.Common.{flight_after, pending_after, shown_form, Logged, Accept, accepted_in, journal_of, log_of, ltb-true, journal_has_room, refusal_of}
+use Rattle.sporc_client.proofs.Common.{flight_after, pending_after, shown_form, Logged, Accept, accepted_in, journal_of, log_of, ltb-true, journal_has_room, refusal_of, at_next}
 use Rattle.sporc_line.specs.Document.{forms_from}
 use Rattle.sporc_client.specs.Allowed.{is_allowed}
 use Rattle.sporc_client.specs.Step.{replay}
-use Rattle.sporc_client.proofs.SubmitLeaves.{order_begun}
+use Rattle.sporc_client.proofs.Leaves.{order_begun}
 use Rattle.std.specs.Option.{is_some}
 use Rattle.sporc_client.specs.declared.event.Event.TheVariants as events
 use Rattle.sporc_client.proofs.Soundness.{allowed_accept}
 use Rattle.sporc_client.proofs.Comings.{accepted_is, follow_last}
-use Rattle.sporc_client.proofs.Logs.{is_allowed_more, log_again, replay_more, journal_more}
-use Rattle.sporc_client.proofs.TextLengths.{few_inserted, length-text_of}
-use Rattle.sporc_line.proofs.NextEntry.{at_next}
-pub use Rattle.sporc_client.proofs.Soundness.{accept_passes}
+use Rattle.sporc_client.proofs.Events.{is_allowed_more, log_again, replay_more, journal_more}
+use Rattle.sporc_client.proofs.Small.{few_inserted, length-text_of}
+pub use Rattle.sporc_client.proofs.Checked.{accept_passes}
 
 no_text : (genesis : Genesis) (kit : Kit) → text_of genesis kit [] ≡ []
 unfolding forms_from

@@ -3,19 +3,16 @@ use Rattle.std.proofs.Common.{◌≡◌, ℕ, ◌+◌, ◌≤◌, Bool, true, fa
 use Rattle.sporc_client.proofs.Common.{fold, IsSomeAnd, Ok, public_key_in, verifies, same_device, same_one, take_all, CollisionFree, Device, Member, key_of_device, member_at, Entry, Genesis}
 use Rattle.sporc_client.proofs.Common.{author_device, entry_of, signed_string, Refusal, allows, allows_member, verifies_device, verifies_under, changes, epoch_of, hash_of, roster_of, epoch_key}
 use Rattle.sporc_client.proofs.Common.{first_fault, line_strings, operations, text_of, Good, Meets, Passes, good_entry, has_left, keys_meet, PlainClient, after_pending, committed_of, is_out}
-use Rattle.sporc_client.proofs.Common.{journal_has_room, or_full, refusal_of, Setup, World, Signing, Move, start, IsRun, given, world_at, HasSigned, IsReached, accepted, IsWellFormed}
+use Rattle.sporc_client.proofs.Common.{journal_has_room, or_full, refusal_of, Setup, World, Signing, Move, start, IsRun, given, world_at, HasSigned, IsReached, accepted, IsWellFormed, LmsPublic}
 use Rattle.std.specs.Prelude.{◌↔◌, slice_get, IsSome}
-use Rattle.lms_tree.specs.declared.public_key.LmsPublic.{LmsPublic}
 use Rattle.sporc_line.specs.Commitments.{commitment_after}
 use Rattle.sporc_line.proofs.SameKeys.{has_right, one_reading, one_text, same_key}
 use Rattle.sporc_client.specs.declared.fault.AcceptFault.TheVariants.{Refused}
 use Rattle.sporc_client.specs.Answers.{accept_fault}
 use Rattle.sporc_client.specs.Agree.{Agree, NoCollision, IsClient, IsRightful, SameHistoryAndText, StandsBehind}
-use Rattle.sporc_client.proofs.Worlds.{gives_to, with_client}
+use Rattle.sporc_client.proofs.Reached.{gives_to, with_client, reached_at, genuine_at}
 use Rattle.sporc_client.proofs.InHistories.{named_prefix, one_hash, one_place, one_prefix, same_base}
-use Rattle.sporc_client.proofs.Reached.{reached_at}
 use Rattle.sporc_client.proofs.SignedEntries.{AllSignings, IsSigning, signing_at, signing_in}
-use Rattle.sporc_client.proofs.Sourced.{genuine_at}
 
 -- ---- what a client of a run knows, over the genesis of the run
 

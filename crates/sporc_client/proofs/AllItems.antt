@@ -1,13 +1,14 @@
 -- What holds of each item of a list holds of each one of a list that is made of it.
 use Rattle.std.proofs.Common.{map, take, drop, Option, None, Some, IfSome, ℕ, zero, suc, Bool, true, false, cond, List, [], ◌∷◌}
-use Rattle.sporc_client.proofs.Common.{filter, nat_lt, AllByRecursion, cons_option, filter_map, insert, Member, insert_sorted}
+use Rattle.sporc_client.proofs.Common.{filter, nat_lt, AllByRecursion, cons_option, filter_map, insert}
+use Rattle.sporc_member.specs.Lists.{insert_by}
 
-pub all_added : (P : Member → Type 0) (m : Member) (members : List Member) → P m → AllByRecursion P members → AllByRecursion P (insert_sorted m members)
-all_added P m [] here all = (here, tt)
-all_added P m (n ∷ members) here all = go (nat_lt m.member n.member) (all_added P m members here all.1)
+pub all_added : {X : Type 0} (P : X → Type 0) (number : X → ℕ) (x : X) (xs : List X) → P x → AllByRecursion P xs → AllByRecursion P (insert_by number x xs)
+all_added P number x [] here all = (here, tt)
+all_added P number x (y ∷ xs) here all = go (nat_lt (number x) (number y)) (all_added P number x xs here all.1)
   where
-    go : (before : Bool) → AllByRecursion P (insert_sorted m members) → AllByRecursion P (cond before (m ∷ n ∷ members) (n ∷ insert_sorted m members))
-    go true rest = (here, (all.0, all.1))
+    go : (before : Bool) → AllByRecursion P (insert_by number x xs) → AllByRecursion P (cond before (x ∷ y ∷ xs) (y ∷ insert_by number x xs))
+    go true rest = (here, all)
     go false rest = (all.0, rest)
 
 pub all_inserted : {X : Type 0} (P : X → Type 0) (x : X) (xs : List X) (i : ℕ) → P x → AllByRecursion P xs → AllByRecursion P (insert xs i x)
@@ -24,9 +25,8 @@ all_filter P p (x ∷ xs) all = go (p x) (all_filter P p xs all.1)
     go false rest = rest
 
 pub all_take : {X : Type 0} (P : X → Type 0) (n : ℕ) (xs : List X) → AllByRecursion P xs → AllByRecursion P (take n xs)
-all_take P zero xs all = tt
-all_take P (suc n) [] all = tt
 all_take P (suc n) (x ∷ xs) all = (all.0, all_take P n xs all.1)
+all_take P n xs all = tt
 
 pub all_rest : {X : Type 0} (P : X → Type 0) (xs : List X) → AllByRecursion P xs → AllByRecursion P (drop 1 xs)
 all_rest P [] all = tt

@@ -1,13 +1,12 @@
 -- Every call of a client is moves of it, or changes nothing.
 use Rattle.std.proofs.Common.{◌≡◌, ℕ, ◌≤◌, Bool, true, false, cond, List, [], ◌∷◌, ◌++◌, length, refl, ap, sym, ◌∙◌, subst, Option, Some}
-use Rattle.sporc_client.proofs.Common.{◌≢◌, IsSomeAnd, and_parts, fold-append, Device, same_device, same_one, Keys, can_log, can_log_all, Logged, Opening, PlainClient, opened}
-use Rattle.sporc_client.proofs.Common.{Setup, World, May, Move, Open, Restart, IsRun, after, after_all, opening_of, log_of_first, replay_from, step}
+use Rattle.sporc_client.proofs.Common.{◌≢◌, IsSomeAnd, and_parts, fold-append, Device, same_device, same_one, Keys, can_log, can_log_all, Logged, Opening, PlainClient, opened, Setup, World, May, Move}
+use Rattle.sporc_client.proofs.Common.{Open, Restart, IsRun, after, after_all, opening_of, log_of_first, replay_from, step}
 use Rattle.sporc_client.specs.Allowed.{is_allowed}
 use Rattle.sporc_client.specs.Calls.{LeadTo, events_of}
 use Rattle.sporc_client.specs.Step.{replay}
-use Rattle.sporc_client.proofs.Worlds.{happens_to, restarted, restarts, with_client}
-use Rattle.sporc_client.proofs.Kept.{step_opening}
-use Rattle.sporc_client.proofs.Reached.{put_same}
+use Rattle.sporc_client.proofs.Reached.{happens_to, restarted, restarts, with_client, put_same}
+use Rattle.sporc_client.proofs.Events.{step_opening}
 
 -- ---- runs one after another
 

@@ -1,25 +1,22 @@
 -- No one forges in a run in which a server hands out only what clients of the run signed.
 use Rattle.std.proofs.Common.{◌≡◌, ℕ, zero, suc, ◌≤◌, Bool, true, false, cond, List, [], ◌∷◌, ◌++◌, length, map, take, refl, ap, sym, ◌∙◌, subst, arith, Option, None, Some, IfSome, Ok}
 use Rattle.sporc_client.proofs.Common.{Contains, find, fold, is_some, not, option_map, ⊤, ◌==◌, AllByRecursion, length-take, length_push, same_from_push, Mark, earlier, MemberChange, Add, Remove}
-use Rattle.sporc_client.proofs.Common.{SetRole, AddDevice, DropDevice, Upgrade, Device, device_place, first_device, same_device, Roster, after_change, device_by, founded, same_one, Entry}
+use Rattle.sporc_client.proofs.Common.{AddDevice, DropDevice, Device, device_place, first_device, same_device, Roster, after_change, device_by, founded, same_one, Entry}
 use Rattle.sporc_client.proofs.Common.{author_device, entry_of, change_in_read, CommittedChange, change_in, changes, roster_of, Pending, Logged, PlainClient, opened, IsReached, rebased, Setup, World}
 use Rattle.sporc_client.proofs.Common.{Signing, Move, Open, Happen, Give, Restart, IsRun, May, after, signings, start, Genuine, IsOfFirst, accepted, change_comes, edit_comes, form_coming, is_flight}
-use Rattle.sporc_client.proofs.Common.{log_of_entries, own_comes, replay_from, restated, step, IsTypedMove, IsTypedRun, IsWellFormed, good_take}
+use Rattle.sporc_client.proofs.Common.{log_of_entries, own_comes, replay_from, restated, step, IsTypedMove, IsTypedRun, IsWellFormed, good_take, all_append}
 use Rattle.sporc_member.specs.declared.device.LiveDevice.{LiveDevice}
 use Rattle.sporc_client.specs.declared.pending.Pending.TheVariants as items
 use Rattle.sporc_client.specs.Closed.{AddsItsKey, AreClosed, HasItsKey, IsClosed, IsClosedMove, IsItsKey, IsSigned}
 use Rattle.sporc_client.specs.Log as events
 use Rattle.sporc_client.specs.Run.{key_of_device}
 use Rattle.sporc_client.specs.Step.{replay}
-use Rattle.sporc_client.proofs.Worlds.{restarted}
+use Rattle.sporc_client.proofs.Reached.{restarted, AllClients, AllReached, Keeps, KeepsSigned, after_keeps, none_signed, reached_after, reached_start, signed_after, AddGenuine, IsGenuine}
 use Rattle.sporc_client.proofs.AcceptedHistories.{accepts_all}
-use Rattle.sporc_client.proofs.Kept.{accepted_as}
-use Rattle.sporc_client.proofs.Reached.{AllClients, AllReached, Keeps, KeepsSigned, after_keeps, none_signed, reached_after, reached_start, signed_after}
-use Rattle.sporc_base.proofs.ListLemmas.{all_append}
+use Rattle.sporc_client.proofs.Events.{accepted_as}
 use Rattle.sporc_client.proofs.AllItems.{all_filter, all_filter_map, all_inserted, all_map, all_rest, all_take}
 use Rattle.sporc_client.proofs.SignedEntries.{AllSignings, IsSigning, signings_after}
 use Rattle.sporc_client.proofs.SoundRuns.{made_in_flight, AllSound, sound_after}
-use Rattle.sporc_client.proofs.Sourced.{AddGenuine, IsGenuine}
 use Rattle.sporc_client.proofs.Submitting.{made_by_submission}
 
 -- ---- pending items and histories whose changes add devices under their own keys
@@ -53,12 +50,11 @@ own_change s roster (Add member role key) own all =
     let live : LiveDevice = record { device = first_device member; key = key } in
     all_inserted (OwnDevice s) live roster.devices (device_place live.device roster.devices) own all
 own_change s roster (Remove member) own all = all_filter (OwnDevice s) (λ d. not (d.device.member == member)) roster.devices all
-own_change s roster (SetRole member role) own all = all
 own_change s roster (AddDevice member device key) own all =
     let live : LiveDevice = record { device = record { member = member; number = device }; key = key } in
     all_inserted (OwnDevice s) live roster.devices (device_place live.device roster.devices) own all
 own_change s roster (DropDevice member device) own all = all_filter (OwnDevice s) (λ d. not (same_device d.device (record { member = member; number = device }))) roster.devices all
-own_change s roster Upgrade own all = all
+own_change s roster change own all = all
 
 own_devices : (s : Setup) (roster : Roster) (cs : List CommittedChange) → AllByRecursion (OwnCommitted s) cs → AllByRecursion (OwnDevice s) roster.devices
     → AllByRecursion (OwnDevice s) (fold after_change roster (map (λ (c : CommittedChange). c.body.change) cs)).devices

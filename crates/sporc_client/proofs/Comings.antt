@@ -1,20 +1,19 @@
 -- What an entry that comes does, by its kinds, with what the fields become.
 use Rattle.std.proofs.Common.{◌≡◌, ℕ, ◌<◌, Bool, true, false, if◌then◌else◌, List, [], ◌∷◌, ◌++◌, length, Option, None, Some, Ok, refl, ap, sym, ◌∙◌, subst, arith}
 use Rattle.sporc_client.proofs.Common.{IsErr, Result, Err, append_nil, SignerModel, Mark, apply, base_len, out_len, Follow, reached, Device, same_device, ChangeBody, Entry, Genesis, author_device}
-use Rattle.sporc_client.proofs.Common.{change_of, entry_of, change_in, committed_by, is_read_by, Kit, LineModel, length-apply, Event, MAX_EVENTS, Pending, journal_has_room, or_full, refusal_of}
-use Rattle.sporc_client.proofs.Common.{ClientInvariant, client_model, plain_of, ClientModel, with_events, Effect, coming_of, effect, flight_after, pending_after, shown_form, Logged, Accept, log_of, Opening}
-use Rattle.sporc_client.proofs.Common.{PlainClient, committed_of, me_of, shown_of, AreOver, AreStated, beyond, rebased, accepted, change_comes, form_coming, is_flight, own_comes, SameOwn}
-use Rattle.sporc_client.proofs.Common.{WorkspaceModel}
+use Rattle.sporc_client.proofs.Common.{change_of, entry_of, change_in, committed_by, Kit, LineModel, length-apply, Event, MAX_EVENTS, Pending}
+use Rattle.sporc_client.proofs.Common.{ClientInvariant, client_model, plain_of, ClientModel, with_events, Effect, coming_of, effect, flight_after, pending_after, shown_form, Logged, Accept, log_of}
+use Rattle.sporc_client.proofs.Common.{Opening, PlainClient, committed_of, me_of, shown_of, AreOver, AreStated, beyond, rebased, accepted, change_comes, form_coming, is_flight, own_comes, SameOwn}
+use Rattle.sporc_client.proofs.Common.{WorkspaceModel, CanSettle, Takes, coming_at, form_at}
 use Rattle.std.specs.Option.{is_some}
+use Rattle.sporc_head.proofs.Grows.{is_by_read}
 use Rattle.sporc_head.specs.History.{is_by}
 use Rattle.sporc_line.specs.Prepared.{IsPrepared, PreparedModel}
 use Rattle.sporc_client.specs.declared.coming.Coming.{Coming}
 use Rattle.sporc_client.specs.declared.pending.Pending.TheVariants as items
-use Rattle.sporc_client.specs.Answers.{accept_fault, added}
-use Rattle.sporc_client.specs.Taking.{CanSettle, Takes, coming_at, form_at}
+use Rattle.sporc_client.specs.Answers.{added}
 use Rattle.sporc_client.proofs.Soundness.{accepted_sound, allowed_accept, change_in_is, comes}
-use Rattle.sporc_client.proofs.Events.{length_of_shown, shown_length}
-use Rattle.sporc_client.proofs.Kept.{Recorded, Records, opening_of, recorded_unsigned}
+use Rattle.sporc_client.proofs.Events.{length_of_shown, shown_length, Recorded, Records, opening_of, recorded_unsigned}
 use Rattle.sporc_client.proofs.Small.{lengths}
 
 -- ---- by the kinds of an entry
@@ -53,16 +52,12 @@ some_same : (e : Entry) (o : Option ChangeBody) → is_some (committed_by e o) �
 some_same e None = refl
 some_same e (Some body) = refl
 
-by_author : (me : Device) (bytes : List ℕ) (e : Entry) → entry_of bytes ≡ Ok e → is_by me bytes ≡ same_device (author_device e.header) me
-unfolding is_by
-by_author me bytes e reads = ap (is_read_by me) reads
-
 pub accepted_is : (c : PlainClient) (bytes : List ℕ) (e : Entry) → entry_of bytes ≡ Ok e
     → accepted c bytes
     ≡ after_coming c bytes (coming_of (is_flight c bytes) (is_some (change_of e)) (same_device (author_device e.header) (me_of c)) (form_coming c bytes) c.pending) (shown_form (is_flight c bytes) (is_some (change_of e)) (length (shown_of c)) (form_coming c bytes) c.pending)
 accepted_is c bytes e reads =
     let change : is_some (change_in bytes) ≡ is_some (change_of e) = ap is_some (change_in_is bytes e reads) ∙ some_same e (change_of e) in
-    let own : is_by (me_of c) bytes ≡ same_device (author_device e.header) (me_of c) = by_author (me_of c) bytes e reads in
+    let own : is_by (me_of c) bytes ≡ same_device (author_device e.header) (me_of c) = is_by_read (me_of c) bytes e reads in
     ap (λ (b : Bool). comes_by c bytes (is_flight c bytes) b (is_by (me_of c) bytes)) change
     ∙ ap (λ (b : Bool). comes_by c bytes (is_flight c bytes) (is_some (change_of e)) b) own
     ∙ by_kinds c bytes (is_flight c bytes) (is_some (change_of e)) (same_device (author_device e.header) (me_of c))
@@ -190,10 +185,6 @@ model_more {line = line} {line' = line'} {signer = signer} {ticket = ticket} {ow
 pub no_more : {X F D : Type 0} (result : Result X F) (event : Logged) (m m' : ClientModel D) → IsErr result → m' ≡ m → m' ≡ record m { log = m.log ++ added result event }
 no_more (Ok x) event m m' err is = absurd cc
 no_more (Err fault) event m m' err is = is ∙ ap (λ (log : List Logged). record m { log = log }) (sym (append_nil m.log))
-
-pub accept_fault_is : (c : PlainClient) (position : ℕ) (bytes : List ℕ) → accept_fault c position bytes ≡ or_full (journal_has_room c) (refusal_of c position bytes)
-unfolding accept_fault
-accept_fault_is c position bytes = refl
 
 -- fields that are the same lead to one entry on its way
 pub same_flight : (coming : Coming) (ps qs : List Pending) (f g : Option (List ℕ)) → ps ≡ qs → f ≡ g → flight_after (effect coming ps) f ≡ flight_after (effect coming qs) g

@@ -3,10 +3,8 @@ use Rattle.std.proofs.Common.{◌≡◌, ℕ, zero, suc, ◌+◌, ◌^◌, ◌<�
 use Rattle.sporc_client.proofs.Common.{Contains, find, is_some, unwrap_or, ◌==◌, ◌||◌, get, All, AllByRecursion, list_any, and_from, eqb-true, bytes_eq-Decides, first_of, unless, Contains-first}
 use Rattle.sporc_client.proofs.Common.{Contains-rest, length-mask_from, ChangeFault, Device, Member, Roster, after_change, change_fault_of, member_at, numbers_of, removes, ChangeBody, Wrap}
 use Rattle.sporc_client.proofs.Common.{IsChangeBody, IsWrap, Keys, Sealing, body_unless, least_unpaired, wraps_sealed, wrap_opened, bad_change, names, roster_checks, is_new_key, new_key_checks}
-use Rattle.sporc_client.proofs.Common.{first_sealed, new_key_of}
-use Rattle.sporc_hash.specs.Chain.{commitment_of}
+use Rattle.sporc_client.proofs.Common.{first_sealed, new_key_of, commitment_of, new_opens, previous_opens, wraps_name}
 use Rattle.sporc_epoch.specs.Sealing.{body_sealed, change_sealed}
-use Rattle.sporc_epoch.proofs.SealedKeys.{new_opens, previous_opens, wraps_name}
 use Rattle.sporc_head.specs.declared.refusal.Refusal.TheVariants.{NoKey, WrongKey, WrongWraps}
 use Rattle.sporc_client.proofs.TypedHistories.{IsSmallMember}
 

@@ -6,13 +6,12 @@ use Rattle.sporc_client.proofs.Common.{roster_after, ChangeBody, Entry, Genesis,
 use Rattle.sporc_client.proofs.Common.{stream_of, wrap_opened, MAX_ENTRIES, allows_member, names_leaf, roster_checks, verifies_device, CommittedChange, change_in, changes, count_of, epoch_of, hash_of}
 use Rattle.sporc_client.proofs.Common.{is_removed, roster_of, change_in_read, Kit, key_after, epoch_key, line_strings, first_fault, is_new_key, new_key_checks, Operation, edit_marks, forms_from}
 use Rattle.sporc_client.proofs.Common.{text_after, text_of, Good, no_fault, good_take, has_left, Pending, new_key_in, new_key_of, randomizer_in, refusal_of, Chosen, current_key, entry_made, kind_of}
-use Rattle.sporc_client.proofs.Common.{next_header, sealing_of, Opening, PlainClient, committed_of, me_of, IsReached, AreStated, IsAt, Move, Setup, IsTypedRun, IsWellFormed, line_of}
+use Rattle.sporc_client.proofs.Common.{next_header, sealing_of, Opening, PlainClient, committed_of, me_of, IsReached, AreStated, IsAt, Move, Setup, IsTypedRun, IsWellFormed, line_of, started_by_wraps}
+use Rattle.sporc_client.proofs.Common.{CanLearnKey, CanReceive, EntriesPass, HasOwnKey, IsOthersEdit}
 use Rattle.sporc_line.specs.LineChecks.{key_checks, key_checks_of}
-use Rattle.sporc_line.proofs.NextEntry.{started_by_wraps}
 use Rattle.sporc_line.proofs.Effects.{edit_passes}
 use Rattle.sporc_line.proofs.SameKeys.{HasKeys, committed, has_right, same_epoch_keys, same_operations}
 use Rattle.sporc_client.specs.declared.pending.Pending.TheVariants as items
-use Rattle.sporc_client.specs.HonestEntries.{CanLearnKey, CanReceive, EntriesPass, HasOwnKey, IsOthersEdit}
 use Rattle.sporc_client.proofs.HonestChanges.{key_is_new, keys_fine, member_opens, roster_fine, sealed_for}
 use Rattle.sporc_client.proofs.HonestSignatures.{names_own_leaf, verifies_own}
 use Rattle.sporc_client.proofs.InHistories.{barrier_before, changes_stay, count_stays, last_before}
@@ -99,7 +98,7 @@ made_on s who c bytes well reached typed id own makes =
       version = ap (λ (h : Header). h.version) header;
       number = ap (λ (h : Header). h.number) header ∙ ap (λ (d : Device). count_of d c.entries + 1) (sym author);
       epoch = ap (λ (h : Header). h.epoch) header;
-      right = ap (λ (k : ℕ). allows_member k (member_at roster e.header.author)) kind ∙ ap (λ (h : Header). allows_member (kind_of makes.item) (member_at roster h.author)) header ∙ makes.due.right;
+      right = ap (λ (k : ℕ). allows_member k (member_at roster e.header.author)) kind ∙ ap (λ (h : Header). allows_member (kind_of makes.item) (member_at roster h.author)) header ∙ makes.due.head.right;
       leaf = ap (names_leaf e.header.leaf) signature ∙ names_own_leaf c.opening.key e.header.leaf chosen.randomizer message (leaf_small c.opening.key.lms e.header.leaf makes.leaf);
       key = key;
       is_key = ap (key_of_device roster) author ∙ own;
@@ -225,7 +224,7 @@ module _ (s : Setup) (i j : Device) (c d : PlainClient) (bytes : List ℕ) (sent
   current_keys : epoch_key g c.opening.kit c.entries (epoch_of c.entries) ≡ epoch_key g d.opening.kit (c.entries ++ edits) (epoch_of c.entries)
   current_keys =
       let l : epoch_of c.entries ≤ epoch_of c.entries = omega arith in
-      one_key g c.opening.kit d.opening.kit c.entries edits (author_device e.header) its_others sent.sender.good its_good its_free (epoch_of c.entries) l sent.makes.due.not_removed its_place
+      one_key g c.opening.kit d.opening.kit c.entries edits (author_device e.header) its_others sent.sender.good its_good its_free (epoch_of c.entries) l sent.makes.due.head.not_removed its_place
 
   -- the checks that are left
   passes_with : first_of (roster_checks (roster_of g (c.entries ++ edits)) (change_of e)) ≡ None → first_of (key_checks g d.opening.kit (c.entries ++ edits) e) ≡ None
@@ -238,11 +237,11 @@ module _ (s : Setup) (i j : Device) (c d : PlainClient) (bytes : List ℕ) (sent
 
   pub edit_passes_there : (marks : List Mark) → e ≡ entry_made c (chosen_in c e) (items.Edit marks) → IsDue c (items.Edit marks) → refusal_of d (length d.entries + 1) bytes ≡ None
   edit_passes_there marks same due =
-      let has = key_there c sent.sender.good due.not_removed in
+      let has = key_there c sent.sender.good due.head.not_removed in
       let spells = edit_spelled c marks sent.known.sound sent.known.typed due in
       let read = edit_reads c (chosen_in c e) marks e same has spells in
       let S : List Pending → Type 0 = λ ps. AreStated (committed_of c) ps in
-      let base : base_len marks ≡ length (committed_of c) = (subst S due.first sent.known.sound.stated).0 in
+      let base : base_len marks ≡ length (committed_of c) = (subst S due.head.first sent.known.sound.stated).0 in
       let marks_there : edit_marks (epoch_key g d.opening.kit (c.entries ++ edits) e.header.epoch) e ≡ Some marks =
       ap (λ (n : ℕ). edit_marks (epoch_key g d.opening.kit (c.entries ++ edits) n) e) facts.epoch
       ∙ ap (λ (key : Option (List ℕ)). edit_marks key e) (sym current_keys) ∙ read.1 in
@@ -286,7 +285,7 @@ module _ (s : Setup) (i j : Device) (c d : PlainClient) (bytes : List ℕ) (sent
   shown_new = drop_at (randomizer_in sent.makes.entry) new_key 32 (shown_size c bytes sent.makes read.1)
 
   has : HasKey c
-  has = key_there c sent.sender.good due.not_removed
+  has = key_there c sent.sender.good due.head.not_removed
 
   current : current_key (line_of c) ≡ has.key
   current = ap (λ (key : Option (List ℕ)). unwrap_or key []) has.is

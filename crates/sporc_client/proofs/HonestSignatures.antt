@@ -1,21 +1,18 @@
 -- The signature of an entry that a client makes: how long it is, the random bytes that it shows, and that it verifies.
 use Rattle.std.proofs.Common.{◌≡◌, ℕ, ◌^◌, ◌<◌, ◌≤◌, List, ◌++◌, length, take, drop, ap, ◌∙◌, arith, append_assoc, length-append, zero, suc, true, refl, Some}
 use Rattle.sporc_client.proofs.Common.{w32, to_be_bytes, from_be_bytes, drop_at, take_at, LmsPrivate, lms_public_of, sibling_value, height_of, lms_code_of, lms_signature_len_of, verifies}
-use Rattle.sporc_client.proofs.Common.{MAX_SIGNATURE, IsTrue, and_from, eq-eqb, le-leb, public_key_bytes, public_key_in, names_leaf, verifies_device, verifies_under}
+use Rattle.sporc_client.proofs.Common.{MAX_SIGNATURE, IsTrue, and_from, eq-eqb, le-leb, public_key_bytes, public_key_in, names_leaf, verifies_device, verifies_under, LmsType, H5, LmsPublic}
+use Rattle.sporc_client.proofs.Common.{length-sha256}
 use Rattle.lms_ots.specs.declared.ots_type.OtsType.{OtsType}
 use Rattle.lms_ots.specs.declared.ots_type.OtsType.TheVariants.{W1}
 use Rattle.lms_ots.specs.OtsType.{ots_code_of, ots_signature_len_of, part_count_of, width_of}
 use Rattle.lms_ots.specs.Chains.{concatenated}
 use Rattle.lms_ots.specs.Coefficients.{with_checksum, coef_of}
 use Rattle.lms_ots.specs.Signatures.{message_digest, ots_signature_of, signed_part}
-use Rattle.lms_tree.specs.declared.lms_type.LmsType.{LmsType}
-use Rattle.lms_tree.specs.declared.lms_type.LmsType.TheVariants.{H5}
-use Rattle.lms_tree.specs.declared.public_key.LmsPublic.{LmsPublic}
 use Rattle.lms_tree.specs.Signatures.{lms_signature_of}
 use Rattle.lms_tree.specs.Verification.{leaf_in}
 use Rattle.lms_tree.proofs.SignatureLemmas.{signatures_verify, field_one}
 use Rattle.std.proofs.lemmas.Nat.{from_be_bytes-to_be_bytes_4}
-use Rattle.sha2.proofs.Facts256.{length-sha256}
 use Rattle.lms_ots.proofs.ChainLemmas.{length-chain_of}
 use Rattle.lms_ots.proofs.ConcatenatedLemmas.{length-concatenated}
 use Rattle.lms_tree.specs.Nodes.{node_of}

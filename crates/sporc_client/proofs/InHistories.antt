@@ -3,13 +3,12 @@ use Rattle.std.proofs.Common.{◌≡◌, ℕ, suc, ◌+◌, ◌<◌, ◌≤◌, 
 use Rattle.sporc_client.proofs.Common.{fold, is_some, slice_get, AllByRecursion, cons_option, take-append-drop, take-take, length-take-le, append-nil, sum_by-append, fold-append, Contains-append_left}
 use Rattle.sporc_client.proofs.Common.{Contains-append_right, Contains-append_cases, filter_map-append, cases_order, Device, one_same, CollisionFree, chain_strings, key_strings, Entry, Genesis}
 use Rattle.sporc_client.proofs.Common.{author_device, entry_of, genesis_bytes, count_of, epoch_of, hash_of, is_read_by, CommittedChange, barrier_of, change_in, changes, last_from, last_of, Kit}
-use Rattle.sporc_client.proofs.Common.{epoch_key, line_strings, Good, take_slice_get_more, Passes, good_entry}
+use Rattle.sporc_client.proofs.Common.{epoch_key, line_strings, Good, take_slice_get_more, Passes, good_entry, IsOthersEdit}
 use Rattle.std.specs.List.{Contains, count_by}
 use Rattle.std.proofs.lemmas.Option.{slice_get_within}
 use Rattle.sporc_hash.proofs.SameHistory.{one_value_one_history}
 use Rattle.sporc_hash.proofs.Prefixes.{one_value_one_prefix}
 use Rattle.sporc_head.specs.History.{is_by}
-use Rattle.sporc_client.specs.HonestEntries.{IsOthersEdit}
 
 -- ---- one value, one history
 

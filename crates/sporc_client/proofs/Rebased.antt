@@ -2,12 +2,10 @@
 use Rattle.std.proofs.Common.{◌≡◌, ℕ, suc, ◌+◌, ◌<◌, ◌≤◌, List, [], ◌∷◌, ◌++◌, length, drop, fold, get_or, refl, sym, ap, ◌∙◌, add-one, append_assoc, arith, take, set, subst, Option}
 use Rattle.sporc_client.proofs.Common.{MAX_TEXT_LEN, Mark, apply, base_len, inserted_len, insertion, insert_marks, out_len, keep_marks, earlier, later, compose, base_len-later, base_len-earlier}
 use Rattle.sporc_client.proofs.Common.{inserted_len-earlier, out_len-le, length-apply, Pending, after_pending, AreOver, AreStated, beyond, inserted_by, rebased, in_one, length-append, length-take-le}
-use Rattle.sporc_client.proofs.Common.{append_nil, base_len-insert_marks, base_len-keep_marks}
-use Rattle.std.proofs.Math.Seq.{drop-cons, take-suc}
+use Rattle.sporc_client.proofs.Common.{append_nil, base_len-insert_marks, base_len-keep_marks, drop-cons, take-suc, CanAllBecome, ItemCanBecome, all_became, item_became}
 use Rattle.sporc_xform.proofs.LawLemmas.{later_merges, earlier_merges, composes}
 use Rattle.sporc_client.specs.declared.pending.Pending.TheVariants.{Edit, Change}
 use Rattle.sporc_xform.specs.declared.restating.Passed.{Passed}
-use Rattle.sporc_client.specs.Passing.{CanAllBecome, ItemCanBecome, all_became, item_became}
 use Rattle.sporc_xform.proofs.InTurn.{apply-compose}
 use Rattle.sporc_client.proofs.Shown.{apply-insert_marks, apply-keep_marks}
 
@@ -98,16 +96,14 @@ items_more form next item one left rest done new all here is after pushed first 
 pub all_became-more : (ps : List (Option Passed)) (items : List Pending) (p : Option Passed) (item : Pending) → length ps ≡ length items
     → all_became (ps ++ p ∷ []) (items ++ item ∷ []) ≡ all_became ps items ++ item_became p item ∷ []
 all_became-more [] [] p item same = refl
-all_became-more [] (i ∷ items) p item same = absurd (omega arith)
-all_became-more (q ∷ ps) [] p item same = absurd (omega arith)
 all_became-more (q ∷ ps) (i ∷ items) p item same = ap (λ (is : List Pending). item_became q i ∷ is) (all_became-more ps items p item (omega arith))
+all_became-more ps items p item same = absurd (omega arith)
 
 pub CanAllBecome-more : (ps : List (Option Passed)) (items : List Pending) (p : Option Passed) (item : Pending) → length ps ≡ length items
     → CanAllBecome ps items → ItemCanBecome p item → CanAllBecome (ps ++ p ∷ []) (items ++ item ∷ [])
 CanAllBecome-more [] [] p item same all one = (one, tt)
-CanAllBecome-more [] (i ∷ items) p item same all one = absurd (omega arith)
-CanAllBecome-more (q ∷ ps) [] p item same all one = absurd (omega arith)
 CanAllBecome-more (q ∷ ps) (i ∷ items) p item same all one = (all.0, CanAllBecome-more ps items p item (omega arith) all.1 one)
+CanAllBecome-more ps items p item same all one = absurd (omega arith)
 
 -- one item less, from the end
 pub last_within : (left ps : List (Option Passed)) (p : Option Passed) (items : List Pending) → left ≡ ps ++ p ∷ [] → CanAllBecome left items → length ps < length items
@@ -126,9 +122,7 @@ record LastBecomes (ps : List (Option Passed)) (p : Option Passed) (items : List
   pub same : new ≡ item_became p (get_or items (length ps) item) → all_became ps (set items (length ps) new) ≡ all_became (ps ++ p ∷ []) items
 
 last_becomes : (ps : List (Option Passed)) (p : Option Passed) (items : List Pending) (item new : Pending) → CanAllBecome (ps ++ p ∷ []) items → LastBecomes ps p items item new
-last_becomes [] p [] item new all = absurd all
 last_becomes [] p (i ∷ items) item new all = record { fits = all.0; rest_fits = tt; same = λ is. ap (λ (j : Pending). j ∷ items) is }
-last_becomes (q ∷ ps) p [] item new all = absurd all
 last_becomes (q ∷ ps) p (i ∷ items) item new all =
     let rest = last_becomes ps p items item new all.1 in
     record {
@@ -136,6 +130,7 @@ last_becomes (q ∷ ps) p (i ∷ items) item new all =
       rest_fits = (all.0, rest.rest_fits);
       same = λ is. ap (λ (is : List Pending). item_became q i ∷ is) (rest.same is);
     }
+last_becomes ps p items item new all = absurd all
 
 pub record LastPut (left ps : List (Option Passed)) (p : Option Passed) (items : List Pending) (place : ℕ) (item new : Pending) : Type 0 where
   pub fits : ItemCanBecome p item

@@ -2,13 +2,9 @@
 use Rattle.std.proofs.Common.{◌≡◌, ℕ, ◌^◌, ◌<◌, ◌≤◌, true, List, [], ◌∷◌, length, take, refl, ap, sym, ◌∙◌, arith, Result, Ok}
 use Rattle.sporc_client.proofs.Common.{Contains, is_some, count_by-le-length, height_of, Device, key_of, Entry, Genesis, Header, MAX_SIGNATURE, header_len, IsHeader, author_device, body_limit}
 use Rattle.sporc_client.proofs.Common.{counted_bytes, header_bytes, IsGenesis, genesis_bytes, header_again, MAX_ENTRIES, hash_of, is_by, roster_of, epoch_le, Pending, Chosen, kind_of, next_header}
-use Rattle.sporc_client.proofs.Common.{Submit, PlainClient, me_of, Setup, World, Signing, Move, Happen, start, after, after_all, May, IsRun, IsReached, IsWellFormed, line_of}
-use Rattle.sha2.proofs.Facts256.{length-sha256}
-use Rattle.lms_tree.specs.declared.lms_type.LmsType.{LmsType}
-use Rattle.lms_tree.specs.declared.lms_type.LmsType.TheVariants.{H5}
+use Rattle.sporc_client.proofs.Common.{Submit, PlainClient, me_of, Setup, World, Signing, Move, Happen, start, after, after_all, May, IsRun, IsReached, IsWellFormed, line_of, length-sha256, LmsType}
+use Rattle.sporc_client.proofs.Common.{H5, Reading, ◌>>=◌, counted_at, end_at, bind_ok, ok_is}
 use Rattle.sporc_hash.specs.Chain.{genesis_string, genesis_value, link_string, next_value, value_after}
-use Rattle.sporc_bytes.specs.Fields.{Reading, ◌>>=◌, counted_at, end_at}
-use Rattle.sporc_bytes.proofs.Fields.{bind_ok, ok_is}
 use Rattle.sporc_entry.specs.Entry.{body_read, entry_bytes, entry_of}
 use Rattle.sporc_client.specs.declared.pending.Pending.TheVariants.{Edit}
 use Rattle.sporc_client.specs.Entries.{entry_made}
@@ -91,7 +87,7 @@ next_is_header s who c leaf item well reached room within live =
     }
 
 pub made_header : (s : Setup) (who : Device) (c : PlainClient) (bytes : List ℕ) → IsWellFormed s → IsReached s who c → (makes : IsMadeBy c bytes) → IsHeader (next_header (line_of c) makes.entry.header.leaf makes.item)
-made_header s who c bytes well reached makes = next_is_header s who c makes.entry.header.leaf makes.item well reached makes.due.room makes.leaf makes.due.live
+made_header s who c bytes well reached makes = next_is_header s who c makes.entry.header.leaf makes.item well reached makes.due.head.room makes.leaf makes.due.head.live
 
 -- the bytes that are made begin with the header
 made_bytes : (c : PlainClient) (chosen : Chosen) (item : Pending) → (rest : List ℕ) × (entry_bytes (entry_made c chosen item) ≡ header_bytes (next_header (line_of c) chosen.leaf item) rest)

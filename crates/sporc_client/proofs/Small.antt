@@ -1,15 +1,18 @@
 -- Each event keeps the limits.
-use Rattle.std.proofs.Common.{◌≡◌, ℕ, suc, ◌+◌, ◌*◌, ◌^◌, ◌<◌, ◌≤◌, List, [], ◌∷◌, ◌++◌, length, drop, fold, refl, ap, arith, length-append, None, Option}
+use Rattle.std.proofs.Common.{◌≡◌, ℕ, suc, ◌+◌, ◌*◌, ◌^◌, ◌<◌, ◌≤◌, List, [], ◌∷◌, ◌++◌, length, drop, fold, refl, ap, arith, length-append, None, Option, Some, Ok}
 use Rattle.sporc_client.proofs.Common.{w64, to_be_bytes, encode_utf8_all, Part, delta_bytes, part_bytes, parts_bytes, Mark, apply, remove_marks, inserted_len, insert_marks, replacement, keep_marks}
 use Rattle.sporc_client.proofs.Common.{marks_of, part_marks, runs, earlier, inserted_len-earlier, inserted_len-later, out_len-le, all_inserted, all_inserted-append, MAX_ENTRIES}
 use Rattle.sporc_client.proofs.Common.{inserted_len-keep_marks, inserted_len-append, inserted_len-remove_marks, inserted_len-insert_marks, inserted_len-over, length-apply, MemberChange}
 use Rattle.sporc_client.proofs.Common.{MAX_EDIT_BYTES, MAX_EVENTS, MAX_HEAD_BYTES, MAX_PENDING, MAX_SHOWN_LEN, Pending, Edit, Change, Discard, Dropped, PlainClient, after_pending, committed_of}
-use Rattle.sporc_client.proofs.Common.{shown_of, AreStated, beyond, inserted_by, rebased, AreShort, IsSmall, restated, step, keeps, ChangeFault, length-drop, text_of}
+use Rattle.sporc_client.proofs.Common.{shown_of, AreStated, beyond, inserted_by, rebased, AreShort, IsSmall, restated, step, keeps, ChangeFault, length-drop, text_of, later_over, from_end, ChangeBody}
+use Rattle.sporc_client.proofs.Common.{Entry, Genesis, MAX_EDIT_BODY, change_of, entry_of, Kit, epoch_key, edit_marks, stream_of, forms_of, next_form, Good, Passes, good_front, last_passes}
+use Rattle.sporc_client.proofs.Common.{forms_push, change_form, edit_form, edit_over, forms_follow, length-text, reached-le, InsertText, marks_of-runs}
 use Rattle.std.proofs.Math.Nat.{mul-le-mul_left}
 use Rattle.std.proofs.lemmas.Str.{length-encode, len_utf8_bounds}
 use Rattle.std.specs.Char.{encode_utf8}
-use Rattle.sporc_delta.specs.declared.part.Part.TheVariants.{Keep, Insert as InsertText, Remove}
-use Rattle.sporc_delta.proofs.Runs.{marks_of-runs}
+use Rattle.sporc_delta.specs.declared.part.Part.TheVariants.{Keep, Remove}
+use Rattle.sporc_line.specs.Document.{forms_from}
+use Rattle.sporc_line.proofs.ReadLengths.{body_within, marks_within}
 use Rattle.sporc_client.specs.declared.pending.Pending.TheVariants as items
 
 -- ---- a delta inserts no more characters than it has bytes
@@ -134,3 +137,53 @@ pub discard_small : (c : PlainClient) (by : ℕ) → IsSmall c → length c.show
 discard_small c by small events =
     let form = replacement (length (shown_of c)) (committed_of c) in
     small_with c c.entries [] None form small small.entries small.committed (omega arith) tt events (omega (arith, inserted_len-replacement (length (shown_of c)) (committed_of c), (lengths c small).committed))
+
+-- ---- how long the text of a good history can be
+
+-- the marks of an edit insert no more than the longest body has bytes
+edit_within : (key : Option (List ℕ)) (bytes : List ℕ) (e : Entry) (marks : List Mark) → entry_of bytes ≡ Ok e → edit_marks key e ≡ Some marks → inserted_len marks ≤ MAX_EDIT_BODY
+edit_within None bytes e marks is has = absurd cc
+edit_within (Some key) bytes e marks is has = omega (arith, marks_within key (stream_of e.header) e.body marks has, body_within bytes e is)
+
+-- the form of an entry that passes
+pub next_within : (g : Genesis) (kit : Kit) (A : List (List ℕ)) (b : List ℕ) (e : Entry) → entry_of b ≡ Ok e → Passes g kit A (length A + 1) e → inserted_len (next_form g kit A b) ≤ MAX_EDIT_BODY
+next_within g kit A b e is p = go (change_of e) refl
+  where
+    go : (o : Option ChangeBody) → change_of e ≡ o → inserted_len (next_form g kit A b) ≤ MAX_EDIT_BODY
+    go None none =
+        let marks = edit_over g kit A (length A + 1) e p none in
+        let form : next_form g kit A b ≡ later_over marks.0 (drop e.header.base (forms_of g kit A)) = edit_form g kit A b e marks.0 is none marks.1 in
+        let within = edit_within (epoch_key g kit A e.header.epoch) b e marks.0 is marks.1 in
+        omega (arith, ap inserted_len form, inserted_len-over marks.0 (drop e.header.base (forms_of g kit A)), within)
+    go (Some body) some = omega (arith, ap inserted_len (change_form g kit A b e body is some), inserted_len-keep_marks (length (text_of g kit A)))
+
+abbrev FewInserted : Genesis → Kit → List (List ℕ) → Type 0
+FewInserted g kit A = Good g kit A → all_inserted (forms_of g kit A) ≤ MAX_EDIT_BODY * length A
+
+few_none : (g : Genesis) (kit : Kit) → FewInserted g kit []
+unfolding forms_from
+few_none g kit good = omega arith
+
+few_push : (g : Genesis) (kit : Kit) (A : List (List ℕ)) (b : List ℕ) → FewInserted g kit A → FewInserted g kit (A ++ b ∷ [])
+few_push g kit A b before good =
+    let p = last_passes g kit A b good in
+    let forms = forms_of g kit A in
+    let form = next_form g kit A b in
+    omega (
+      arith,
+      before (good_front g kit A b good),
+      next_within g kit A b p.0 p.1 p.2,
+      ap all_inserted (forms_push g kit A b good),
+      all_inserted-append forms (form ∷ []),
+      length-append A (b ∷ []),
+    )
+
+pub few_inserted : (g : Genesis) (kit : Kit) (A : List (List ℕ)) → Good g kit A → all_inserted (forms_of g kit A) ≤ MAX_EDIT_BODY * length A
+few_inserted g kit = from_end (FewInserted g kit) (few_none g kit) (few_push g kit)
+
+-- each entry adds no more characters to the text than the longest body has bytes
+pub length-text_of : (g : Genesis) (kit : Kit) (A : List (List ℕ)) → Good g kit A → length (text_of g kit A) ≤ MAX_EDIT_BODY * length A
+length-text_of g kit A good =
+    let few = few_inserted g kit A good in
+    let follow = forms_follow g kit A good in
+    omega (arith, few, length-text (forms_of g kit A) follow, reached-le 0 (forms_of g kit A) follow)

@@ -1,44 +1,152 @@
 -- Each client of a run of typed moves is sound, at each moment: the entry that it makes of a pending item is read as it was made.
-use Rattle.std.proofs.Common.{◌≡◌, ℕ, ◌≤◌, false, List, [], ◌∷◌, length, drop, refl, ap, sym, ◌∙◌, subst, arith, Option, None, Some, IfSome, ◌+◌, Bool, true, cond, take}
-use Rattle.sporc_client.proofs.Common.{unwrap_or, is_some, AllByRecursion, result_ok, drop_all, drop_at, length-drop, length-take-le, length-map, Device, IsBytes, mask_from-mask_from, Spells}
-use Rattle.sporc_client.proofs.Common.{delta_bytes, HaveSpellings, Mark, base_len, later_over, MemberChange, Entry, Header, IsChangeBody, IsEntry, entry_takes, Keys, Sealing, entry_stream, stream_of}
-use Rattle.sporc_client.proofs.Common.{epoch_of, is_removed, changes, roster_of, change_in, epoch_key, Good, Meets, edit_marks, forms_of, length-forms, keys_meet, Pending, due, new_key_in}
-use Rattle.sporc_client.proofs.Common.{randomizer_in, can_log, can_log_all, Chosen, current_key, next_header, sealing_of, Opening, PlainClient, committed_of, me_of, opened, AreStated, Setup, World}
-use Rattle.sporc_client.proofs.Common.{Move, Open, Happen, Give, Restart, start, after, after_all, IsAt, IsRun, May, opening_of, IsReached, IsEditOf, IsEntryOf, IsInFlight, IsOfFirst, IsSound}
-use Rattle.sporc_client.proofs.Common.{restated, accepted, change_comes, edit_comes, form_coming, is_flight, log_of_entries, own_comes, replay_from, step, AreEpochKeys, IsTypedChange, IsTypedEvent}
-use Rattle.sporc_client.proofs.Common.{IsTypedMove, IsTypedRun, IsWellFormed, lms_signature_of, after_change, IsGenesis, version_of, Part, runs, Member, IsSpelled, and_parts, good_take, refusal_of}
-use Rattle.sporc_client.proofs.Common.{Logged, line_of}
-use Rattle.sporc_cipher.specs.Mask.{mask_of}
+use Rattle.std.proofs.Common.{◌≡◌, ℕ, ◌≤◌, false, List, [], ◌∷◌, length, drop, refl, ap, sym, ◌∙◌, subst, arith, Option, None, Some, IfSome, ◌+◌, Bool, true, cond, take, ◌&&◌, length-append}
+use Rattle.sporc_client.proofs.Common.{unwrap_or, is_some, AllByRecursion, result_ok, drop_all, drop_at, length-drop, length-take-le, length-map, Device, IsBytes, mask_from-mask_from}
+use Rattle.sporc_client.proofs.Common.{Spells, delta_bytes, HaveSpellings, Mark, base_len, later_over, MemberChange, Entry, Header, IsChangeBody, IsEntry, entry_takes, Keys, Sealing}
+use Rattle.sporc_client.proofs.Common.{entry_stream, stream_of, epoch_of, is_removed, changes, roster_of, change_in, epoch_key, Good, Meets, edit_marks, forms_of, length-forms, keys_meet}
+use Rattle.sporc_client.proofs.Common.{Pending, due, new_key_in, randomizer_in, can_log, can_log_all, Chosen, current_key, next_header, sealing_of, Opening, PlainClient, committed_of, me_of}
+use Rattle.sporc_client.proofs.Common.{opened, AreStated, Setup, World, Move, Open, Happen, Give, Restart, start, after, after_all, IsAt, IsRun, May, opening_of, IsReached, IsEditOf}
+use Rattle.sporc_client.proofs.Common.{IsEntryOf, IsInFlight, IsOfFirst, IsSound, restated, accepted, change_comes, edit_comes, form_coming, is_flight, log_of_entries, own_comes}
+use Rattle.sporc_client.proofs.Common.{replay_from, step, AreEpochKeys, IsTypedChange, IsTypedEvent, IsTypedMove, IsTypedRun, IsWellFormed, lms_signature_of, after_change, IsGenesis}
+use Rattle.sporc_client.proofs.Common.{version_of, Part, runs, Member, IsSpelled, and_parts, good_take, refusal_of, Logged, line_of, mask_of, IsTypedPart, change_body_again, all_append}
+use Rattle.sporc_client.proofs.Common.{flat_map, w64, to_be_bytes, all_scalars, encode_utf8_all, and_from, MAX_COUNT, HasSpelling, part_bytes, parts_bytes, marks_of, part_marks, earlier}
+use Rattle.sporc_client.proofs.Common.{last_steps, later, later_step, base_len-append, base_len-remove_marks, base_len-keep_marks, rebased, KeepRun, InsertText, RemoveRun, IsTypedDelta}
+use Rattle.sporc_client.proofs.Common.{marks_of-runs, Insert, Keep}
 use Rattle.sporc_delta.specs.Reading.{read_delta}
 use Rattle.sporc_delta.proofs.Grammar.{spelled_is_read}
 use Rattle.sporc_entry.specs.Entry.{change_of, signed_string}
 use Rattle.sporc_epoch.specs.Sealing.{body_sealed}
 use Rattle.sporc_line.specs.Document.{forms_from}
-use Rattle.sporc_client.specs.declared.pending.Pending.TheVariants as items
 use Rattle.sporc_client.specs.Allowed.{is_allowed}
 use Rattle.sporc_client.specs.Entries.{entry_made}
 use Rattle.sporc_client.specs.Step.{replay}
-use Rattle.sporc_client.proofs.SameSpelling.{entry_same}
+use Rattle.sporc_client.proofs.TypedHistories.{entry_same, changes_typed, key_size, small_change, small_roster, body_typed}
 use Rattle.sporc_client.proofs.SignedEntries.{header_made}
-use Rattle.sporc_client.proofs.Spellings.{AreTypedItems, HasScalars, scalars_of, spelled, IsTypedItem, over_scalars, typed_rebased}
 use Rattle.sporc_client.proofs.Submitting.{IsDue, IsMadeBy, chosen_in, made_by_submission}
-use Rattle.sporc_client.proofs.TextLengths.{length-text_of}
+use Rattle.sporc_client.proofs.Small.{length-text_of}
 use Rattle.sporc_client.proofs.HonestChanges.{new_key_size, numbers_small, sealed_change_of}
 use Rattle.sporc_client.proofs.HonestSignatures.{signature_len}
-use Rattle.sporc_client.proofs.TypedHistories.{changes_typed, key_size, small_change, small_roster, body_typed}
-use Rattle.sporc_delta.specs.declared.part.Part.TheVariants.{Keep, Insert, Remove}
-use Rattle.sporc_delta.specs.Typed.{IsTypedPart}
+use Rattle.sporc_delta.specs.Marks.{Remove}
 use Rattle.sporc_epoch.proofs.SpelledBodies.{body_spelled}
 use Rattle.sporc_client.proofs.SubmitRosters.{change_written, few_after, few_members, kind_written}
-use Rattle.sporc_entry.proofs.ChangeLaws.{change_body_again}
-use Rattle.sporc_base.proofs.ListLemmas.{all_append}
-use Rattle.sporc_client.specs.Log as events
 use Rattle.sporc_client.proofs.AllItems.{all_rest, all_take}
-use Rattle.sporc_client.proofs.Worlds.{restarted}
+use Rattle.sporc_client.proofs.Reached.{restarted, AllClients, AllReached, Keeps, after_keeps, reached_after, reached_opened, reached_start, run_front}
 use Rattle.sporc_client.proofs.AcceptedHistories.{accept_passes, accepts_all}
-use Rattle.sporc_client.proofs.Kept.{IsOfItem, accepted_as, event_sound}
+use Rattle.sporc_client.proofs.Events.{IsOfItem, accepted_as, event_sound}
 use Rattle.sporc_client.proofs.Soundness.{accepted_sound}
-use Rattle.sporc_client.proofs.Reached.{AllClients, AllReached, Keeps, after_keeps, reached_after, reached_opened, reached_start, run_front}
+use Rattle.sporc_delta.proofs.Typing.{inserted, inserted-append, inserted-remove_marks, inserted-insert_marks, inserted-keep_marks, scalars_append}
+use Rattle.sporc_client.specs.declared.pending.Pending.TheVariants.{Edit, Change}
+use Rattle.sporc_client.specs.declared.pending.Pending.TheVariants as items
+use Rattle.sporc_client.specs.Log as events
+
+-- ---- the characters that a delta inserts
+
+abbrev pub HasScalars : List Mark → Type 0
+HasScalars marks = all_scalars (inserted marks) ≡ true
+
+scalars_of_parts : (ps : List Part) → AllByRecursion IsTypedPart ps → HasScalars (marks_of ps)
+scalars_of_parts [] typed = refl
+scalars_of_parts (p ∷ ps) typed =
+    ap all_scalars (inserted-append (part_marks p) (marks_of ps)) ∙ scalars_append (inserted (part_marks p)) (inserted (marks_of ps))
+    ∙ and_from (all_scalars (inserted (part_marks p))) (all_scalars (inserted (marks_of ps))) (of_part p typed.0) (scalars_of_parts ps typed.1)
+  where
+    of_part : (p : Part) → IsTypedPart p → all_scalars (inserted (part_marks p)) ≡ true
+    of_part (KeepRun n) typed = ap all_scalars (inserted-keep_marks n)
+    of_part (InsertText text) typed = ap all_scalars (inserted-insert_marks text) ∙ typed.1
+    of_part (RemoveRun n) typed = ap all_scalars (inserted-remove_marks n)
+
+pub scalars_of : (marks : List Mark) → IsTypedDelta marks → HasScalars marks
+scalars_of marks typed = subst HasScalars (marks_of-runs marks) (scalars_of_parts (runs marks) typed)
+
+-- ---- a delta that passes another inserts what it inserted
+
+scalar_front : (c : ℕ) (text : List ℕ) (rest : List ℕ) → all_scalars (c ∷ text) ≡ true → (all_scalars text ≡ true → all_scalars rest ≡ true) → all_scalars (c ∷ rest) ≡ true
+scalar_front c text rest all more =
+    let split : (all_scalars (c ∷ []) && all_scalars text) ≡ true = sym (scalars_append (c ∷ []) text) ∙ all in
+    let p = and_parts (all_scalars (c ∷ [])) (all_scalars text) split in
+    scalars_append (c ∷ []) rest ∙ and_from (all_scalars (c ∷ [])) (all_scalars rest) p.0 (more p.1)
+
+last_scalars : (q : List Mark) → HasScalars q → HasScalars (flat_map later_step (last_steps q))
+last_scalars (Insert c ∷ q) h = scalar_front c (inserted q) (inserted (flat_map later_step (last_steps q))) h (last_scalars q)
+last_scalars q h = refl
+
+abbrev KeepsScalars : List Mark → Type 0
+KeepsScalars p = (q : List Mark) → HasScalars q → HasScalars (later q p)
+
+keep_scalars : (p : List Mark) → KeepsScalars p → KeepsScalars (Keep ∷ p)
+keep_scalars p before [] h = refl
+keep_scalars p before (Insert c ∷ q) h = scalar_front c (inserted q) (inserted (later q (Keep ∷ p))) h (keep_scalars p before q)
+keep_scalars p before (Keep ∷ q) h = before q h
+keep_scalars p before (Remove ∷ q) h = before q h
+
+remove_scalars : (p : List Mark) → KeepsScalars p → KeepsScalars (Remove ∷ p)
+remove_scalars p before [] h = refl
+remove_scalars p before (Insert c ∷ q) h = scalar_front c (inserted q) (inserted (later q (Remove ∷ p))) h (remove_scalars p before q)
+remove_scalars p before (Keep ∷ q) h = before q h
+remove_scalars p before (Remove ∷ q) h = before q h
+
+pub later_scalars : (p : List Mark) → KeepsScalars p
+later_scalars [] q h = last_scalars q h
+later_scalars (Insert c ∷ p) q h = later_scalars p q h
+later_scalars (Keep ∷ p) q h = keep_scalars p (later_scalars p) q h
+later_scalars (Remove ∷ p) q h = remove_scalars p (later_scalars p) q h
+
+pub over_scalars : (q : List Mark) (forms : List (List Mark)) → HasScalars q → HasScalars (later_over q forms)
+over_scalars q [] h = h
+over_scalars q (form ∷ forms) h = over_scalars (later q form) forms (later_scalars form q h)
+
+-- ---- pending items
+
+-- each edit's characters are Unicode scalar values, and each change is typed
+abbrev pub IsTypedItem : Pending → Type 0
+IsTypedItem (Edit marks) = HasScalars marks
+IsTypedItem (Change change) = IsTypedChange change
+
+abbrev pub AreTypedItems : List Pending → Type 0
+AreTypedItems items = AllByRecursion IsTypedItem items
+
+pub typed_rebased : (form : List Mark) (pending : List Pending) → AreTypedItems pending → AreTypedItems (rebased form pending)
+typed_rebased form [] all = tt
+typed_rebased form (Edit m ∷ items) all = (later_scalars form m all.0, typed_rebased (earlier form m) items all.1)
+typed_rebased form (Change c ∷ items) all = (all.0, typed_rebased form items all.1)
+
+-- ---- spellings
+
+-- a delta of a text that isn't too long, with few bytes
+pub record IsShort (marks : List Mark) (bytes : List ℕ) : Type 0 where
+  pub base : base_len marks ≤ MAX_COUNT
+  pub size : length bytes ≤ MAX_COUNT
+  pub scalars : HasScalars marks
+
+part_spelled : (p : Part) → IsShort (part_marks p) (part_bytes p) → HasSpelling p
+part_spelled (KeepRun n) short = omega (arith, short.base, base_len-keep_marks n)
+part_spelled (RemoveRun n) short = omega (arith, short.base, base_len-remove_marks n)
+part_spelled (InsertText text) short = (
+  ap all_scalars (sym (inserted-insert_marks text)) ∙ short.scalars,
+  omega (arith, short.size, length-append (to_be_bytes w64 (length (encode_utf8_all text))) (encode_utf8_all text)),
+)
+
+parts_spelled : (ps : List Part) → IsShort (marks_of ps) (parts_bytes ps) → HaveSpellings ps
+parts_spelled [] short = tt
+parts_spelled (p ∷ ps) short =
+    let scalars = and_parts (all_scalars (inserted (part_marks p))) (all_scalars (inserted (marks_of ps)))
+    (sym (scalars_append (inserted (part_marks p)) (inserted (marks_of ps))) ∙ ap all_scalars (sym (inserted-append (part_marks p) (marks_of ps))) ∙ short.scalars) in (
+      part_spelled p (record {
+        base = omega (arith, short.base, base_len-append (part_marks p) (marks_of ps));
+        size = omega (arith, short.size, length-append (part_bytes p) (parts_bytes ps));
+        scalars = scalars.0;
+      }),
+      parts_spelled ps (record {
+        base = omega (arith, short.base, base_len-append (part_marks p) (marks_of ps));
+        size = omega (arith, short.size, length-append (part_bytes p) (parts_bytes ps));
+        scalars = scalars.1;
+      }),
+    )
+
+pub spelled : (marks : List Mark) → IsShort marks (delta_bytes marks) → Spells marks (delta_bytes marks)
+spelled marks short = record {
+  in_range = parts_spelled (runs marks) (subst (λ (ms : List Mark). IsShort ms (delta_bytes marks)) (sym (marks_of-runs marks)) short);
+  bytes_are = refl;
+}
 
 pub header_of_made : (c : PlainClient) (chosen : Chosen) (item : Pending) → (entry_made c chosen item).header ≡ next_header (line_of c) chosen.leaf item
 unfolding entry_made
@@ -114,12 +222,12 @@ current_size c known has =
 pub spelled_due : (c : PlainClient) (marks : List Mark) → IsSound c → HasScalars marks → (due : IsDue c (items.Edit marks)) → Spells marks (delta_bytes marks)
 spelled_due c marks sound scalars due =
     let S : List Pending → Type 0 = λ ps. AreStated (committed_of c) ps in
-    let base : base_len marks ≡ length (committed_of c) = (subst S due.first sound.stated).0 in
+    let base : base_len marks ≡ length (committed_of c) = (subst S due.head.first sound.stated).0 in
     let long = length-text_of c.opening.genesis c.opening.kit c.entries sound.good in
-    spelled marks (record { base = omega (arith, base, long, due.room); size = omega (arith, due.fits); scalars = scalars })
+    spelled marks (record { base = omega (arith, base, long, due.head.room); size = omega (arith, due.fits); scalars = scalars })
 
 pub edit_spelled : (c : PlainClient) (marks : List Mark) → IsSound c → AreTypedItems c.pending → (due : IsDue c (items.Edit marks)) → Spells marks (delta_bytes marks)
-edit_spelled c marks sound typed due = spelled_due c marks sound (subst AreTypedItems due.first typed).0 due
+edit_spelled c marks sound typed due = spelled_due c marks sound (subst AreTypedItems due.head.first typed).0 due
 
 -- and is read again under the key of the epoch
 pub reads_edit : (c : PlainClient) (chosen : Chosen) (marks : List Mark) → HasKey c → Spells marks (delta_bytes marks)
@@ -168,9 +276,9 @@ change_made_is c chosen change is = ap result_ok (change_body_again (version_of 
 
 parts_typed : (ps : List Part) → HaveSpellings ps → AllByRecursion IsTypedPart ps
 parts_typed [] all = tt
-parts_typed (Keep n ∷ ps) all = (omega (arith, all.0), parts_typed ps all.1)
-parts_typed (Insert text ∷ ps) all = ((omega (arith, all.0.1), all.0.0), parts_typed ps all.1)
-parts_typed (Remove n ∷ ps) all = (omega (arith, all.0), parts_typed ps all.1)
+parts_typed (KeepRun n ∷ ps) all = (omega (arith, all.0), parts_typed ps all.1)
+parts_typed (InsertText text ∷ ps) all = ((omega (arith, all.0.1), all.0.0), parts_typed ps all.1)
+parts_typed (RemoveRun n ∷ ps) all = (omega (arith, all.0), parts_typed ps all.1)
 
 pub due_spelled : (s : Setup) (who : Device) (c : PlainClient) (chosen : Chosen) (item : Pending) → IsWellFormed s → IsReached s who c → IsSoundAndTyped c → length chosen.new_key ≡ 32 → IsDue c item
     → IsSpelled (line_of c) chosen.leaf chosen.new_key item
@@ -180,19 +288,19 @@ due_spelled s who c chosen (items.Change change) well reached known size due =
     let is : IsGenesis g = subst (λ (o : Opening). IsGenesis o.genesis) (sym reached.opening) well.genesis in
     let roster = roster_of g c.entries in
     let few = few_members g c.opening.kit c.entries is reached.good in
-    let typed : IsTypedChange change = (subst AreTypedItems due.first known.typed).0 in
+    let typed : IsTypedChange change = (subst AreTypedItems due.head.first known.typed).0 in
     let written = change_written roster change few due.fits.0 typed in
     let sealing = sealing_of (line_of c) chosen.leaf chosen.new_key change in
     let members = (after_change roster change).members in
     let small = numbers_small members (small_change roster change written (small_roster g c.entries is.founders known.bytes)) in
     body_spelled (version_of roster.upgraded) sealing c.opening.kit.pairs (body_sealed sealing c.opening.kit.pairs) (sealed_change_of sealing c.opening.kit.pairs due.fits.1) (kind_written roster change due.fits.0) written
-    (current_size c known (key_there c reached.good due.not_removed)) size small
+    (current_size c known (key_there c reached.good due.head.not_removed)) size small
     (omega (arith, length-map members (λ (m : Member). m.member), (few_after roster change few due.fits.0).few))
 
 -- ---- so the entry is that of the item
 
 pub item_of : (c : PlainClient) (chosen : Chosen) (item : Pending) → IsSound c → IsSpelled (line_of c) chosen.leaf chosen.new_key item → IsDue c item → IsEntryOf c (entry_made c chosen item) item
-item_of c chosen (items.Edit marks) sound typed due = edit_made c chosen marks (key_there c sound.good due.not_removed) (spelled_due c marks sound (scalars_of marks typed) due)
+item_of c chosen (items.Edit marks) sound typed due = edit_made c chosen marks (key_there c sound.good due.head.not_removed) (spelled_due c marks sound (scalars_of marks typed) due)
 item_of c chosen (items.Change change) sound is due = record {
   body = body_sealed (sealing_of (line_of c) chosen.leaf chosen.new_key change) c.opening.kit.pairs;
   reads = change_made_is c chosen change is;
@@ -209,7 +317,7 @@ made_in_flight s who c bytes well reached known typed makes =
     let of = subst (λ (e : Entry). IsEntryOf c e makes.item) (sym read.1) (item_of c chosen makes.item known.sound spelled makes.due) in
     let base : makes.entry.header.base ≡ length c.entries = ap (λ (h : Header). h.base) header in
     let epoch : makes.entry.header.epoch ≡ epoch_of c.entries = ap (λ (h : Header). h.epoch) header in
-    record { entry = makes.entry; reads = makes.reads; base = omega (arith, base); epoch = omega (arith, epoch); first = subst (IsOfFirst c makes.entry) (sym makes.due.first) of }
+    record { entry = makes.entry; reads = makes.reads; base = omega (arith, base); epoch = omega (arith, epoch); first = subst (IsOfFirst c makes.entry) (sym makes.due.head.first) of }
 
 -- ---- each event keeps a client sound
 

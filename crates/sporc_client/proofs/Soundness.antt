@@ -13,8 +13,7 @@ use Rattle.sporc_client.proofs.Shown.{LeadTo, apply-replacement, apply-keep_mark
 use Rattle.std.specs.Option.{is_none, is_some}
 use Rattle.sporc_client.specs.Allowed.{can_log}
 use Rattle.sporc_client.specs.Answers.{accept_fault}
-use Rattle.sporc_client.proofs.Small.{inserted_len-beyond, keeps_few, length-rebased, short_drop, short_rebased, small_with}
-use Rattle.sporc_client.proofs.TextLengths.{next_within}
+use Rattle.sporc_client.proofs.Small.{inserted_len-beyond, keeps_few, length-rebased, short_drop, short_rebased, small_with, next_within}
 use Rattle.sporc_suffix.proofs.Composed.{later_over-append}
 
 -- ---- pending items
@@ -196,8 +195,6 @@ other_change_sound c bytes e body sound reads is fault =
 -- another's edit comes: the entry on its way passes it as the first pending item does
 first_passes : (c : PlainClient) (bytes : List ℕ) (e : Entry) (pending : List Pending) → Comes c bytes → e.header.base ≤ length c.entries → e.header.epoch ≤ epoch_of c.entries
     → IsOfFirst c e pending → IsOfFirst (edit_comes c bytes) e (rebased (form_coming c bytes) pending)
-first_passes c bytes e [] come base epoch first = first
-first_passes c bytes e (items.Change change ∷ ps) come base epoch first = first
 first_passes c bytes e (items.Edit marks ∷ ps) come base epoch first =
     let g = c.opening.genesis in
     let kit = c.opening.kit in
@@ -213,6 +210,7 @@ first_passes c bytes e (items.Edit marks ∷ ps) come base epoch first =
           ∙ later_over-append first.held (drop e.header.base forms) (form_coming c bytes ∷ [])
           ∙ ap (λ (m : List Mark). later m (form_coming c bytes)) first.restated;
     }
+first_passes c bytes e pending come base epoch first = first
 
 epoch_more : (entries : List (List ℕ)) (bytes : List ℕ) → epoch_of entries ≤ epoch_of (entries ++ bytes ∷ [])
 epoch_more entries bytes = let e = ap length (changes_append entries (bytes ∷ [])) in omega (arith, e, length-append (changes entries) (changes (bytes ∷ [])))
@@ -320,18 +318,8 @@ accepted_small c bytes sound small fault room = go (is_flight c bytes) (is_some 
 
 or_full_none : (room : Bool) (refusal : Option Refusal) → room ≡ true → refusal ≡ None → is_none (or_full room refusal) ≡ true
 or_full_none true None a b = refl
-or_full_none false None a b = absurd cc
-or_full_none room (Some refusal) a b = absurd cc
+or_full_none room refusal a b = absurd cc
 
 pub allowed_accept : (c : PlainClient) (by : ℕ) (bytes : List ℕ) → NoFault c bytes → length c.shown < MAX_EVENTS → can_log c (Accept by bytes) ≡ true
 unfolding can_log accept_fault
 allowed_accept c by bytes fault room = or_full_none (journal_has_room c) (refusal_of c (length c.entries + 1) bytes) (lt-ltb (length c.shown) MAX_EVENTS room) fault
-
--- an entry whose acceptance is allowed is one that no check refuses
-pub accept_passes : (c : PlainClient) (by : ℕ) (bytes : List ℕ) → can_log c (Accept by bytes) ≡ true → refusal_of c (length c.entries + 1) bytes ≡ None
-unfolding can_log accept_fault
-accept_passes c by bytes may = go (refusal_of c (length c.entries + 1) bytes) may
-  where
-    go : (o : Option Refusal) → is_none (or_full (journal_has_room c) o) ≡ true → o ≡ None
-    go None h = refl
-    go (Some refusal) h = absurd cc

@@ -1,32 +1,37 @@
 -- The entry that a submission makes: it is read back, its client's log allows it, and it is that of the first pending item.
-use Rattle.std.proofs.Common.{◌≡◌, ℕ, ◌+◌, ◌*◌, ◌^◌, ◌<◌, ◌≤◌, true, List, [], ◌∷◌, ◌++◌, length, take, drop, refl, ap, sym, ◌∙◌, subst, arith, Option, None, Some, Ok, length-append, Result, Err, append_assoc}
-use Rattle.sporc_client.proofs.Common.{nat_lt, option_map, unwrap_or, IfOk, get, w16, to_be_bytes, w32, AllByRecursion, cons_option, flat_map, result_ok, and_from, lt-ltb, drop_at, length-take-le}
-use Rattle.sporc_client.proofs.Common.{take_at, append-nil, bytes_eq-Decides, height_of, lms_signature_of, length-mask_from, mask_from-mask_from, delta_bytes, Mark, MemberChange, Add, Remove, SetRole}
-use Rattle.sporc_client.proofs.Common.{AddDevice, DropDevice, Upgrade, member_at, ChangeBody, Entry, Header, MAX_CHANGE_BODY, MAX_EDIT_BODY, MAX_ENTRY, Wrap, IsChange, IsChangeBody, IsWrap}
-use Rattle.sporc_client.proofs.Common.{SpellsChange, change_bytes, wrap_bytes, IsEntry, IsHeader, body_limit, change_of, entry_of, counted_bytes, header_bytes, version_of, entry_again}
+use Rattle.std.proofs.Common.{◌≡◌, ℕ, ◌+◌, ◌^◌, ◌<◌, ◌≤◌, true, List, [], ◌∷◌, ◌++◌, length, take, drop, refl, ap, sym, ◌∙◌, subst, arith, Option, None, Some, Ok, length-append, Result, Err}
+use Rattle.sporc_client.proofs.Common.{nat_lt, option_map, unwrap_or, IfOk, get, to_be_bytes, w32, cons_option, result_ok, and_from, lt-ltb, drop_at, length-take-le}
+use Rattle.sporc_client.proofs.Common.{take_at, append-nil, bytes_eq-Decides, height_of, lms_signature_of, length-mask_from, mask_from-mask_from, delta_bytes, Mark, MemberChange}
+use Rattle.sporc_client.proofs.Common.{member_at, ChangeBody, Entry, Header, MAX_CHANGE_BODY, MAX_EDIT_BODY, MAX_ENTRY, Wrap, IsChangeBody, IsWrap}
+use Rattle.sporc_client.proofs.Common.{SpellsChange, IsEntry, IsHeader, body_limit, change_of, entry_of, counted_bytes, header_bytes, version_of, entry_again}
 use Rattle.sporc_client.proofs.Common.{length-counted_bytes, length-header_bytes, Keys, Sealing, least_unpaired, wraps_sealed, entry_stream, stream_of, epoch_of, roster_of, Pending, first_sealed}
 use Rattle.sporc_client.proofs.Common.{is_entry, is_made, new_key_in, new_key_of, randomizer_in, IsSpelled, IsSubmission, CanTake, Fits, Chosen, bytes_made, current_key, kind_of, next_header}
 use Rattle.sporc_client.proofs.Common.{sealing_of, unsigned_entry, body_of, PlainClient, me_of, IsInFlight, IsOfFirst, IsSound, Sign, answered, due, draw_fault, is_signing, LeafFault, LmsPrivate}
-use Rattle.sporc_client.proofs.Common.{LineModel, plain_of, WorkspaceModel, line_of}
-use Rattle.std.proofs.lemmas.List.Concat.{flat_map-cons}
-use Rattle.sporc_cipher.specs.Mask.{mask_of}
-use Rattle.sporc_member.specs.Role.{role_code_of}
+use Rattle.sporc_client.proofs.Common.{LineModel, plain_of, WorkspaceModel, line_of, and_parts, length-drop, IsBytes, Device, Submit, Setup, Move, IsAt, IsTypedRun, mask_of, Made}
+use Rattle.std.proofs.Common.{append_assoc}
+use Rattle.sporc_member.specs.Device.{IsMember}
 use Rattle.sporc_entry.specs.ChangeBody.{change_body_bytes}
+use Rattle.sporc_entry.proofs.BodyLengths.{length-body}
 use Rattle.sporc_entry.specs.Entry.{signed_string, entry_bytes}
 use Rattle.sporc_epoch.specs.Sealing.{body_sealed}
-use Rattle.sporc_client.specs.declared.pending.Pending.TheVariants as items
-use Rattle.sporc_client.specs.declared.submitted.Submitted.TheVariants as submitted
 use Rattle.sporc_client.specs.Entries.{entry_made}
 use Rattle.sporc_client.specs.Submissions.{submission}
-use Rattle.sporc_client.proofs.SoundRuns.{change_made_is, header_of_made, item_of}
+use Rattle.sporc_client.proofs.SoundRuns.{change_made_is, header_of_made, item_of, due_spelled, entry_read, shown_size, sound_and_typed_at}
 use Rattle.sporc_client.proofs.SubmitRosters.{paired_first, some_member}
 use Rattle.sporc_client.proofs.HonestSignatures.{shown_randomizer, signature_size}
-use Rattle.sporc_client.proofs.Submitting.{IsDue, is_due, is_there, signing}
+use Rattle.sporc_client.proofs.Submitting.{IsDue, is_due, is_there, signing, answer_is, made_by_submission, signs}
 use Rattle.sporc_entry.proofs.VersionLaws.{header_len-le}
-use Rattle.sporc_client.specs.declared.client.submitting.draft.Made.{Made}
 use Rattle.sporc_client.specs.Drafts.{AreCopies, IsDraft, prefix_bytes}
 use Rattle.sporc_entry.proofs.Written.{header_bytes-append}
 use Rattle.sporc_client.specs.declared.client.submitting.draft.Draft.{Draft}
+use Rattle.sporc_client.specs.Allowed.{can_log}
+use Rattle.sporc_client.specs.Makings.{CanMake}
+use Rattle.sporc_client.proofs.Reached.{reached_at}
+use Rattle.sporc_client.proofs.SignedEntries.{next_is_header}
+use Rattle.sporc_client.proofs.TypedHistories.{body_typed}
+use Rattle.sporc_client.proofs.HonestChanges.{new_key_size}
+use Rattle.sporc_client.specs.declared.pending.Pending.TheVariants as items
+use Rattle.sporc_client.specs.declared.submitted.Submitted.TheVariants as submitted
 
 -- a leaf and 64 random bytes
 abbrev pub chosen_by : List ℕ → ℕ → Chosen
@@ -47,63 +52,25 @@ first_size random size = length-take-le 32 random (omega (arith, size))
 -- ---- it has a spelling
 
 -- the body of a change isn't long
-length-change : (c : MemberChange) (rest : List ℕ) → IsChange c → length (change_bytes c rest) ≤ 60 + length rest
-length-change (Add member role key) rest is = omega (arith, is.1, length-append (to_be_bytes w16 member) (role_code_of role ∷ key ++ rest), length-append key rest)
-length-change (Remove member) rest is = omega (arith, length-append (to_be_bytes w16 member) rest)
-length-change (SetRole member role) rest is = omega (arith, length-append (to_be_bytes w16 member) (role_code_of role ∷ rest))
-length-change (AddDevice member device key) rest is = omega (arith, is.2, length-append (to_be_bytes w16 member) (device ∷ key ++ rest), length-append key rest)
-length-change (DropDevice member device) rest is = omega (arith, length-append (to_be_bytes w16 member) (device ∷ rest))
-length-change Upgrade rest is = omega arith
-
-length-wraps : (ws : List Wrap) → AllByRecursion IsWrap ws → length (flat_map wrap_bytes ws) ≡ 34 * length ws
-length-wraps [] all = refl
-length-wraps (w ∷ ws) all =
-    omega (
-      arith,
-      ap length (flat_map-cons wrap_bytes w ws),
-      length-append (wrap_bytes w) (flat_map wrap_bytes ws),
-      length-append (to_be_bytes w16 w.member) w.sealed,
-      all.0.sealed,
-      length-wraps ws all.1,
-    )
-
 pub change_body_size : (version : ℕ) (b : ChangeBody) → IsChangeBody version b → length (change_body_bytes b) ≤ MAX_CHANGE_BODY
-unfolding change_body_bytes
-change_body_size version b is =
-    let counted = to_be_bytes w16 (length b.wraps) ++ flat_map wrap_bytes b.wraps in
-    omega (
-      arith,
-      length-change b.change (b.commitment ++ (b.previous ++ counted)) is.change,
-      length-append b.commitment (b.previous ++ counted),
-      length-append b.previous counted,
-      length-append (to_be_bytes w16 (length b.wraps)) (flat_map wrap_bytes b.wraps),
-      length-wraps b.wraps is.wraps,
-      is.commitment,
-      is.previous,
-      is.count,
-    )
+change_body_size version b is = omega (arith, length-body IsMember (λ device. device < 2 ^ 8) IsWrap b is.change is.commitment is.previous (λ w is. is.sealed) is.wraps is.count)
 
 signature_is : (c : PlainClient) (chosen : Chosen) (item : Pending)
     → (entry_made c chosen item).signature ≡ lms_signature_of c.opening.key chosen.leaf chosen.randomizer (signed_string (unsigned_entry (line_of c) chosen.leaf chosen.new_key item))
 unfolding entry_made
 signature_is c chosen item = refl
 
-edit_limit : (c : PlainClient) (chosen : Chosen) (marks : List Mark) → length (delta_bytes marks) ≤ body_limit 1 → length (entry_made c chosen (items.Edit marks)).body ≤ body_limit (entry_made c chosen (items.Edit marks)).header.kind
+body_fits : (c : PlainClient) (chosen : Chosen) (item : Pending) → Fits (line_of c) item → IsSpelled (line_of c) chosen.leaf chosen.new_key item
+    → length (entry_made c chosen item).body ≤ body_limit (entry_made c chosen item).header.kind
 unfolding entry_made
-edit_limit c chosen marks few = omega (arith, few, length-mask_from (current_key (line_of c)) (entry_stream (me_of c) chosen.leaf) 0 (delta_bytes marks))
+body_fits c chosen (items.Edit marks) fits spelled = omega (arith, fits, length-mask_from (current_key (line_of c)) (entry_stream (me_of c) chosen.leaf) 0 (delta_bytes marks))
+body_fits c chosen (items.Change change) fits spelled = change_body_size (version_of (roster_of c.opening.genesis c.entries).upgraded) (body_sealed (sealing_of (line_of c) chosen.leaf chosen.new_key change) c.opening.kit.pairs) spelled
 
-change_limit : (c : PlainClient) (chosen : Chosen) (change : MemberChange) → IsChangeBody (version_of (roster_of c.opening.genesis c.entries).upgraded) (body_sealed (sealing_of (line_of c) chosen.leaf chosen.new_key change) c.opening.kit.pairs)
-    → length (entry_made c chosen (items.Change change)).body ≤ body_limit (entry_made c chosen (items.Change change)).header.kind
+change_spelled : (c : PlainClient) (chosen : Chosen) (item : Pending) → IsSpelled (line_of c) chosen.leaf chosen.new_key item → (entry_made c chosen item).header.kind ≡ 2
+    → SpellsChange (entry_made c chosen item).header.version (entry_made c chosen item).body
 unfolding entry_made
-change_limit c chosen change is = change_body_size (version_of (roster_of c.opening.genesis c.entries).upgraded) (body_sealed (sealing_of (line_of c) chosen.leaf chosen.new_key change) c.opening.kit.pairs) is
-
-edit_no_change : (c : PlainClient) (chosen : Chosen) (marks : List Mark) → (entry_made c chosen (items.Edit marks)).header.kind ≡ 2 → SpellsChange (entry_made c chosen (items.Edit marks)).header.version (entry_made c chosen (items.Edit marks)).body
-unfolding entry_made
-edit_no_change c chosen marks two = absurd (omega (arith, two))
-
-change_spelled : (c : PlainClient) (chosen : Chosen) (change : MemberChange) → IsChangeBody (version_of (roster_of c.opening.genesis c.entries).upgraded) (body_sealed (sealing_of (line_of c) chosen.leaf chosen.new_key change) c.opening.kit.pairs) → SpellsChange (entry_made c chosen (items.Change change)).header.version (entry_made c chosen (items.Change change)).body
-unfolding entry_made
-change_spelled c chosen change is = (body_sealed (sealing_of (line_of c) chosen.leaf chosen.new_key change) c.opening.kit.pairs, is, refl)
+change_spelled c chosen (items.Edit marks) spelled two = absurd (omega (arith, two))
+change_spelled c chosen (items.Change change) spelled two = (body_sealed (sealing_of (line_of c) chosen.leaf chosen.new_key change) c.opening.kit.pairs, spelled, refl)
 
 pub made_is_entry : (c : PlainClient) (random : List ℕ) (leaf : ℕ) (item : Pending) → IsMaking c random leaf item → IsEntry (entry_made c (chosen_by random leaf) item)
 made_is_entry c random leaf item m =
@@ -112,18 +79,10 @@ made_is_entry c random leaf item m =
     let string = signed_string (unsigned_entry (line_of c) chosen.leaf chosen.new_key item) in
     record {
       header = subst IsHeader (sym (header_of_made c chosen item)) m.header;
-      body = limit item m.is_due m.spelled;
-      change = changes item m.spelled;
+      body = body_fits c chosen item (is_due c item m.is_due).fits m.spelled;
+      change = change_spelled c chosen item m.spelled;
       signature = omega (arith, ap length (signature_is c chosen item), signature_size c.opening.key leaf (take 32 random) string (first_size random m.size) m.within);
     }
-  where
-    limit : (item : Pending) → due c ≡ Sign item → IsSpelled (line_of c) leaf (drop 32 random) item → length (entry_made c (chosen_by random leaf) item).body ≤ body_limit (entry_made c (chosen_by random leaf) item).header.kind
-    limit (items.Edit marks) is s = edit_limit c (chosen_by random leaf) marks (is_due c (items.Edit marks) is).fits
-    limit (items.Change change) is s = change_limit c (chosen_by random leaf) change s
-
-    changes : (item : Pending) → IsSpelled (line_of c) leaf (drop 32 random) item → (entry_made c (chosen_by random leaf) item).header.kind ≡ 2 → SpellsChange (entry_made c (chosen_by random leaf) item).header.version (entry_made c (chosen_by random leaf) item).body
-    changes (items.Edit marks) s two = edit_no_change c (chosen_by random leaf) marks two
-    changes (items.Change change) s two = change_spelled c (chosen_by random leaf) change s
 
 -- ---- it shows how it was made
 
@@ -152,7 +111,7 @@ shown_key c chosen change is is_due =
     let pairs = c.opening.kit.pairs in
     let s = sealing_of (line_of c) chosen.leaf chosen.new_key change in
     let e = entry_made c chosen (items.Change change) in
-    let some = some_member (roster_of c.opening.genesis c.entries) change (me_of c).member (is_there (kind_of (items.Change change)) (member_at (roster_of c.opening.genesis c.entries) (me_of c).member) is_due.right) is_due.fits.0 in
+    let some = some_member (roster_of c.opening.genesis c.entries) change (me_of c).member (is_there (kind_of (items.Change change)) (member_at (roster_of c.opening.genesis c.entries) (me_of c).member) is_due.head.right) is_due.fits.0 in
     let pair = paired_first pairs some.first some.others (subst (λ (ns : List ℕ). least_unpaired pairs ns ≡ None) some.are is_due.fits.1) in
     ap (λ (h : Header). new_key_of pairs (stream_of h) (change_of e)) (header_of_made c chosen (items.Change change))
     ∙ ap (new_key_of pairs (entry_stream (me_of c) chosen.leaf)) (change_made_is c chosen change is)
@@ -235,7 +194,7 @@ in_flight c random leaf item m =
       reads = read_again c random leaf item m;
       base = omega (arith, base);
       epoch = omega (arith, epoch);
-      first = subst (IsOfFirst c e) (sym due.first) (item_of c (chosen_by random leaf) item m.sound m.spelled due);
+      first = subst (IsOfFirst c e) (sym due.head.first) (item_of c (chosen_by random leaf) item m.sound m.spelled due);
     }
 
 pub made_is_submission : (c : PlainClient) (random : List ℕ) (leaf : ℕ) (item : Pending) → IsMaking c random leaf item → IsSubmission c leaf (bytes_made c (chosen_by random leaf) item)
@@ -253,7 +212,7 @@ same_head a b items others h = cc
 pub due_first : (c : PlainClient) (first : Pending) (rest : List Pending) → is_signing (due c) ≡ true → c.pending ≡ first ∷ rest → due c ≡ Sign first
 due_first c first rest h are =
     let s = signing c h in
-    let d = is_due c s.0 s.1 in
+    let d = (is_due c s.0 s.1).head in
     s.1 ∙ ap Sign (same_head s.0 first d.others rest (sym d.first ∙ are))
 
 -- no entry comes of it where no leaf is drawn
@@ -265,14 +224,14 @@ undrawn c random fault h = let s = signing c h in ap (answered c random (Err fau
 pub due_some : (c : PlainClient) → is_signing (due c) ≡ true → 0 < length c.pending
 due_some c h =
     let s = signing c h in
-    let d = is_due c s.0 s.1 in
+    let d = (is_due c s.0 s.1).head in
     omega (arith, ap length d.first)
 
 -- and its history can take it
 pub can_take : (key : LmsPrivate) (line : LineModel) (own : WorkspaceModel) (item : Pending) → due (plain_of key line own) ≡ Sign item → IsSound (plain_of key line own) → CanTake line item
 can_take key line own item h sound =
     let d = is_due (plain_of key line own) item h in
-    record { good = sound.good; room = omega (arith, d.room); not_removed = d.not_removed; live = d.live; fits = fits item d.fits }
+    record { good = sound.good; room = omega (arith, d.head.room); not_removed = d.head.not_removed; live = d.head.live; fits = fits item d.fits }
   where
     fits : (item : Pending) → Fits (record line { spare = 0 }) item → Fits line item
     fits (items.Edit marks) f = f
@@ -391,3 +350,46 @@ are_copies e n draft made signature signed is len same answer flight event =
       flight = flight ∙ ap (λ (bs : List ℕ). bs ++ signature) is.flight ∙ whole;
       event = event ∙ ap (λ (bs : List ℕ). bs ++ signature) is.event ∙ whole;
     }
+
+-- ---- a submission is allowed exactly if a leaf and random bytes make its entry
+
+-- ---- what is allowed can be made
+
+pub can_make : (s : Setup) (moves : List Move) (n by : ℕ) (who : Device) (c : PlainClient) (entry : List ℕ) → IsTypedRun s moves → IsAt s moves n who c → IsBytes entry → can_log c (Submit by entry) ≡ true → CanMake c entry
+unfolding can_log
+can_make s moves n by who c entry run at typed may =
+    let reached = reached_at s moves n who c run.run at in
+    let makes = made_by_submission c by entry may in
+    let read = entry_read s who c entry run.setup reached typed makes in
+    let e = makes.entry in
+    let shown = randomizer_in e ++ new_key_in c.opening.kit.pairs e in
+    let made : is_made c entry (Ok e) ≡ true = ap (is_made c entry) (sym makes.reads) ∙ may in
+    let parts = and_parts (nat_lt e.header.leaf (2 ^ height_of c.opening.key.lms)) (is_entry entry (submission c shown (Ok e.header.leaf))) made in
+    let first = shown_size c entry makes read.1 in
+    let second = new_key_size e.header.version c.opening.kit.pairs (stream_of e.header) (change_of e) (body_typed e read.0) in
+    record {
+      leaf = e.header.leaf;
+      within = makes.leaf;
+      random = shown;
+      size = omega (arith, length-append (randomizer_in e) (new_key_in c.opening.kit.pairs e), first, second);
+      answer = answer_is entry (submission c shown (Ok e.header.leaf)) parts.1;
+    }
+
+-- ---- and what can be made is allowed
+
+pub made_allowed : (s : Setup) (moves : List Move) (n by : ℕ) (who : Device) (c : PlainClient) (entry : List ℕ) → IsTypedRun s moves → IsAt s moves n who c → CanMake c entry → can_log c (Submit by entry) ≡ true
+unfolding can_log
+made_allowed s moves n by who c entry run at can =
+    let reached = reached_at s moves n who c run.run at in
+    let known = sound_and_typed_at s moves n who c run at in
+    let sign = signs c can.random can.leaf entry can.answer in
+    let due = is_due c sign.item sign.is_due in
+    let made = made_is_made c can.random can.leaf sign.item (record {
+      is_due = sign.is_due;
+      sound = known.sound;
+      size = can.size;
+      within = can.within;
+      header = next_is_header s who c can.leaf sign.item run.setup reached due.head.room can.within due.head.live;
+      spelled = due_spelled s who c (chosen_by can.random can.leaf) sign.item run.setup reached known (omega (arith, length-drop 32 can.random, can.size)) due;
+    }) in
+    subst (λ (bytes : List ℕ). is_made c bytes (entry_of bytes) ≡ true) sign.made made

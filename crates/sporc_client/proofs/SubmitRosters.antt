@@ -1,12 +1,11 @@
 -- The members of a good history: not too many, each with a number above 0. So a change that they accept can be written.
 use Rattle.std.proofs.Common.{◌≡◌, ℕ, ◌<◌, ◌≤◌, Bool, true, false, cond, List, [], ◌∷◌, ◌++◌, length, map, refl, ap, sym, ◌∙◌, subst, arith, Option, None, Some, Ok, Err, ◌≢◌, ◌+◌}
-use Rattle.sporc_client.proofs.Common.{filter, find, is_some, nat_lt, not, ◌==◌, ◌&&◌, fold, is_none, min, AllByRecursion, list_any, and_parts, eqb-false, eqb-true, ltb-true, not-true}
-use Rattle.sporc_client.proofs.Common.{first_of, length-map, from_end, MemberChange, Add, Remove, SetRole, AddDevice, DropDevice, Upgrade, ChangeFault, Device, Member, Roster, after_change}
-use Rattle.sporc_client.proofs.Common.{change_fault_of, device_by, insert_sorted, key_of_device, member_by, is_used, member_at, numbers_of, with_role, has_admin, has_role, first_device, same_device}
-use Rattle.sporc_client.proofs.Common.{passes, ChangeBody, Entry, Genesis, IsChange, change_of, entry_of, fits_version, has_kind, version_of, IsFounder, IsGenesis, Keys, Sealing, body_sealed}
-use Rattle.sporc_client.proofs.Common.{body_unless, least_unpaired, bad_change, roster_checks, Refusal, CommittedChange, change_in, roster_of, change_in_read, roster_change}
-use Rattle.sporc_client.proofs.Common.{roster_edit, Good, Kit, good_front, last_passes, LineModel, CanTake, IsTypedChange, get}
-use Rattle.sporc_client.proofs.Common.{length-filter, count_by-le-length}
+use Rattle.sporc_client.proofs.Common.{filter, find, is_some, nat_lt, not, ◌==◌, ◌&&◌, fold, is_none, min, AllByRecursion, list_any, and_parts, eqb-false, eqb-true, ltb-true, not-true, first_of}
+use Rattle.sporc_client.proofs.Common.{length-map, from_end, MemberChange, Add, Remove, SetRole, AddDevice, DropDevice, Upgrade, ChangeFault, Device, Member, Roster, after_change, change_fault_of}
+use Rattle.sporc_client.proofs.Common.{device_by, insert_sorted, key_of_device, member_by, is_used, member_at, numbers_of, with_role, has_admin, has_role, first_device, same_device, passes}
+use Rattle.sporc_client.proofs.Common.{ChangeBody, Entry, Genesis, IsChange, change_of, entry_of, fits_version, has_kind, version_of, IsFounder, IsGenesis, Keys, Sealing, body_sealed, body_unless}
+use Rattle.sporc_client.proofs.Common.{least_unpaired, bad_change, roster_checks, Refusal, CommittedChange, change_in, roster_of, change_in_read, roster_change, roster_edit, Good, Kit, good_front}
+use Rattle.sporc_client.proofs.Common.{last_passes, LineModel, CanTake, IsTypedChange, get, length-filter, count_by-le-length, NoPairKey, sealed, is_admin}
 use Rattle.sporc_member.specs.declared.change.ChangeFault.TheVariants as faults
 use Rattle.sporc_member.specs.declared.limits.TheConstants.{MAX_MEMBERS}
 use Rattle.sporc_member.specs.RosterModel.{LiveInvariant}
@@ -14,12 +13,9 @@ use Rattle.sporc_member.proofs.Belonging.{device_passes, founds_live, live_add, 
 use Rattle.sporc_member.proofs.Keeping.{numbers_of-founders}
 use Rattle.sporc_member.proofs.Places.{numbers_of-filter, numbers_of-insert_sorted, numbers_of-with_role, place_among-le}
 use Rattle.sporc_entry.specs.ChangeBody.{kind_of}
-use Rattle.sporc_epoch.specs.declared.fault.SealFault.TheVariants.{NoPairKey}
 use Rattle.sporc_epoch.specs.Sealing.{change_sealed, lesser}
-use Rattle.sporc_epoch.proofs.SealedKeys.{sealed}
 use Rattle.sporc_client.specs.declared.pending.Pending.TheVariants as items
 use Rattle.sporc_client.proofs.AllItems.{all_added, all_filter, all_map}
-use Rattle.sporc_member.specs.Role.{is_admin}
 use Rattle.std.proofs.lemmas.List.Edits.{length-insert}
 use Rattle.sporc_member.specs.Lists.{place_among}
 
@@ -62,7 +58,7 @@ few_after roster (Add member role key) is none =
     let b = passes (nat_lt (length roster.members) MAX_MEMBERS) faults.RosterFull _ a.1 in
     let new : Member = record { member = member; role = role } in
     record {
-      positive = all_added IsPositive new roster.members (positive_new roster member a.0) is.positive;
+      positive = all_added IsPositive (λ (m : Member). m.member) new roster.members (positive_new roster member a.0) is.positive;
       few = omega (arith, length-inserted new roster.members, ltb-true (length roster.members) MAX_MEMBERS b.0);
       live = live_add (numbers_of roster.members) roster.devices roster.upgraded member (record { device = first_device member; key = key }) _ _ is.live refl (numbers_of-insert_sorted new roster.members) refl;
     }
@@ -177,12 +173,9 @@ pub kind_written : (roster : Roster) (change : MemberChange) → change_fault_of
 kind_written roster (Add member role key) none = either (λ u. has_kind (version_of u) 1) refl refl roster.upgraded
 kind_written roster (Remove member) none = either (λ u. has_kind (version_of u) 2) refl refl roster.upgraded
 kind_written roster (SetRole member role) none = either (λ u. has_kind (version_of u) 3) refl refl roster.upgraded
-kind_written roster (AddDevice member device key) none =
-    ap (λ (u : Bool). has_kind (version_of u) (kind_of (AddDevice member device key))) (passes roster.upgraded faults.NotUpgraded _ none).0
-kind_written roster (DropDevice member device) none =
-    ap (λ (u : Bool). has_kind (version_of u) (kind_of (DropDevice member device))) (passes roster.upgraded faults.NotUpgraded _ none).0
 kind_written roster Upgrade none =
     ap (λ (u : Bool). has_kind (version_of u) (kind_of Upgrade)) (not-true roster.upgraded (passes (not roster.upgraded) faults.AlreadyUpgraded [] none).0)
+kind_written roster change none = ap (λ (u : Bool). has_kind (version_of u) (kind_of change)) (passes roster.upgraded faults.NotUpgraded _ none).0
 
 pub few_numbers : (roster : Roster) → IsFew roster → length (numbers_of roster.members) ≤ MAX_MEMBERS
 few_numbers roster is = omega (arith, length-map roster.members (λ (m : Member). m.member), is.few)

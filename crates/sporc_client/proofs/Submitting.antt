@@ -1,24 +1,26 @@
 -- What is due at a submission, and what a client submits when its log allows it: the one entry of its first pending item.
 use Rattle.std.proofs.Common.{◌≡◌, ℕ, ◌^◌, ◌<◌, Bool, true, false, List, [], ◌∷◌, ◌++◌, length, take, drop, refl, ap, subst, ◌∙◌, Option, None, Some, Result, Ok, Err, sym, Bor}
-use Rattle.sporc_client.proofs.Common.{is_some, nat_le, nat_lt, not, IfOk, and_parts, leb-true, ltb-true, not-true, bytes_eq-Decides, unless, first_of, height_of, delta_bytes, Mark, MemberChange}
-use Rattle.sporc_client.proofs.Common.{ChangeFault, Member, after_change, change_fault_of, key_of, member_at, numbers_of, passes, Entry, entry_of, least_unpaired, MAX_ENTRIES, allows_member}
-use Rattle.sporc_client.proofs.Common.{roster_of, MAX_EVENTS, MAX_HEAD_BYTES, SubmitFault, Removed, NoRight, HistoryFull, JournalFull, HeadTooLong, Memory, Pending, has_right, is_out, line_of}
-use Rattle.sporc_client.proofs.Common.{journal_has_room, Chosen, bytes_made, kind_of, PlainClient, me_of, Due, Drop, Sign, answered, change_due, due_behind, first_due, is_signing, item_due, Fits}
-use Rattle.sporc_client.proofs.Common.{no_pair_key, or_due, submit_checks, Nothing, Waiting, step_of, is_drop, is_entry, is_made, new_key_in, randomizer_in, Dropped, Submit, LeafFault, Step}
+use Rattle.sporc_client.proofs.Common.{is_some, nat_le, nat_lt, not, IfOk, and_parts, leb-true, ltb-true, not-true, bytes_eq-Decides, unless, first_of, height_of, delta_bytes, Mark}
+use Rattle.sporc_client.proofs.Common.{MemberChange, ChangeFault, Member, after_change, change_fault_of, key_of, member_at, numbers_of, passes, Entry, entry_of, least_unpaired, MAX_ENTRIES}
+use Rattle.sporc_client.proofs.Common.{allows_member, roster_of, MAX_EVENTS, MAX_HEAD_BYTES, SubmitFault, Removed, NoRight, HistoryFull, JournalFull, HeadTooLong, Memory, Pending, has_right}
+use Rattle.sporc_client.proofs.Common.{is_out, line_of, journal_has_room, Chosen, bytes_made, kind_of, PlainClient, me_of, Due, Drop, Sign, answered, change_due, due_behind, first_due}
+use Rattle.sporc_client.proofs.Common.{is_signing, item_due, Fits, no_pair_key, or_due, submit_checks, Nothing, Waiting, step_of, is_drop, is_entry, is_made, new_key_in, randomizer_in}
+use Rattle.sporc_client.proofs.Common.{Dropped, Submit, LeafFault, Step, Submitted, GivesUnless, cons_option, LineModel, Refuse, signed}
 use Rattle.std.specs.Prelude.{IfErr, option_copied, slice_get}
 use Rattle.sporc_client.specs.declared.pending.Pending.TheVariants.{Edit, Change}
-use Rattle.sporc_client.specs.declared.submitted.Submitted.{Submitted}
-use Rattle.sporc_client.specs.declared.submitted.Submitted.TheVariants as submitted
 use Rattle.sporc_client.specs.Submissions.{due, submission}
 use Rattle.sporc_client.specs.Allowed.{can_log}
-use Rattle.sporc_base.specs.Outcome.{GivesUnless}
+use Rattle.sporc_client.specs.declared.submitted.Submitted.TheVariants as submitted
 use Rattle.sporc_client.specs.declared.client.submitting.due.Due.TheVariants as steps
 use Rattle.sporc_client.specs.declared.pending.Pending.TheVariants as items
+use Rattle.lms_leaf.specs.declared.faults.LeafFault.TheVariants as leaves
+use Rattle.sporc_client.specs.declared.fault.SubmitFault.TheVariants as submits
 
 -- ---- an item that is due to be signed
 
--- what its client knows of it
-pub record IsDue (c : PlainClient) (item : Pending) : Type 0 where
+-- it is the first, with no entry on its way, and passes the checks of a submission
+pub record IsAtHead (c : PlainClient) (item : Pending) : Type 0 where
+  pub flight : c.flight ≡ None
   pub others : List Pending
   pub first : c.pending ≡ item ∷ others
   pub not_removed : is_out c ≡ false
@@ -26,6 +28,10 @@ pub record IsDue (c : PlainClient) (item : Pending) : Type 0 where
   pub live : is_some (key_of (roster_of c.opening.genesis c.entries) (me_of c)) ≡ true
   pub room : length c.entries < MAX_ENTRIES
   pub events : length c.shown < MAX_EVENTS
+
+-- what its client knows of it
+pub record IsDue (c : PlainClient) (item : Pending) : Type 0 where
+  pub head : IsAtHead c item
   pub fits : Fits (line_of c) item
 
 -- who has a right is a member
@@ -53,14 +59,14 @@ change_fits change None unpaired item h =
     let signs = p.1 in
     (refl, no_key_missing _ p.0, cc)
 
-item_fits : (c : PlainClient) (first item : Pending) → item_due (line_of c) first ≡ Sign item → (first ≡ item) × Fits (line_of c) first
-item_fits c (Edit marks) item h =
+item_fits : (line : LineModel) (first item : Pending) → item_due line first ≡ Sign item → (first ≡ item) × Fits line first
+item_fits line (Edit marks) item h =
     let p = or_signs (unless (nat_le (length (delta_bytes marks)) MAX_HEAD_BYTES) (HeadTooLong (length (delta_bytes marks)))) (Sign (Edit marks)) item h in
     let signs = p.1 in
     (cc, leb-true (length (delta_bytes marks)) MAX_HEAD_BYTES (unless_none (nat_le (length (delta_bytes marks)) MAX_HEAD_BYTES) (HeadTooLong (length (delta_bytes marks))) p.0))
-item_fits c (Change change) item h =
-    let roster = roster_of c.opening.genesis c.entries in
-    let p = change_fits change (change_fault_of roster change) (least_unpaired c.opening.kit.pairs (numbers_of (after_change roster change).members)) item h in
+item_fits line (Change change) item h =
+    let roster = roster_of line.genesis line.entries in
+    let p = change_fits change (change_fault_of roster change) (least_unpaired line.kit.pairs (numbers_of (after_change roster change).members)) item h in
     (p.2, (p.0, p.1))
 
 -- ---- what is due of the first pending item
@@ -71,62 +77,53 @@ is_event (Drop fault) = true
 is_event (Sign item) = true
 is_event due = false
 
--- no entry is on its way, and the item passes the checks of a submission
-pub record IsAtHead (c : PlainClient) (d : Due) : Type 0 where
-  pub flight : c.flight ≡ None
-  pub item : Pending
-  pub others : List Pending
-  pub first : c.pending ≡ item ∷ others
-  pub not_removed : is_out c ≡ false
-  pub right : allows_member (kind_of item) (member_at (roster_of c.opening.genesis c.entries) (me_of c).member) ≡ true
-  pub live : is_some (key_of (roster_of c.opening.genesis c.entries) (me_of c)) ≡ true
-  pub room : length c.entries < MAX_ENTRIES
-  pub events : length c.shown < MAX_EVENTS
-  pub is : item_due (line_of c) item ≡ d
+at_head : (c : PlainClient) (item : Pending) (others : List Pending) → c.flight ≡ None → c.pending ≡ item ∷ others → first_of (submit_checks (line_of c) c.shown item) ≡ None → IsAtHead c item
+at_head c item others flight first passed =
+    let roster = roster_of c.opening.genesis c.entries in
+    let a = passes (not (is_out c)) Removed _ passed in
+    let b = passes (has_right (line_of c) (kind_of item)) NoRight _ a.1 in
+    let may = and_parts (allows_member (kind_of item) (member_at roster (me_of c).member)) (is_some (key_of roster (me_of c))) b.0 in
+    let e = passes (nat_lt (length c.entries) MAX_ENTRIES) HistoryFull _ b.1 in
+    let f = passes (journal_has_room c) JournalFull _ e.1 in
+    record {
+      flight = flight;
+      others = others;
+      first = first;
+      not_removed = not-true (is_out c) a.0;
+      right = may.0;
+      live = may.1;
+      room = ltb-true (length c.entries) MAX_ENTRIES e.0;
+      events = ltb-true (length c.shown) MAX_EVENTS f.0;
+    }
 
-pub due_of_first : (c : PlainClient) (d : Due) → due c ≡ d → is_event d ≡ true → IsAtHead c d
+-- what makes an event is due of an item at the head
+abbrev IsOfHead : PlainClient → Due → Type 0
+IsOfHead c d = (item : Pending) × IsAtHead c item × (item_due (line_of c) item ≡ d)
+
+of_head : (c : PlainClient) → is_event (due c) ≡ true → IsOfHead c (due c)
 unfolding due
-due_of_first c d is event = behind c.flight refl is
+of_head c event = behind c.flight refl event
   where
-    checked : c.flight ≡ None → (item : Pending) (others : List Pending) → c.pending ≡ item ∷ others → (fault : Option SubmitFault) → first_of (submit_checks c item) ≡ fault → or_due fault (item_due (line_of c) item) ≡ d → IsAtHead c d
-    checked flight item others first (Some fault) fails is = let no : false ≡ true = ap is_event is ∙ event in absurd cc
-    checked flight item others first None passed is =
-        let a = passes (not (is_out c)) Removed _ passed in
-        let b = passes (has_right c (kind_of item)) NoRight _ a.1 in
-        let may = and_parts (allows_member (kind_of item) (member_at (roster_of c.opening.genesis c.entries) (me_of c).member)) (is_some (key_of (roster_of c.opening.genesis c.entries) (me_of c))) b.0 in
-        let e = passes (nat_lt (length c.entries) MAX_ENTRIES) HistoryFull _ b.1 in
-        let f = passes (journal_has_room c) JournalFull _ e.1 in
-        record {
-          flight = flight;
-          item = item;
-          others = others;
-          first = first;
-          not_removed = not-true (is_out c) a.0;
-          right = may.0;
-          live = may.1;
-          room = ltb-true (length c.entries) MAX_ENTRIES e.0;
-          events = ltb-true (length c.shown) MAX_EVENTS f.0;
-          is = is;
-        }
+    checked : (item : Pending) (fault : Option SubmitFault) → (fault ≡ None → IsAtHead c item) → is_event (or_due fault (item_due (line_of c) item)) ≡ true → IsOfHead c (or_due fault (item_due (line_of c) item))
+    checked item None head event = (item, head refl, refl)
+    checked item (Some fault) head event = absurd cc
 
-    at_first : c.flight ≡ None → (pending : List Pending) → c.pending ≡ pending → first_due c pending ≡ d → IsAtHead c d
-    at_first flight [] first is = let no : false ≡ true = ap is_event is ∙ event in absurd cc
-    at_first flight (item ∷ others) first is = checked flight item others first (first_of (submit_checks c item)) refl is
+    at_first : c.flight ≡ None → (items : List Pending) → c.pending ≡ items → is_event (first_due (line_of c) c.shown items) ≡ true → IsOfHead c (first_due (line_of c) c.shown items)
+    at_first flight [] first event = absurd cc
+    at_first flight (item ∷ others) first event = checked item (first_of (submit_checks (line_of c) c.shown item)) (at_head c item others flight first) event
 
-    behind : (flight : Option (List ℕ)) → c.flight ≡ flight → due_behind c flight ≡ d → IsAtHead c d
-    behind (Some bytes) flight is = let no : false ≡ true = ap is_event is ∙ event in absurd cc
-    behind None flight is = at_first flight c.pending refl is
+    behind : (flight : Option (List ℕ)) → c.flight ≡ flight → is_event (due_behind (line_of c) c.shown c.pending flight) ≡ true → IsOfHead c (due_behind (line_of c) c.shown c.pending flight)
+    behind (Some bytes) flight event = absurd cc
+    behind None flight event = at_first flight c.pending refl event
 
 pub due_room : (c : PlainClient) → is_event (due c) ≡ true → length c.shown < MAX_EVENTS
-due_room c event = (due_of_first c (due c) refl event).events
+due_room c event = (of_head c event).1.events
 
 pub is_due : (c : PlainClient) (item : Pending) → due c ≡ Sign item → IsDue c item
 is_due c item is =
-    let of = due_of_first c (Sign item) is refl in
-    let fit = item_fits c of.item item of.is in
-    let made : IsDue c of.item =
-    record { others = of.others; first = of.first; not_removed = of.not_removed; right = of.right; live = of.live; room = of.room; events = of.events; fits = fit.1 } in
-    subst (IsDue c) fit.0 made
+    let of = of_head c (ap is_event is) in
+    let fit = item_fits (line_of c) of.0 item (of.2 ∙ is) in
+    subst (IsDue c) fit.0 (record { head = of.1; fits = fit.1 })
 
 -- the item that is to be signed is the first
 pub signing : (c : PlainClient) → is_signing (due c) ≡ true → (item : Pending) × (due c ≡ Sign item)
@@ -156,12 +153,12 @@ pub dropped : (c : PlainClient) (by : ℕ) (fault : ChangeFault) → can_log c (
 unfolding can_log
 dropped c by fault may = go (due c) refl may
   where
-    taken : (found : ChangeFault) → (of : IsAtHead c (Drop found)) → (item : Pending) → of.item ≡ item → item_due (line_of c) item ≡ Drop found → IsDropped c
-    taken found of (Edit marks) is drops = absurd (no_drop (unless (nat_le (length (delta_bytes marks)) MAX_HEAD_BYTES) (HeadTooLong (length (delta_bytes marks)))) marks found drops)
-    taken found of (Change change) is drops = record { change = change; rest = of.others; flight = of.flight; pending = of.first ∙ ap (λ (item : Pending). item ∷ of.others) is; events = of.events }
+    taken : (found : ChangeFault) (item : Pending) → IsAtHead c item → item_due (line_of c) item ≡ Drop found → IsDropped c
+    taken found (Edit marks) head drops = absurd (no_drop (unless (nat_le (length (delta_bytes marks)) MAX_HEAD_BYTES) (HeadTooLong (length (delta_bytes marks)))) marks found drops)
+    taken found (Change change) head drops = record { change = change; rest = head.others; flight = head.flight; pending = head.first; events = head.events }
 
     go : (d : Due) → due c ≡ d → is_drop fault d ≡ true → IsDropped c
-    go (Drop found) is h = let of = due_of_first c (Drop found) is refl in taken found of of.item refl of.is
+    go (Drop found) is h = let of = of_head c (ap is_event is) in taken found of.0 of.1 (of.2 ∙ is)
     go d is h = absurd cc
 
 -- ---- the entry of a submission that is allowed
@@ -228,68 +225,28 @@ Finds result due = GivesUnless Memory (λ d. d) result (step_of due)
 pub refuses : (fault : SubmitFault) (checks : Option SubmitFault) (rest : Due) → checks ≡ Some fault → Finds (Err fault) (or_due checks rest)
 refuses fault checks rest is = λ _. ap (λ (o : Option SubmitFault). step_of (or_due o rest)) is
 
-pub goes_on : (result : Result Step SubmitFault) (checks : Option SubmitFault) (rest : Due) → checks ≡ None → Finds result rest → Finds result (or_due checks rest)
-goes_on (Ok d) checks rest is found = ap (λ (o : Option SubmitFault). step_of (or_due o rest)) is ∙ found
-goes_on (Err fault) checks rest is found = λ apart. ap (λ (o : Option SubmitFault). step_of (or_due o rest)) is ∙ found apart
+-- of the first pending item, if it passes them
+pub goes_on : (line : LineModel) (shown : List (List Mark)) {item item' : Pending} (result : Result Step SubmitFault) → first_of (submit_checks line shown item) ≡ None → item ≡ item' → Finds result (item_due line item')
+    → Finds result (first_due line shown (item ∷ []))
+goes_on line shown result passed is found = subst (λ (z : Option SubmitFault × Pending). Finds result (or_due z.0 (item_due line z.1))) (λ i. (sym passed i, sym is i)) found
 
--- of the first pending item
-module _ (c : PlainClient) (item : Pending) where
-  pub long_edit : (marks : List Mark) (fault : SubmitFault) → item ≡ items.Edit marks → first_of (submit_checks c item) ≡ None
-      → unless (nat_le (length (delta_bytes marks)) MAX_HEAD_BYTES) (HeadTooLong (length (delta_bytes marks))) ≡ Some fault → Finds (Err fault) (or_due (first_of (submit_checks c item)) (item_due (line_of c) item))
-  long_edit marks fault is passed found =
-      goes_on (Err fault) (first_of (submit_checks c item)) (item_due (line_of c) item) passed
-      (λ apart. ap (λ (i : Pending). step_of (item_due (line_of c) i)) is ∙ ap (λ (o : Option SubmitFault). step_of (or_due o (Sign (items.Edit marks)))) found)
-
-  pub checked_edit : (marks : List Mark) → item ≡ items.Edit marks → first_of (submit_checks c item) ≡ None
-      → unless (nat_le (length (delta_bytes marks)) MAX_HEAD_BYTES) (HeadTooLong (length (delta_bytes marks))) ≡ None → Finds (Ok steps.Sign) (or_due (first_of (submit_checks c item)) (item_due (line_of c) item))
-  checked_edit marks is passed found =
-      goes_on (Ok steps.Sign) (first_of (submit_checks c item)) (item_due (line_of c) item) passed
-      (ap (λ (i : Pending). step_of (item_due (line_of c) i)) is ∙ ap (λ (o : Option SubmitFault). step_of (or_due o (Sign (items.Edit marks)))) found)
-
-  pub checked_change : (change : MemberChange) (result : Result Step SubmitFault) → item ≡ items.Change change → first_of (submit_checks c item) ≡ None
-      → Finds result (item_due (line_of c) (items.Change change)) → Finds result (or_due (first_of (submit_checks c item)) (item_due (line_of c) item))
-  checked_change change result is passed found =
-      goes_on result (first_of (submit_checks c item)) (item_due (line_of c) item) passed (subst (λ (i : Pending). Finds result (item_due (line_of c) i)) (sym is) found)
-
--- ---- behind an entry on its way
+-- ---- behind an entry on its way, or none
 
 pub there : {X : Type 0} (o : Option (Bor X)) (f : Option X) → option_copied o ≡ f → is_some f ≡ is_some o
 there None f is = ap is_some (sym is)
 there (Some x) f is = ap is_some (sym is)
 
-pub is_waiting : (c : PlainClient) → is_some c.flight ≡ true → step_of (due c) ≡ Ok steps.Waiting
-unfolding due
-is_waiting c some = go c.flight some
-  where
-    go : (flight : Option (List ℕ)) → is_some flight ≡ true → step_of (due_behind c flight) ≡ Ok steps.Waiting
-    go None h = absurd cc
-    go (Some bytes) h = refl
+module _ (line : LineModel) (shown : List (List Mark)) where
+  pub is_waiting : (items : List Pending) (flight : Option (List ℕ)) → is_some flight ≡ true → step_of (due_behind line shown items flight) ≡ Ok steps.Waiting
+  is_waiting items None h = absurd cc
+  is_waiting items (Some bytes) h = refl
 
-due_is_first : (c : PlainClient) (items : List Pending) → is_some c.flight ≡ false → c.pending ≡ items → due c ≡ first_due c items
-unfolding due
-due_is_first c items none is = go c.flight none
-  where
-    go : (flight : Option (List ℕ)) → is_some flight ≡ false → due_behind c flight ≡ first_due c items
-    go None h = ap (first_due c) is
-    go (Some bytes) h = absurd cc
-
-pub is_nothing : (c : PlainClient) → is_some c.flight ≡ false → slice_get c.pending 0 ≡ None → step_of (due c) ≡ Ok steps.Nothing
-is_nothing c none empty = go c.pending refl empty
-  where
-    go : (items : List Pending) → c.pending ≡ items → slice_get items 0 ≡ None → step_of (due c) ≡ Ok steps.Nothing
-    go [] is h = ap step_of (due_is_first c [] none is)
-    go (item ∷ items) is h = absurd cc
-
-pub is_of_first : (c : PlainClient) (item : Pending) (result : Result Step SubmitFault) → is_some c.flight ≡ false → slice_get c.pending 0 ≡ Some item
-    → Finds result (or_due (first_of (submit_checks c item)) (item_due (line_of c) item)) → Finds result (due c)
-is_of_first c item result none first found = go c.pending refl first
-  where
-    go : (items : List Pending) → c.pending ≡ items → slice_get items 0 ≡ Some item → Finds result (due c)
-    go [] is h = absurd cc
-    go (head ∷ items) is h =
-        let same : head ≡ item = cc in
-        let F : Due → Type 0 = λ d. Finds result d in
-        subst F (sym (due_is_first c (head ∷ items) none is)) (subst (λ (i : Pending). Finds result (or_due (first_of (submit_checks c i)) (item_due (line_of c) i))) (sym same) found)
+  -- by the first pending item, if there is one
+  pub by_first : (result : Result Step SubmitFault) (items : List Pending) (flight : Option (List ℕ)) {first : Option Pending} → is_some flight ≡ false → slice_get items 0 ≡ first
+      → Finds result (first_due line shown (cons_option first [])) → Finds result (due_behind line shown items flight)
+  by_first result items (Some bytes) h is found = absurd cc
+  by_first result [] None h is found = subst (λ (first : Option Pending). Finds result (first_due line shown (cons_option first []))) (sym is) found
+  by_first result (item ∷ items) None h is found = subst (λ (first : Option Pending). Finds result (first_due line shown (cons_option first []))) (sym is) found
 
 -- ---- what a submission answers, by what the code found due
 
@@ -313,3 +270,56 @@ pub drop_answers : {fault : ChangeFault} {answer : Result Submitted SubmitFault}
     → IfErr result (λ e. e ≡ Memory) → GivesUnless Memory (λ s. s) result answer
 drop_answers is (Ok s) ok err = is ∙ ap Ok (sym ok)
 drop_answers is (Err e) ok err = λ other. absurd (other err)
+
+-- ---- that all leaves are drawn is answered only if the drawing of the leaf said so
+
+-- no check before the draw refuses so
+checks_early : (a b d e : Bool) (rest : Due) (next : ℕ)
+    → or_due (first_of (unless a submits.Removed ∷ unless b submits.NoRight ∷ unless d submits.HistoryFull ∷ unless e submits.JournalFull ∷ [])) rest ≡ Refuse (submits.Exhausted next)
+    → rest ≡ Refuse (submits.Exhausted next)
+checks_early true true true true rest next is = is
+checks_early a b d e rest next is = absurd cc
+
+edit_early : (long : Bool) (len : ℕ) (item : Pending) (next : ℕ) → or_due (unless long (submits.HeadTooLong len)) (Sign item) ≡ Refuse (submits.Exhausted next) → ⊥
+edit_early true len item next is = cc
+edit_early false len item next is = cc
+
+unpaired_early : (member : Option ℕ) (item : Pending) (next : ℕ) → or_due (no_pair_key member) (Sign item) ≡ Refuse (submits.Exhausted next) → ⊥
+unpaired_early None item next is = cc
+unpaired_early (Some member) item next is = cc
+
+change_early : (change : MemberChange) (fault : Option ChangeFault) (unpaired : Option ℕ) (next : ℕ) → change_due change fault unpaired ≡ Refuse (submits.Exhausted next) → ⊥
+change_early change (Some fault) unpaired next is = cc
+change_early change None unpaired next is = unpaired_early unpaired (Change change) next is
+
+item_early : (line : LineModel) (item : Pending) (next : ℕ) → item_due line item ≡ Refuse (submits.Exhausted next) → ⊥
+item_early line (Edit marks) next is = let len = length (delta_bytes marks) in edit_early (nat_le len MAX_HEAD_BYTES) len (Edit marks) next is
+item_early line (Change change) next is =
+    let roster = roster_of line.genesis line.entries in
+    change_early change (change_fault_of roster change) (least_unpaired line.kit.pairs (numbers_of (after_change roster change).members)) next is
+
+due_early : (c : PlainClient) (next : ℕ) → due c ≡ Refuse (submits.Exhausted next) → ⊥
+unfolding due
+due_early c next is = behind c.flight is
+  where
+    at_first : (items : List Pending) → first_due (line_of c) c.shown items ≡ Refuse (submits.Exhausted next) → ⊥
+    at_first [] is = cc
+    at_first (item ∷ items) is =
+        item_early (line_of c) item next (checks_early (not (is_out c)) (has_right (line_of c) (kind_of item)) (nat_lt (length c.entries) MAX_ENTRIES) (journal_has_room c) (item_due (line_of c) item) next is)
+
+    behind : (flight : Option (List ℕ)) → due_behind (line_of c) c.shown c.pending flight ≡ Refuse (submits.Exhausted next) → ⊥
+    behind (Some flight) is = cc
+    behind None is = at_first c.pending is
+
+signed_drawn : (c : PlainClient) (random : List ℕ) (item : Pending) (leaf : Result ℕ LeafFault) (next : ℕ) → signed c random item leaf ≡ Err (submits.Exhausted next) → leaf ≡ Err (leaves.Exhausted next)
+signed_drawn c random item (Err (leaves.Exhausted n)) next is = let same : n ≡ next = cc in ap (λ (k : ℕ). Err (leaves.Exhausted k)) same
+signed_drawn c random item leaf next is = absurd cc
+
+pub submission_drawn : (c : PlainClient) (random : List ℕ) (leaf : Result ℕ LeafFault) (next : ℕ) → submission c random leaf ≡ Err (submits.Exhausted next) → leaf ≡ Err (leaves.Exhausted next)
+unfolding submission
+submission_drawn c random leaf next is = go (due c) refl is
+  where
+    go : (d : Due) → due c ≡ d → answered c random leaf d ≡ Err (submits.Exhausted next) → leaf ≡ Err (leaves.Exhausted next)
+    go (Refuse fault) of is = let same : fault ≡ submits.Exhausted next = cc in absurd (due_early c next (of ∙ ap Refuse same))
+    go (Sign item) of is = signed_drawn c random item leaf next is
+    go d of is = absurd cc

@@ -11,11 +11,11 @@ use Rattle.sporc_member.specs.declared.change.ChangeFault.{ChangeFault}
 use Rattle.sporc_member.specs.Roster.{after_change, change_fault_of, numbers_of}
 use Rattle.sporc_epoch.specs.Sealing.{least_unpaired}
 use Rattle.sporc_head.specs.declared.limits.TheConstants.{MAX_ENTRIES}
-use Rattle.sporc_head.specs.History.{roster_of}
+use Rattle.sporc_head.specs.History.{is_removed, roster_of}
 use Rattle.sporc_line.specs.LineModel.{LineModel}
 use Rattle.sporc_client.specs.declared.client.submitting.due.Due.{Due as Step}
 use Rattle.sporc_client.specs.declared.client.submitting.due.Due.TheVariants as steps
-use Rattle.sporc_client.specs.declared.limits.TheConstants.{MAX_HEAD_BYTES}
+use Rattle.sporc_client.specs.declared.limits.TheConstants.{MAX_EVENTS, MAX_HEAD_BYTES}
 use Rattle.sporc_client.specs.declared.fault.SubmitFault.{SubmitFault}
 use Rattle.sporc_client.specs.declared.fault.SubmitFault.TheVariants.{Removed, NoRight, HistoryFull}
 use Rattle.sporc_client.specs.declared.fault.SubmitFault.TheVariants.{JournalFull, HeadTooLong}
@@ -25,7 +25,7 @@ use Rattle.sporc_client.specs.declared.pending.Pending.{Pending}
 use Rattle.sporc_client.specs.declared.pending.Pending.TheVariants.{Edit, Change}
 use Rattle.sporc_client.specs.declared.submitted.Submitted.{Submitted}
 use Rattle.sporc_client.specs.declared.submitted.Submitted.TheVariants as submitted
-use Rattle.sporc_client.specs.Answers.{has_right, is_out, journal_has_room}
+use Rattle.sporc_client.specs.Answers.{has_right}
 use Rattle.sporc_client.specs.Entries.{bytes_made, kind_of}
 use Rattle.sporc_client.specs.Log.{Logged, Submit, Dropped}
 use Rattle.sporc_client.specs.PlainClient.{PlainClient, line_of}
@@ -69,24 +69,24 @@ item_due line (Change change) =
     (least_unpaired line.kit.pairs (numbers_of (after_change roster change).members))
 
 -- the checks of a submission of an item, whatever the item says
-abbrev pub submit_checks : PlainClient → Pending → List (Option SubmitFault)
-submit_checks c item =
-    unless (not (is_out c)) Removed
-    ∷ unless (has_right c (kind_of item)) NoRight
-    ∷ unless (nat_lt (length c.entries) MAX_ENTRIES) HistoryFull
-    ∷ unless (journal_has_room c) JournalFull
-    ∷ []
+abbrev pub submit_checks : LineModel → List (List Mark) → Pending → List (Option SubmitFault)
+submit_checks line shown item =
+    unless (not (is_removed line.kit.me line.entries)) Removed
+    ∷ unless (has_right line (kind_of item)) NoRight
+    ∷ unless (nat_lt (length line.entries) MAX_ENTRIES) HistoryFull
+    ∷ unless (nat_lt (length shown) MAX_EVENTS) JournalFull ∷ []
 
-abbrev pub first_due : PlainClient → List Pending → Due
-first_due c [] = Nothing
-first_due c (item ∷ items) = or_due (first_of (submit_checks c item)) (item_due (line_of c) item)
+abbrev pub first_due : LineModel → List (List Mark) → List Pending → Due
+first_due line shown [] = Nothing
+first_due line shown (item ∷ items) =
+    or_due (first_of (submit_checks line shown item)) (item_due line item)
 
-abbrev pub due_behind : PlainClient → Option (List ℕ) → Due
-due_behind c (Some flight) = Waiting
-due_behind c None = first_due c c.pending
+abbrev pub due_behind : LineModel → List (List Mark) → List Pending → Option (List ℕ) → Due
+due_behind line shown pending (Some flight) = Waiting
+due_behind line shown pending None = first_due line shown pending
 
 unfoldable pub due : PlainClient → Due
-due c = due_behind c c.flight
+due c = due_behind (line_of c) c.shown c.pending c.flight
 
 -- what is due, as the code has it
 abbrev pub step_of : Due → Result Step SubmitFault

@@ -6,21 +6,15 @@ use Rattle.std.specs.List.{AllByRecursion}
 use Rattle.sporc_base.specs.Bytes.{IsBytes}
 use Rattle.sporc_delta.specs.Typed.{IsTypedDelta}
 use Rattle.sporc_member.specs.declared.change.Change.{Change as MemberChange}
-use Rattle.sporc_member.specs.declared.change.Change.TheVariants.{Add, Remove, SetRole, AddDevice}
-use Rattle.sporc_member.specs.declared.change.Change.TheVariants.{DropDevice, Upgrade}
+use Rattle.sporc_entry.specs.ChangeBody.{ChangeWith, IsKey}
 use Rattle.sporc_epoch.specs.Keys.{Keys}
 use Rattle.sporc_client.specs.Log.{Logged, Edit, Change, Submit, Dropped, Accept, Discard}
 use Rattle.sporc_client.specs.Run.{Setup, Move, Open, Happen, Give, Restart, IsRun, start}
 use Rattle.sporc_client.specs.WellFormed.{IsWellFormed}
 
 abbrev pub IsTypedChange : MemberChange → Type 0
-IsTypedChange (Add member role key) = (member < 2 ^ 16) × (length key ≡ 56)
-IsTypedChange (Remove member) = member < 2 ^ 16
-IsTypedChange (SetRole member role) = member < 2 ^ 16
-IsTypedChange (AddDevice member device key) =
-    (member < 2 ^ 16) × (device < 2 ^ 8) × (length key ≡ 56)
-IsTypedChange (DropDevice member device) = (member < 2 ^ 16) × (device < 2 ^ 8)
-IsTypedChange Upgrade = ⊤
+IsTypedChange change =
+    ChangeWith (λ member. member < 2 ^ 16) (λ device. device < 2 ^ 8) IsKey change
 
 abbrev pub IsTypedEvent : Logged → Type 0
 IsTypedEvent (Edit by seen marks) = IsTypedDelta marks

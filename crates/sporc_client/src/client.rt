@@ -1,7 +1,7 @@
 //! A client of a member's device.
 
-ghost use Rattle.std.specs.Prelude.{◌≡◌, ◌≢◌, ◌+◌, ◌<◌, ◌≤◌, ◌∷◌, ◌++◌, ◌&&◌, [], map as map_};
-ghost use Rattle.std.specs.Prelude.{drop, take, length, is_some, true, None, Some, IfOk, IfErr};
+ghost use Rattle.std.specs.Prelude.{◌≡◌, ◌≢◌, ◌+◌, ◌<◌, ◌≤◌, ◌∷◌, ◌++◌, [], map as map_};
+ghost use Rattle.std.specs.Prelude.{drop, take, length, true, None, Some, IfOk, IfErr};
 ghost use Rattle.std.specs.Prelude.{OnOk, OnErr, option_copied};
 ghost use Rattle.std.specs.FinMap as map;
 ghost use Rattle.sporc_outside.specs.LeafDisk.{disk_images};
@@ -15,13 +15,9 @@ ghost use Rattle.sporc_base.specs.FirstFault.{Answers, AnswersUnless, first_of};
 ghost use Rattle.sporc_client.specs.declared.limits.TheConstants.{MAX_EVENTS, MAX_PENDING};
 ghost use Rattle.sporc_client.specs.Log.{Edit as Edited, Change as Changed, journal_of};
 ghost use Rattle.sporc_client.specs.Answers.{added, change_checks, change_fault, edit_checks};
-ghost use Rattle.sporc_client.specs.Answers.{edit_fault, is_out, room_checks};
+ghost use Rattle.sporc_client.specs.Answers.{edit_fault, has_right, is_out, room_checks};
 ghost use Rattle.sporc_head.specs.Examined.{key_for};
-ghost use Rattle.sporc_head.specs.HeadChecks.{allows_member};
 ghost use Rattle.sporc_head.specs.History.{roster_of};
-ghost use Rattle.sporc_member.specs.Roster.{key_of, member_at};
-ghost use Rattle.sporc_client.specs.ClientInvariant.{plain_of};
-ghost use Rattle.lms_tree.specs.LmsPrivate.{LmsPrivate};
 ghost use Rattle.lms_leaf.specs.LeafFile.{ArePassed, AreTaken};
 ghost use Rattle.sporc_delta.specs.Marks.{base_len, inserted_len};
 ghost use Rattle.sporc_delta.specs.declared.limits.TheConstants.{MAX_TEXT_LEN};
@@ -315,9 +311,7 @@ fn opened(
 
 // Whether the device is live and its member has the right to entries of this kind.
 pub(crate) fn has_right(line: &Line, kind: u8) -> bool
-    ensures value { result ≡ (allows_member kind
-        (member_at (roster_of line.now.genesis line.now.entries) line.now.kit.me.member)
-        && is_some (key_of (roster_of line.now.genesis line.now.entries) line.now.kit.me)) }
+    ensures value { result ≡ has_right line.now kind }
 {
     let roster = line.heads().roster();
     let me = line.own_device();
@@ -330,8 +324,8 @@ pub(crate) fn has_right(line: &Line, kind: u8) -> bool
 // The checks of an edit.
 fn check_edit(line: &Line, own: &Workspace, seen: u64, delta: &Delta) -> Result<(), EditFault>
     requires follow { Follow 0 own.now.shown }
-    ensures fault { (key : LmsPrivate)
-        → Answers result (first_of (edit_checks (plain_of key line.now own.now) seen delta.now)) }
+    ensures fault { Answers result
+        (first_of (edit_checks line.now own.now.pending own.now.shown seen delta.now)) }
 {
     if line.removed() {
         return Err(EditFault::Removed);
@@ -386,8 +380,8 @@ fn record_edit(own: &mut Workspace, by: u32, seen: u32, delta: &Delta) -> Result
 
 // The checks of a change.
 fn check_change(line: &Line, own: &Workspace) -> Result<(), EditFault>
-    ensures fault { (key : LmsPrivate)
-        → Answers result (first_of (change_checks (plain_of key line.now own.now))) }
+    ensures fault { Answers result
+        (first_of (change_checks line.now own.now.pending own.now.shown)) }
 {
     if line.removed() {
         return Err(EditFault::Removed);
@@ -400,8 +394,7 @@ fn check_change(line: &Line, own: &Workspace) -> Result<(), EditFault>
 
 // Whether one more item may be pending, and one more event be.
 fn check_room(own: &Workspace) -> Result<(), EditFault>
-    ensures fault { Answers result
-        (first_of (room_checks (length own.now.pending) (length own.now.shown))) }
+    ensures fault { Answers result (first_of (room_checks own.now.pending own.now.shown)) }
 {
     if own.pending().len() >= MAX_PENDING {
         return Err(EditFault::PendingFull);

@@ -1,33 +1,26 @@
 -- Files that are asked for, one call after another.
 use Rattle.std.proofs.Common.{◌≡◌, ℕ, zero, suc, ◌+◌, ◌<◌, inl, inr, ⊎_elim, List, [], ◌∷◌, ◌++◌, length, map, Option, Some, None, sym, ap, ◌∙◌, subst, arith, append-nil}
 use Rattle.sporc_clients.proofs.Common.{drop, option_map, map-append, Device, MayAppend, Words, Key, Ring, Script, Leaf, History, FileNames, file_name, AsksOnly, own_files, script_files, client_files}
-use Rattle.sporc_clients.proofs.Common.{names_of}
+use Rattle.sporc_clients.proofs.Common.{names_of, All-contains, All-nil, All-push, Contains-append_left, Contains-push, File}
 use Rattle.std.specs.List.{Contains}
 use Rattle.std.proofs.lemmas.Bool.{cases_lt}
-use Rattle.std.proofs.lemmas.List.Elements.{All-contains, All-nil, All-push, Contains-append_left, Contains-append_right, Contains-push}
 use Rattle.sporc_base.specs.Numbers.{up_to}
-use Rattle.sporc_files.specs.declared.file.File.{File}
 use Rattle.sporc_files.specs.declared.file.File.TheVariants.{Genesis}
-use Rattle.sporc_files.proofs.Asking.{AsksOnly-among, AsksOnly-trans}
+use Rattle.sporc_files.proofs.Asking.{AsksOnly-among, AsksOnly-trans, asks_first as names_first, asks_then as names_then}
 
 module _ (names : FileNames) where
   -- some of the first files are some of all
   asks_first : (first rest : List File) (a b : Option (List (List ℕ))) → AsksOnly (map (file_name names) first) a b → AsksOnly (map (file_name names) (first ++ rest)) a b
   asks_first first rest a b asks =
-      let one = map (file_name names) first in
-      let other = map (file_name names) rest in
       subst (λ (all : List (List ℕ)). AsksOnly all a b) (sym (map-append (file_name names) first rest))
-      (AsksOnly-among one (one ++ other) a b (λ name. Contains-append_left one other name) asks)
+      (names_first (map (file_name names) first) (map (file_name names) rest) a b asks)
 
   -- some of the first files, and then some of the others
   asks_then : (first rest : List File) (a b c : Option (List (List ℕ))) → AsksOnly (map (file_name names) first) a b → AsksOnly (map (file_name names) rest) b c
       → AsksOnly (map (file_name names) (first ++ rest)) a c
   asks_then first rest a b c asks more =
-      let one = map (file_name names) first in
-      let other = map (file_name names) rest in
       subst (λ (all : List (List ℕ)). AsksOnly all a c) (sym (map-append (file_name names) first rest))
-      (AsksOnly-trans (one ++ other) a b c (AsksOnly-among one (one ++ other) a b (λ name. Contains-append_left one other name) asks)
-      (AsksOnly-among other (one ++ other) b c (λ name. Contains-append_right one other name) more))
+      (names_then (map (file_name names) first) (map (file_name names) rest) a b c asks more)
 
   -- ---- scripts
 

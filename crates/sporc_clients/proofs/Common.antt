@@ -24,6 +24,14 @@ pub use Rattle.sporc_outside.specs.declared.named_file.NamedFile.{NamedFile}
 pub use Rattle.sporc_member.specs.declared.device.Device.{Device}
 pub use Rattle.sporc_entry.specs.declared.genesis.Genesis.{Genesis}
 pub use Rattle.sporc_client.specs.ClientModel.{ClientModel, Rise, first_leaf_of, kept_count, leaves_of}
+pub use Rattle.std.proofs.lemmas.List.Elements.{All-cons, All-contains, All-nil, All-push, All-weaker, Contains-append_left, Contains-append_right, Contains-push}
+pub use Rattle.sporc_files.specs.declared.file.File.{File}
+pub use Rattle.sporc_session.specs.Traces.{IsAllowedLog, Stand, Trace}
+pub use Rattle.sporc_session.specs.Fetches.{FetchFails, IsFetch, loses, not_greeted, stops}
+pub use Rattle.sporc_session.specs.Wires.{InboxModel, LinkStand, empty_inbox}
+pub use Rattle.lms_tree.specs.LmsPrivate.{LmsPrivate}
+pub use Rattle.sporc_outside.specs.Files.{HasFile, IsDiskOf}
+pub use Rattle.sporc_line.specs.LineModel.{LineModel}
 pub use Rattle.sporc_clients.specs.Attending.{IsAttended, IsResumed, NotAttended, NotResumed, checked_before, not_begun, not_loaded, not_opened, not_resumed, not_whole}
 pub use Rattle.sporc_clients.specs.Causes.{ended, fault_of_session}
 pub use Rattle.sporc_clients.specs.Fetching.{IsFetchAt, link_at}
@@ -34,3 +42,5 @@ pub use Rattle.sporc_clients.specs.Outcome.{ClientOutcome, ClientUse, DiskOutcom
 pub use Rattle.sporc_clients.specs.Sessions.{IsSessionOf, LinkTold, link_told, stand_at}
 pub use Rattle.sporc_clients.specs.declared.session.Wanted.{Wanted}
 pub use Rattle.sporc_script.specs.declared.editor_line.EditorLine.{EditorLine}
+pub use Rattle.sporc_clients.specs.LeafFile.{IsLendFault, KeepsPassed}
+pub use Rattle.sporc_clients.specs.Concluding.{LeavesAreTaken, SaveOutcome}

@@ -1,25 +1,17 @@
 -- Of which faults of a session a count tells.
-use Rattle.std.proofs.Common.{◌≡◌, ⊎_elim, ℕ, ◌+◌, ◌≤◌, List, [], ◌∷◌, drop, length, Option, Some, None, refl, sym, ◌∙◌, subst, arith}
-use Rattle.sporc_clients.proofs.Common.{Result, Ok, Err, ⊤, count_of_both, EditorLine, Item, SessionFault}
+use Rattle.std.proofs.Common.{◌≡◌, ⊎_elim, ℕ, ◌+◌, ◌≤◌, List, [], ◌∷◌, drop, length, Option, Some, None, refl, sym, subst, arith}
+use Rattle.sporc_clients.proofs.Common.{Result, Err, ⊤, count_of_both, EditorLine, Item, SessionFault, Trace, Stand}
 use Rattle.std.proofs.lemmas.Option.{same_Some}
 use Rattle.sporc_base.specs.FirstFault.{first_of}
 use Rattle.sporc_wire.specs.declared.to_client.ToClient.{ToClient}
 use Rattle.sporc_session.specs.declared.fault.SessionFault.TheVariants as faults
 use Rattle.sporc_session.specs.Acts.{Act}
-use Rattle.sporc_session.specs.Traces.{Trace, Stand}
 use Rattle.sporc_session.specs.Endings.{Cause}
 use Rattle.sporc_session.specs.Lines.{LineCause}
 use Rattle.sporc_session.specs.Protocol.{Mode}
 use Rattle.sporc_session.specs.Sessions.{EditorsDid, FirstPhase, IsSession, SecondPhase, SessionEnds, settles, doesnt_settle, stops}
 use Rattle.sporc_clients.specs.Counts.{CountsAround, RoseFor, RoseIfFailed}
 use Rattle.sporc_clients.proofs.Counting.{both_rose}
-
-none_some : {A : Type 0} {a : A} → None ≡ Some a → ⊥
-none_some {A = A} is = subst some_is_empty is tt
-  where
-    some_is_empty : Option A → Type 0
-    some_is_empty None = ⊤
-    some_is_empty (Some a) = ⊥
 
 -- the counts of two moments
 abbrev pub counts : Stand → Stand → CountsAround
@@ -68,7 +60,7 @@ line_rose c log start number mine (line ∷ lines) fault is = tt
 
 editors_rose : (c : CountsAround) (log : List Item) (start number : ℕ) (scripts : List (List EditorLine)) (ends : List (Option SessionFault)) (fault : SessionFault)
     → EditorsDid log start number scripts ends → length ends ≡ length scripts → first_of ends ≡ Some fault → RoseFor c fault
-editors_rose c log start number scripts [] fault did all is = absurd (none_some is)
+editors_rose c log start number scripts [] fault did all is = absurd cc
 editors_rose c log start number [] (end ∷ ends) fault did all is = absurd (omega (arith, all))
 editors_rose c log start number (script ∷ scripts) (Some f ∷ ends) fault did all is =
     subst (RoseFor c) (same_Some _ _ is) (line_rose c log start number _ (drop did.0.count script) f did.0.end)
@@ -76,15 +68,13 @@ editors_rose c log start number (script ∷ scripts) (None ∷ ends) fault did a
 
 -- why the session ended
 second_rose : (m b : Stand) (rounds until : ℕ) (result : Result ⊤ SessionFault) → SecondPhase m b rounds until result → RoseIfFailed (counts m b) result
-second_rose m b rounds until result (settles few r is) = tt
-second_rose m b rounds until result (doesnt_settle r is) = tt
 second_rose m b rounds until result (stops s) = cause_rose m b s.reached s.written s.answers s.words _ s.cause
+second_rose m b rounds until result _ = tt
 
 wider : (a m b : Stand) → AreKept a m → (result : Result ⊤ SessionFault) → RoseIfFailed (counts m b) result → RoseIfFailed (counts a b) result
-wider a m b k (Ok done) rose = tt
 wider a m b k (Err faults.LinkFault) rose = omega (arith, k.link, rose)
 wider a m b k (Err faults.ChanceFault) rose = omega (arith, k.chance, rose)
-wider a m b k (Err fault) rose = tt
+wider a m b k result rose = tt
 
 module _ (a b : Stand) (rounds until : ℕ) (scripts : List (List EditorLine)) (result : Result ⊤ SessionFault) (s : IsSession a b rounds until scripts result) where
   -- the receiver or an editor, in the first phase
@@ -96,7 +86,7 @@ module _ (a b : Stand) (rounds until : ℕ) (scripts : List (List EditorLine)) (
   by_editors None is none e = wider a s.middle b (first_kept a s.middle rounds s.receiver s.first) result (second_rose s.middle b rounds until result e)
   by_editors (Some f) is none e =
       ended_by f (⊎_elim (λ all. editors_rose (counts a s.middle) b.known.seen a.known.start 1 scripts s.editors f s.edited all is)
-      (λ memory. absurd (none_some (sym none ∙ memory))) s.started) e
+      (λ memory. absurd cc) s.started) e
 
   by_receiver : (receiver : Option SessionFault) → s.receiver ≡ receiver → FirstPhase a s.middle rounds receiver → SessionEnds s.middle b rounds until (first_of (receiver ∷ s.editors)) result
       → RoseIfFailed (counts a b) result
@@ -110,16 +100,14 @@ module _ (a b : Stand) (rounds until : ℕ) (scripts : List (List EditorLine)) (
 pub rose_at_net : (first last old new : ℕ) (chance chance' : ℕ) (result : Result ⊤ SessionFault) → first ≡ 0 → count_of_both old last ≤ new
     → RoseIfFailed (record { links_before = first; links_after = last; chance_before = chance; chance_after = chance' }) result
     → RoseIfFailed (record { links_before = old; links_after = new; chance_before = chance; chance_after = chance' }) result
-rose_at_net first last old new chance chance' (Ok done) fresh back rose = tt
 rose_at_net first last old new chance chance' (Err faults.LinkFault) fresh back rose = both_rose old last new (omega (arith, fresh, rose)) back
 rose_at_net first last old new chance chance' (Err faults.ChanceFault) fresh back rose = rose
-rose_at_net first last old new chance chance' (Err fault) fresh back rose = tt
+rose_at_net first last old new chance chance' result fresh back rose = tt
 
 -- and of one whose count of links is looked at earlier
 pub rose_since : (old mid new chance chance' : ℕ) (result : Result ⊤ SessionFault) → old ≤ mid
     → RoseIfFailed (record { links_before = mid; links_after = new; chance_before = chance; chance_after = chance' }) result
     → RoseIfFailed (record { links_before = old; links_after = new; chance_before = chance; chance_after = chance' }) result
-rose_since old mid new chance chance' (Ok done) kept rose = tt
 rose_since old mid new chance chance' (Err faults.LinkFault) kept rose = omega (arith, kept, rose)
 rose_since old mid new chance chance' (Err faults.ChanceFault) kept rose = rose
-rose_since old mid new chance chance' (Err fault) kept rose = tt
+rose_since old mid new chance chance' result kept rose = tt

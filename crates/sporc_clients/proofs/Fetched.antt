@@ -1,12 +1,10 @@
 -- A fetch draws no leaf, so no disk fails in it.
 use Rattle.std.proofs.Common.{◌≡◌, ◌≢◌, ℕ, List, refl, sym, ◌∙◌, subst}
-use Rattle.sporc_clients.proofs.Common.{Result, Err, SessionFault, fault_of_session}
+use Rattle.sporc_clients.proofs.Common.{Result, Err, SessionFault, fault_of_session, FetchFails, IsFetch, loses, not_greeted, stops, LinkStand}
 use Rattle.lms_leaf.specs.declared.faults.LeafFault.TheVariants.{DiskFault}
 use Rattle.sporc_wire.specs.declared.to_server.ToServer.{ToServer}
 use Rattle.sporc_session.specs.declared.fault.SessionFault.TheVariants.{Leaf}
 use Rattle.sporc_session.specs.Asking.{AskFails, SilentFor, UnsentFor, silent, unsent, wrong}
-use Rattle.sporc_session.specs.Fetches.{FetchFails, IsFetch, loses, not_greeted, stops}
-use Rattle.sporc_session.specs.Wires.{LinkStand}
 
 asked_none : (a b : LinkStand) (message : ToServer) (fault : SessionFault) → AskFails a b message fault → fault ≢ Leaf DiskFault
 asked_none a b message fault (unsent u) is = subst (UnsentFor a b) is u.cause

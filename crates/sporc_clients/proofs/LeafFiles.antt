@@ -1,7 +1,6 @@
 -- What an opening keeps of the leaf file.
 use Rattle.std.proofs.Common.{◌≡◌, ℕ, List, sym, subst, arith}
-use Rattle.sporc_clients.proofs.Common.{DiskTold, disk_images, KeepsStable}
-use Rattle.sporc_clients.specs.LeafFile.{KeepsPassed}
+use Rattle.sporc_clients.proofs.Common.{DiskTold, disk_images, KeepsStable, KeepsPassed}
 
 -- what is stable stays so, and so what was passed
 pub keeps_passed : {D : Type 0} (disk_told : D → DiskTold) (old new : D) → KeepsStable disk_told old new

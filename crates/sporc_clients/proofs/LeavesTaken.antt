@@ -1,7 +1,6 @@
 -- What stands of the leaf file of a client that was closed.
 use Rattle.std.proofs.Common.{◌≡◌, ℕ, ◌≤◌, Option, None, Some, ap, arith, sym, subst}
-use Rattle.sporc_clients.proofs.Common.{DiskTold, disk_images, ArePassed, AreTaken, LeavesModel, ClientModel, Rise, first_leaf_of, kept_count, leaves_of, past_of}
-use Rattle.sporc_clients.specs.Concluding.{LeavesAreTaken}
+use Rattle.sporc_clients.proofs.Common.{DiskTold, disk_images, ArePassed, AreTaken, LeavesModel, ClientModel, Rise, first_leaf_of, kept_count, leaves_of, past_of, LeavesAreTaken}
 
 -- it keeps one leaf at most
 kept_one : (ticket : Option ℕ) → kept_count ticket ≤ 1

@@ -1,7 +1,6 @@
 -- A run over a leaf file is a life of it.
 use Rattle.std.proofs.Common.{◌≡◌, ℕ, ◌+◌, ◌*◌, ◌<◌, ◌≤◌, List, [], ◌∷◌, map, IfSome, IsSome, All, AllPairs, ap, sym, subst, arith}
-use Rattle.sporc_clients.proofs.Common.{Result, ⊤, DiskTold, disk_images, taken_blocks, Rise, leaves_of, Words, Fault, Past, ClientUse, DiskOutcome, not_worked, worked}
-use Rattle.std.proofs.lemmas.List.Elements.{All-cons, All-nil, All-weaker}
+use Rattle.sporc_clients.proofs.Common.{Result, ⊤, DiskTold, disk_images, taken_blocks, Rise, leaves_of, Words, Fault, Past, ClientUse, DiskOutcome, not_worked, worked, All-cons, All-nil, All-weaker}
 use Rattle.std.proofs.lemmas.List.Kept.{AllPairs-cons}
 use Rattle.lms_leaf.specs.Lives.{AreLives, IsLife}
 use Rattle.lms_leaf.specs.declared.leaf_file.TheConstants.{LEAVES_PER_BLOCK}

@@ -1,9 +1,7 @@
 -- Files of a member, one after another.
 use Rattle.std.proofs.Common.{◌≡◌, ℕ, ◌+◌, ◌≤◌, List, [], ◌∷◌, ◌++◌, length, Option, Result, refl, sym, ap, ◌∙◌, subst, arith}
 use Rattle.sporc_clients.proofs.Common.{length-append, NamedFile, Genesis, RingFile, Device, EditorLine, Fault, GenesisFile, Key, Ring, Script, FileNames, file_name, file_later, IsMemberFault}
-use Rattle.sporc_clients.proofs.Common.{SayScripts, SaysScript}
-use Rattle.lms_tree.specs.LmsPrivate.{LmsPrivate}
-use Rattle.sporc_outside.specs.Files.{HasFile}
+use Rattle.sporc_clients.proofs.Common.{SayScripts, SaysScript, LmsPrivate, HasFile}
 use Rattle.sporc_outside.specs.declared.file_fault.TheConstants.{MAX_FILE}
 use Rattle.sporc_keys.specs.RingFile.{ring_file_of_member}
 use Rattle.sporc_script.specs.Grammar.{IsEditorFault}

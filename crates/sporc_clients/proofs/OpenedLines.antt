@@ -1,7 +1,6 @@
 -- A member's line, from what its parts answered.
 use Rattle.std.proofs.Common.{◌≡◌, ℕ, List, [], Some, None, sym, subst}
-use Rattle.sporc_clients.proofs.Common.{Result, Ok, Err, IfErr, IfOk, NetTold, Use, Fault, IsFetchAt, Begin, HasEntries, NotOpened, Opens, founds, joins, kit_from, no_kit}
-use Rattle.sporc_line.specs.LineModel.{LineModel}
+use Rattle.sporc_clients.proofs.Common.{Result, Ok, Err, IfErr, IfOk, NetTold, Use, Fault, IsFetchAt, Begin, HasEntries, NotOpened, Opens, founds, joins, kit_from, no_kit, LineModel}
 use Rattle.sporc_files.specs.Faults.{AnswersUnlessOutside}
 
 module _ (begin : Begin) (net : Use NetTold) where

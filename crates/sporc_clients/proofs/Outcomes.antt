@@ -1,14 +1,10 @@
 -- What the command did, at each of its ends.
 use Rattle.std.proofs.Common.{◌≡◌, ℕ, ◌≤◌, List, ◌∷◌, length, Option, option_map, Result, Ok, Err, ap, subst, arith, ◌∙◌}
 use Rattle.sporc_clients.proofs.Common.{⊤, Device, NamedFile, ChanceTold, NetTold, Use, DiskTold, Words, Fault, History, Leaf, FileNames, file_name, Genesis, RingFile, Past, SessionFault, IsAttended}
-use Rattle.sporc_clients.proofs.Common.{NotAttended, begin_with, Wanted, ended, IsMemberFault, SayMember, ClientOutcome, ClientUse, names_of}
-use Rattle.lms_tree.specs.LmsPrivate.{LmsPrivate}
-use Rattle.sporc_outside.specs.Files.{IsDiskOf}
+use Rattle.sporc_clients.proofs.Common.{NotAttended, begin_with, Wanted, ended, IsMemberFault, SayMember, ClientOutcome, ClientUse, names_of, IsLendFault, SaveOutcome, LmsPrivate, IsDiskOf}
 use Rattle.sporc_files.specs.declared.fault.Fault.TheVariants as faults
 use Rattle.sporc_files.specs.Reading.{IsFileFault, SaysFileIfThere, any_bytes}
-use Rattle.sporc_clients.specs.Concluding.{SaveOutcome}
 use Rattle.sporc_clients.specs.declared.member_files.MemberFiles.{MemberFiles}
-use Rattle.sporc_clients.specs.LeafFile.{IsLendFault}
 
 -- the disk was not lent by a folder whose count of faults had risen before
 lend_later : (told : Option (List NamedFile)) (low mid high : ℕ) (names : FileNames) (device : Device) (fault : Fault) → low ≤ mid
@@ -81,8 +77,8 @@ module _ (genesis : Genesis) (device : Device) (ring : RingFile) (address told :
 saved_later : (past : Past) (name : List ℕ) (told new : Option (List NamedFile)) (low mid high : ℕ) (result : Result ⊤ Fault) → low ≤ mid
     → SaveOutcome past name (record { before = told; after = new; faults_before = mid; faults_after = high }) result
     → SaveOutcome past name (record { before = told; after = new; faults_before = low; faults_after = high }) result
-saved_later past name told new low mid high (Ok done) more is = is
 saved_later past name told new low mid high (Err faults.Outside) more (rose, changes) = (omega (arith, rose, more), changes)
+saved_later past name told new low mid high (Ok done) more is = is
 saved_later past name told new low mid high (Err faults.FullFile) more is = is
 saved_later past name told new low mid high (Err faults.Memory) more is = is
 saved_later past name told new low mid high (Err fault) more never = absurd never

@@ -1,11 +1,9 @@
 -- A member's line with its saved history, from what its parts answered.
 use Rattle.std.proofs.Common.{◌≡◌, ℕ, ◌≤◌, List, Option, Some, refl, sym, ◌∙◌, subst, arith}
 use Rattle.sporc_clients.proofs.Common.{Result, Ok, Err, IfErr, IfOk, ⊤, Genesis, Fault, History, Device, NetTold, Use, IsResumed, NotResumed, checked_before, not_loaded, NotBegun, out_of_memory}
-use Rattle.sporc_clients.proofs.Common.{unreached, Begin, Opens}
+use Rattle.sporc_clients.proofs.Common.{unreached, Begin, Opens, File, LineModel}
 use Rattle.sporc_line.specs.Kit.{Kit}
-use Rattle.sporc_line.specs.LineModel.{LineModel}
 use Rattle.sporc_files.specs.declared.fault.Fault.TheVariants as faults
-use Rattle.sporc_files.specs.declared.file.File.{File}
 use Rattle.sporc_files.specs.Faults.{AnswersUnlessOutside, unless_stopped, whole}
 use Rattle.sporc_store.specs.declared.stop.Stop.{Stop}
 use Rattle.sporc_store.specs.declared.stop.Stop.TheVariants.{Cut, End, Foreign, Refused}

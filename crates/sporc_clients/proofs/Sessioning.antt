@@ -1,16 +1,17 @@
 -- What a session did to a client, from the contracts of the shared client.
-use Rattle.std.proofs.Common.{◌≡◌, ℕ, List, [], sym, ap, ◌∙◌, subst}
-use Rattle.sporc_clients.proofs.Common.{IfErr, Result, ⊤, ChanceTold, Use, EditorLine, IsAllowed, Item, Past, items_of, SessionFault, link_at, Wanted, IsSessionOf, LinkTold, stand_at}
+use Rattle.std.proofs.Common.{◌≡◌, ◌≤◌, ℕ, List, [], Option, Ok, sym, ap, ◌∙◌, subst}
+use Rattle.sporc_clients.proofs.Common.{count_of_both, NetTold, AppendsItem, TakesItem, link_told, IfErr, Result, ⊤, ChanceTold, Use, EditorLine, IsAllowed, Item, Past, items_of, SessionFault}
+use Rattle.sporc_clients.proofs.Common.{link_at, Wanted, IsSessionOf, LinkTold, stand_at, IsAllowedLog, IsFetch, InboxModel, LinkStand, empty_inbox}
+use Rattle.sporc_outside.specs.Nets.{HandsLink}
+use Rattle.sporc_outside.specs.Streams.{StreamTold, Shuts}
+use Rattle.sporc_clients.specs.Nets.{UsesLink}
 use Rattle.sporc_turn.specs.declared.known.Known.{Known}
 use Rattle.sporc_turn.specs.declared.pass.Pass.{Pass}
 use Rattle.sporc_turn.specs.Knowing.{first_known}
 use Rattle.sporc_turn.specs.Log.{StartsWith}
 use Rattle.sporc_turn.specs.Passes.{known_of}
-use Rattle.sporc_session.specs.Traces.{IsAllowedLog}
-use Rattle.sporc_session.specs.Fetches.{IsFetch}
 use Rattle.sporc_session.specs.Replies.{IsWornFor}
 use Rattle.sporc_session.specs.Sessions.{IsSession}
-use Rattle.sporc_session.specs.Wires.{InboxModel, LinkStand, empty_inbox}
 use Rattle.sporc_session.proofs.Pasts.{past_goes_on}
 
 -- what number 0 knows as it is handed out
@@ -51,6 +52,24 @@ pub over_same_link : (wanted : Wanted) (before after : Past) (first : LinkTold) 
 over_same_link wanted before after first chance result old new written left faults session =
     subst (λ (l : LinkTold). IsSessionOf wanted before after (record { before = first; after = l }) chance result)
     (sym (told_again old new written left faults)) session
+
+-- a link that was made, shut, and taken back
+pub link_used : {L E : Type 0} {told : L → StreamTold} {net : Use NetTold} {shut : Use StreamTold} {link : L} (address : List ℕ) (after : NetTold) → HandsLink {E = E} told net (Ok link)
+    → Shuts shut → shut.before.is_shut ≡ (told link).is_shut → AppendsItem net.before.asked net.after.asked address → after.asked ≡ net.after.asked
+    → after.coming ≡ net.after.coming → AppendsItem net.after.returned after.returned shut.after
+    → count_of_both net.after.link_faults shut.after.faults ≤ after.link_faults → UsesLink (record { before = net.before; after = after }) address (told link) shut.after
+link_used {told = told} {net = net} {shut = shut} {link = link} address after hands shuts still_open asks asked coming back counted = record {
+  asked = subst (λ (a : Option (List (List ℕ))). AppendsItem net.before.asked a address) (sym asked) asks;
+  came = subst (λ (c : Option (List StreamTold)). TakesItem net.before.coming c (told link)) (sym coming) hands.next;
+  fresh = hands.fresh;
+  is_open = hands.not_shut;
+  ended = shut.before;
+  still_open = still_open;
+  told_then = told_again (link_told shut.before) (link_told shut.after) shuts.written shuts.left shuts.count;
+  shut = shuts.shut;
+  back = subst (λ (r : Option (List StreamTold)). AppendsItem r after.returned shut.after) hands.returned back;
+  counted = subst (λ (n : ℕ). count_of_both n shut.after.faults ≤ after.link_faults) hands.links counted;
+}
 
 -- a fetch by an equal answer
 pub fetched_again : (first : LinkStand) (old : LinkTold) {new : LinkTold} (inbox : InboxModel) (document : List ℕ) (member : ℕ) (result fetched : Result (List (List ℕ)) SessionFault) → new ≡ old

@@ -16,7 +16,7 @@ pub use Rattle.sporc_keys.specs.declared.ring_file.RingFile.{RingFile}
 pub use Rattle.sporc_order.specs.OrderModel.{OrderModel}
 pub use Rattle.sporc_store.specs.SavedFile.{IsPrefix, Taken, read_to, saved_in}
 pub use Rattle.sporc_words.specs.declared.standing.Participant.{Participant}
-pub use Rattle.std.proofs.lemmas.List.{append_cancel_left, length-append, map-append, take-append-drop, take_at, take_more}
+pub use Rattle.std.proofs.lemmas.List.{append_cancel_left, length-append, map-append, replicate-append-replicate, take-append-drop, take-take, take_at, take_more}
 pub use Rattle.std.proofs.lemmas.Result.{err_from_is_err_and}
 pub use Rattle.std.specs.Global.{Vec}
 pub use Rattle.std.specs.List.{AllByRecursion, Contains, slice_get}
@@ -34,6 +34,18 @@ pub use Rattle.sporc_entry.specs.Genesis.{genesis_bytes}
 pub use Rattle.sporc_entry.specs.declared.genesis.Genesis.{Genesis}
 pub use Rattle.sporc_line.specs.Kit.{Kit}
 pub use Rattle.sporc_line.specs.LineModel.{LineModel}
+pub use Rattle.sporc_outside.specs.Folders.{FolderTold}
+pub use Rattle.sporc_outside.specs.Streams.{IsUnwritten, StreamTold}
+pub use Rattle.lms_tree.specs.LmsPrivate.{LmsPrivate, lms_public_of}
+pub use Rattle.sporc_store.specs.Loading.{a_member, accepted_from, an_order, loaded}
+pub use Rattle.std.specs.Result.{IfErr, OnOk}
+pub use Rattle.std.specs.Str.{bytes_eq}
+pub use Rattle.sporc_keys.specs.declared.new_key.NewKey.{NewKey}
+pub use Rattle.sporc_keys.specs.KeyFile.{key_file_bytes, key_file_of, private_in}
+pub use Rattle.std.proofs.lemmas.Bool.{and_parts, false_from_ne_true, le-ltb, leb-true, lt-ltb, not-true, or_parts}
+pub use Rattle.sporc_words.specs.declared.found.Found.{Found}
+pub use Rattle.sporc_words.specs.declared.standing.Standing.TheVariants.{Founder, Joiner}
+pub use Rattle.sporc_outside.specs.declared.file_fault.TheConstants.{MAX_FILE}
 pub use Rattle.sporc_commands.specs.Checking.{AreCheckedFiles, CheckedFiles, CheckedLine, FindsLine, IsCheckedLine, checked_files, checked_in, checked_line, entries_for_hints, examined, kit_in}
 pub use Rattle.sporc_commands.specs.Checking.{line_in, line_of_whole}
 pub use Rattle.sporc_commands.specs.Comparing.{AreOfOneGenesis, Chains, FindsChains, IsVerdictLine, both_chains, chain_in, chains_in, values_of}
@@ -48,3 +60,4 @@ pub use Rattle.sporc_commands.specs.Tails.{GivesAll, GivesBack, KeepsBehind, Kee
 pub use Rattle.sporc_commands.specs.Telling.{IsJust, lines_from, text_at, text_in}
 pub use Rattle.sporc_commands.specs.declared.opening.LoggedOrder.{LoggedOrder}
 pub use Rattle.sporc_commands.specs.declared.opening.OpenedOrder.{OpenedOrder}
+pub use Rattle.sporc_commands.specs.KeyMaking.{StoresKey, key_line}

@@ -2,10 +2,8 @@
 use Rattle.std.proofs.Common.{◌≡◌, ℕ, ◌≤◌, List, [], ◌∷◌, Option, Result, Ok, Err, refl, sym, ap, ◌∙◌, subst, arith}
 use Rattle.sporc_commands.proofs.Common.{Vec, ◌>>=◌, Rose, Use, NamedFile, Device, chain, genesis_value, next_value, Genesis, genesis_bytes, Fault, File, FileNames, file_name, IsFileFault, SaysFile}
 use Rattle.sporc_commands.proofs.Common.{genesis_file, AnswersUnlessOutside, AnswersOfFile, entries_in, genesis_in, AreOfOneGenesis, Chains, FindsChains, IsVerdictLine, both_chains, chain_in}
-use Rattle.sporc_commands.proofs.Common.{chains_in, values_of, CompareOutcome, fails_first, tells_behind, tells_later}
+use Rattle.sporc_commands.proofs.Common.{chains_in, values_of, CompareOutcome, fails_first, tells_behind, tells_later, FolderTold, StreamTold}
 use Rattle.sporc_bytes.proofs.Fields.{bind_ok}
-use Rattle.sporc_outside.specs.Folders.{FolderTold}
-use Rattle.sporc_outside.specs.Streams.{StreamTold}
 use Rattle.sporc_hash.specs.Chain.{chain_after}
 use Rattle.sporc_files.specs.declared.file.File.TheVariants as files
 use Rattle.sporc_commands.proofs.ReadFiles.{is_there, reads_none, says, there}

@@ -2,9 +2,7 @@
 use Rattle.std.proofs.Common.{◌≡◌, ℕ, ◌≤◌, List, Option, Result, Ok, Err, subst}
 use Rattle.sporc_commands.proofs.Common.{◌>>=◌, Rose, NamedFile, Genesis, Device, Kit, LineModel, Taken, ring_file_of_member, RingFile, Fault, File, FileNames, file_name, IsFileFault, SaysFile}
 use Rattle.sporc_commands.proofs.Common.{any_bytes, genesis_file, own_key_file, AnswersUnlessOutside, IsFileAt, bytes_in, said, CheckedLine, FindsLine, checked_line, examined, kit_in, line_of_whole}
-use Rattle.sporc_commands.proofs.Common.{tells_behind, tells_later}
-use Rattle.lms_tree.specs.LmsPrivate.{LmsPrivate}
-use Rattle.sporc_store.specs.Loading.{a_member, loaded}
+use Rattle.sporc_commands.proofs.Common.{tells_behind, tells_later, LmsPrivate, a_member, loaded}
 use Rattle.sporc_files.specs.declared.file.File.TheVariants as files
 use Rattle.sporc_commands.proofs.ReadFiles.{is_there, reads_none, reads_value, says, there}
 

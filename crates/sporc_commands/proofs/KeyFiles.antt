@@ -1,12 +1,8 @@
 -- What stands of a key's files.
-use Rattle.std.proofs.Common.{◌≡◌, ℕ, List, [], ◌∷◌, Bool, true, false, Option, Some, None, option_map, Result, Ok, Err, refl, ap, ◌∙◌, subst}
-use Rattle.sporc_commands.proofs.Common.{HasNoFile, file_in, with_file, NamedFile, FileNames, file_name, Stores, file_with, with_files}
-use Rattle.std.specs.Result.{OnOk}
-use Rattle.std.specs.Str.{bytes_eq}
-use Rattle.sporc_keys.specs.declared.new_key.NewKey.{NewKey}
-use Rattle.sporc_keys.specs.KeyFile.{key_file_bytes}
+use Rattle.std.proofs.Common.{◌≡◌, ℕ, List, [], ◌∷◌, Bool, true, false, Option, Some, None, option_map, Result, Ok, Err, refl, subst}
+use Rattle.sporc_commands.proofs.Common.{HasNoFile, file_in, with_file, NamedFile, FileNames, file_name, Stores, file_with, OnOk, bytes_eq, NewKey, key_file_bytes, StoresKey}
 use Rattle.sporc_files.specs.declared.file.File.TheVariants as files
-use Rattle.sporc_commands.specs.KeyMaking.{StoresKey}
+use Rattle.sporc_commands.proofs.Storing.{stored_all}
 
 -- a file that is not there after another was written was not there before
 none_before : (fs : List NamedFile) (name bytes other : List ℕ) → file_in (with_file fs name bytes) other ≡ None → file_in fs other ≡ None
@@ -15,20 +11,14 @@ none_before (f ∷ fs) name bytes other none = go (bytes_eq f.name name) refl (b
   where
     go : (b : Bool) → bytes_eq f.name name ≡ b → (d : Bool) → bytes_eq f.name other ≡ d
         → (file_in (with_file fs name bytes) other ≡ None → file_in fs other ≡ None) → file_in (f ∷ fs) other ≡ None
-    go true e true d more = let clash = rw (e, d) at none in absurd cc
     go true e false d more = let rest = rw (e, d) at none in rw d rest
-    go false e true d more = let clash = rw (e, d) at none in absurd cc
     go false e false d more = let rest = rw (e, d) at none in rw d (more rest)
+    go true e true d more = let clash = rw (e, d) at none in absurd cc
+    go false e true d more = let clash = rw (e, d) at none in absurd cc
 
 pub not_there_before : (files : Option (List NamedFile)) (name bytes other : List ℕ) → HasNoFile (option_map (λ fs. with_file fs name bytes) files) other → HasNoFile files other
 not_there_before None name bytes other none = tt
 not_there_before (Some fs) name bytes other none = none_before fs name bytes other none
-
--- two files, one behind another
-stored_both : (before between after : Option (List NamedFile)) (one other : NamedFile) → Stores (one ∷ []) before between → Stores (other ∷ []) between after
-    → Stores (one ∷ other ∷ []) before after
-stored_both None between after one other stored last = last ∙ ap (λ (o : Option (List NamedFile)). option_map (λ files. with_files files (other ∷ [])) o) stored
-stored_both (Some files) between after one other stored last = last ∙ ap (λ (o : Option (List NamedFile)). option_map (λ fs. with_files fs (other ∷ [])) o) stored
 
 -- of two facts of one result
 pub on_ok : {T E : Type 0} (r : Result T E) (P Q R : Type 0) → (P → Q → R) → OnOk r P → OnOk r Q → OnOk r R
@@ -45,7 +35,7 @@ module _ (names : FileNames) (key : NewKey) (before between after : Option (List
     new_key = new;
     new_leaves = not_there_before before _ _ (file_name names (files.Leaf key.file.device))
         (subst (λ (o : Option (List NamedFile)). HasNoFile o (file_name names (files.Leaf key.file.device))) stored newer);
-    stored = stored_both before between after _ _ stored last;
+    stored = stored_all (file_with names (files.Key key.file.device) (key_file_bytes key.file) ∷ []) (file_with names (files.Leaf key.file.device) key.leaves ∷ []) before between after stored last;
   }
 
   -- with bytes that are those

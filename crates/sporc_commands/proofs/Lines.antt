@@ -1,11 +1,9 @@
 -- How a command writes its line, or all its lines.
 use Rattle.std.proofs.Common.{◌≡◌, ◌∙◌, ℕ, List, Result, Ok, Err, inl, inr, ap, subst}
 use Rattle.sporc_commands.proofs.Common.{◌>>=◌, Rose, Use, Fault, AnswersUnlessOutside, FileNames, LineModel, Device, AreCheckedFiles, CheckedFiles, CheckedLine, FindsLine, checked_files}
-use Rattle.sporc_commands.proofs.Common.{checked_line, line_in, Examines, fails_first, tells_alone, tells_behind}
+use Rattle.sporc_commands.proofs.Common.{checked_line, line_in, Examines, fails_first, tells_alone, tells_behind, FolderTold, IsUnwritten, StreamTold}
 use Rattle.std.specs.Io.KnownBytes.{Appends}
 use Rattle.sporc_outside.specs.Writing.{AppendsPrefix}
-use Rattle.sporc_outside.specs.Streams.{IsUnwritten, StreamTold}
-use Rattle.sporc_outside.specs.Folders.{FolderTold}
 use Rattle.sporc_files.specs.declared.fault.Fault.TheVariants as faults
 use Rattle.sporc_commands.specs.Uses.{OnlyReads, WritesLine}
 

@@ -1,13 +1,11 @@
 -- Words that may found a document name those who can.
 use Rattle.std.proofs.Common.{◌≡◌, ℕ, ◌==◌, nat_eq, nat_le, not, suc, false, List, [], ◌∷◌, ◌&&◌, length, map, Option, refl, sym, ap, ◌∙◌, subst, arith}
-use Rattle.sporc_commands.proofs.Common.{AllByRecursion, IsMember, NamedFile, Named, CanFound, is_first_admin, number_of, numbers_of, Participant, FileNames, AreNamed, IsNamed, MayFound}
+use Rattle.sporc_commands.proofs.Common.{AllByRecursion, IsMember, NamedFile, Named, CanFound, is_first_admin, number_of, numbers_of, Participant, FileNames, AreNamed, IsNamed, MayFound, and_parts}
+use Rattle.sporc_commands.proofs.Common.{leb-true, not-true, or_parts, Found, Founder, Joiner}
 use Rattle.std.specs.List.{IsDistinct, list_any}
 use Rattle.std.specs.Cmp.{nat_eq_equiv}
-use Rattle.std.proofs.lemmas.Bool.{and_parts, leb-true, not-true, or_parts}
 use Rattle.sporc_member.specs.declared.limits.TheConstants.{MAX_MEMBERS}
-use Rattle.sporc_words.specs.declared.found.Found.{Found}
 use Rattle.sporc_words.specs.declared.standing.Standing.{Standing}
-use Rattle.sporc_words.specs.declared.standing.Standing.TheVariants.{Founder, Joiner}
 use Rattle.sporc_words.specs.Values.{founds_admin, has_twice}
 
 abbrev pub members_of : List Participant → List ℕ
@@ -20,12 +18,11 @@ module _ (told : Option (List NamedFile)) (names : FileNames) where
 
   pub same_numbers : (ps : List Participant) (ns : List Named) → AreNamed told names ps ns → numbers_of ns ≡ members_of ps
   same_numbers [] [] all = refl
-  same_numbers [] (n ∷ ns) all = absurd all
-  same_numbers (p ∷ ps) [] all = absurd all
   same_numbers (p ∷ ps) (n ∷ ns) (one, all) =
       let head = one_number p.member p.standing n one in
       let tail = same_numbers ps ns all in
       cc
+  same_numbers ps ns all = absurd all
 
   one_admin : (member : ℕ) (standing : Standing) (n : Named) → IsNamed told names member standing n → is_first_admin n ≡ founds_admin standing
   one_admin member (Founder role) n (key, says, is) = ap is_first_admin is
@@ -33,18 +30,16 @@ module _ (told : Option (List NamedFile)) (names : FileNames) where
 
   same_admins : (ps : List Participant) (ns : List Named) → AreNamed told names ps ns → list_any is_first_admin ns ≡ list_any (λ p. founds_admin p.standing) ps
   same_admins [] [] all = refl
-  same_admins [] (n ∷ ns) all = absurd all
-  same_admins (p ∷ ps) [] all = absurd all
   same_admins (p ∷ ps) (n ∷ ns) (one, all) =
       let head = one_admin p.member p.standing n one in
       let tail = same_admins ps ns all in
       cc
+  same_admins ps ns all = absurd all
 
   same_length : (ps : List Participant) (ns : List Named) → AreNamed told names ps ns → length ns ≡ length ps
   same_length [] [] all = refl
-  same_length [] (n ∷ ns) all = absurd all
-  same_length (p ∷ ps) [] all = absurd all
   same_length (p ∷ ps) (n ∷ ns) (one, all) = ap suc (same_length ps ns all)
+  same_length ps ns all = absurd all
 
 -- members are members
 are_members : (ps : List Participant) → AllByRecursion (λ p. IsMember p.member) ps → AllByRecursion IsMember (members_of ps)

@@ -1,8 +1,7 @@
 -- Those who are named, one after another.
 use Rattle.std.proofs.Common.{◌≡◌, ℕ, suc, ◌+◌, ◌<◌, ◌≤◌, List, [], ◌∷◌, ◌++◌, length, take, drop, get_or, Option, sym, ap, ◌∙◌, subst, add-one}
-use Rattle.sporc_commands.proofs.Common.{take-append-drop, NamedFile, first_device, Named, Participant, Fault, FileNames, IsFileFault, key_file, file_later, AreNamed, FirstBadKey, IsNamed}
+use Rattle.sporc_commands.proofs.Common.{take-append-drop, NamedFile, first_device, Named, Participant, Fault, FileNames, IsFileFault, key_file, file_later, AreNamed, FirstBadKey, IsNamed, Joiner}
 use Rattle.std.proofs.Math.Seq.{drop-cons, take-suc}
-use Rattle.sporc_words.specs.declared.standing.Standing.TheVariants.{Joiner}
 use Rattle.sporc_files.specs.declared.fault.Fault.TheVariants as faults
 use Rattle.sporc_files.specs.declared.file.File.TheVariants as files
 
@@ -12,9 +11,8 @@ nobody told names ns none = rw none tt
 pub one_more : (told : Option (List NamedFile)) (names : FileNames) (ps : List Participant) (ns : List Named) (p : Participant) (n : Named) → AreNamed told names ps ns
     → IsNamed told names p.member p.standing n → AreNamed told names (ps ++ p ∷ []) (ns ++ n ∷ [])
 one_more told names [] [] p n all one = (one, tt)
-one_more told names [] (m ∷ ns) p n all one = absurd all
-one_more told names (q ∷ ps) [] p n all one = absurd all
 one_more told names (q ∷ ps) (m ∷ ns) p n (first, all) one = (first, one_more told names ps ns p n all one)
+one_more told names ps ns p n all one = absurd all
 
 -- the list around one of its items
 pub around : {X : Type 0} (xs : List X) (i : ℕ) (d : X) → i < length xs → xs ≡ take i xs ++ (get_or xs i d ∷ drop (suc i) xs)

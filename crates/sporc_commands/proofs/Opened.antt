@@ -1,18 +1,15 @@
 -- What a server begins with: its genesis, the file of its tail, its log, and the tail.
-use Rattle.std.proofs.Common.{◌≡◌, ◌≤◌, ◌<◌, ◌⊎◌, inl, inr, ℕ, Bool, true, false, List, [], length, Option, Some, None, Result, Ok, Err, refl, sym, ap, ◌∙◌, subst, arith}
+use Rattle.std.proofs.Common.{◌≡◌, ◌≤◌, ◌<◌, ◌⊎◌, inl, inr, ℕ, false, List, [], length, Option, Some, None, Result, Ok, Err, refl, sym, ap, ◌∙◌, subst, arith}
 use Rattle.sporc_commands.proofs.Common.{IfSome, IfOk, option_map, ◌>>=◌, fault_as, Rose, count_of_both, AppendTold, ChangesFile, IsAppendedTo, TakesFile, file_in, made_in, or_empty, with_bytes}
 use Rattle.sporc_commands.proofs.Common.{NamedFile, Genesis, OrderModel, Taken, Fault, File, FileNames, file_name, IsAppendingFault, IsFileFault, SaysFile, any_bytes, genesis_file}
 use Rattle.sporc_commands.proofs.Common.{AnswersUnlessOutside, unless_stopped, IsFileAt, bytes_in, genesis_in, FindsOrder, FindsOrderBehind, HasLogged, fault_of_tail, logged, order_behind}
-use Rattle.sporc_commands.proofs.Common.{order_of_whole, order_with, tail_in, with_tail, tells_behind, tells_later}
-use Rattle.std.specs.Str.{bytes_eq}
+use Rattle.sporc_commands.proofs.Common.{order_of_whole, order_with, tail_in, with_tail, tells_behind, tells_later, accepted_from, an_order, bytes_eq, false_from_ne_true, MAX_FILE}
 use Rattle.std.proofs.lemmas.Slice.Eq.{bytes_eq-Decides}
-use Rattle.sporc_outside.specs.declared.file_fault.TheConstants.{MAX_FILE}
 use Rattle.sporc_outside.proofs.Files.{file_in-other}
 use Rattle.sporc_store.specs.declared.tail_fault.TailFault.{TailFault}
 use Rattle.sporc_store.specs.declared.tail_fault.TailFault.TheVariants as tails
 use Rattle.sporc_store.specs.declared.stop.Stop.{Stop}
 use Rattle.sporc_store.specs.declared.stop.Stop.TheVariants.{End}
-use Rattle.sporc_store.specs.Loading.{accepted_from, an_order}
 use Rattle.sporc_store.specs.TailBytes.{TailTaken, tail_behind}
 use Rattle.sporc_store.specs.TailReadings.{AreTold, IsFaultOfRead, TakesRead}
 use Rattle.sporc_files.specs.declared.fault.Fault.TheVariants as faults
@@ -122,13 +119,9 @@ module _ {X D : Type 0} (view : X → OrderModel) (len : X → ℕ) (told : Opti
 -- ---- names and files
 
 tail_apart : (names : FileNames) → bytes_eq (file_name names files.Tail) (file_name names files.Log) ≡ false
-tail_apart names = by (bytes_eq (file_name names files.Tail) (file_name names files.Log)) refl
-  where
-    by : (b : Bool) → bytes_eq (file_name names files.Tail) (file_name names files.Log) ≡ b → bytes_eq (file_name names files.Tail) (file_name names files.Log) ≡ false
-    by true is =
-        let same : files.Tail ≡ files.Log = names_apart names files.Tail files.Log tt tt ((bytes_eq-Decides (file_name names files.Tail) (file_name names files.Log)).0 is) in
-        absurd cc
-    by false is = is
+tail_apart names = false_from_ne_true (bytes_eq (file_name names files.Tail) (file_name names files.Log)) (λ is.
+    let same : files.Tail ≡ files.Log = names_apart names files.Tail files.Log tt tt ((bytes_eq-Decides (file_name names files.Tail) (file_name names files.Log)).0 is) in
+    cc)
 
 pub made_other : (fs : List NamedFile) (name other : List ℕ) → bytes_eq name other ≡ false → file_in (made_in fs name) other ≡ file_in fs other
 made_other fs name other apart = by (file_in fs name) refl

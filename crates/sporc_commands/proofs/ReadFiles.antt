@@ -1,9 +1,7 @@
 -- What is read of files, and what follows of it.
 use Rattle.std.proofs.Common.{◌≡◌, ℕ, ◌≤◌, ◌<◌, List, length, Option, None, Some, Result, Ok, Err, refl, sym, ap, ◌∙◌, arith}
 use Rattle.sporc_commands.proofs.Common.{◌>>=◌, fault_as, Rose, HasFile, HasNoFile, file_in, NamedFile, Fault, File, FileNames, file_name, IsFileFault, SaysFile, AnswersUnlessOutside, fails_first}
-use Rattle.sporc_commands.proofs.Common.{tells_alone, tells_behind, IsFileAt, said}
-use Rattle.std.proofs.lemmas.Bool.{lt-ltb, le-ltb}
-use Rattle.sporc_outside.specs.declared.file_fault.TheConstants.{MAX_FILE}
+use Rattle.sporc_commands.proofs.Common.{tells_alone, tells_behind, IsFileAt, said, lt-ltb, le-ltb, MAX_FILE}
 use Rattle.sporc_files.specs.declared.fault.Fault.TheVariants as faults
 
 -- ---- what a folder holds

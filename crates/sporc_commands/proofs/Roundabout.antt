@@ -1,6 +1,6 @@
 -- Rounds of a server, one behind another.
-use Rattle.std.proofs.Common.{◌≡◌, ◌≤◌, ◌+◌, inl, inr, ℕ, zero, suc, List, [], ◌∷◌, ◌++◌, length, Option, Some, None, Ok, Err, refl, sym, ap, subst, ◌∙◌, arith, append-nil, append_assoc}
-use Rattle.sporc_commands.proofs.Common.{replicate, length-append, Fault, AsksAgain}
+use Rattle.std.proofs.Common.{◌≡◌, ◌≤◌, ◌+◌, inl, inr, ℕ, List, [], ◌∷◌, ◌++◌, length, Option, Some, None, Ok, Err, refl, sym, ap, subst, ◌∙◌, arith, append-nil, append_assoc}
+use Rattle.sporc_commands.proofs.Common.{replicate, length-append, Fault, AsksAgain, replicate-append-replicate}
 use Rattle.sporc_outside.specs.Told.{MayAppend}
 use Rattle.sporc_commands.specs.Rounds.{GoRounds, GoWell, Round, Standing}
 
@@ -39,16 +39,6 @@ module _ {X : Type 0} (IsRound : Standing X → Round X → Type 0) where
 
 -- ---- addresses
 
-replicate_more : (n : ℕ) (address : List ℕ) → replicate n address ++ address ∷ [] ≡ replicate (n + 1) address
-replicate_more n address = go n ∙ ap (λ (m : ℕ). replicate m address) (suc_is n)
-  where
-    suc_is : (n : ℕ) → suc n ≡ n + 1
-    suc_is n = omega arith
-
-    go : (n : ℕ) → replicate n address ++ address ∷ [] ≡ replicate (suc n) address
-    go zero = refl
-    go (suc n) = ap (λ (l : List (List ℕ)). address ∷ l) (go n)
-
 pub asks_once : (a b : Option (List (List ℕ))) (address : List ℕ) → MayAppend a b address → AsksAgain 1 a b address
 asks_once None b address asked = tt
 asks_once (Some x) None address asked = asked
@@ -63,7 +53,7 @@ asks_more n (Some x) (Some y) (Some z) address (k, low, is) (inl then) = (
   k + 1,
   omega (arith, low),
   then ∙ ap (λ (l : List (List ℕ)). l ++ address ∷ []) is ∙ append_assoc x (replicate k address) (address ∷ [])
-      ∙ ap (λ (l : List (List ℕ)). x ++ l) (replicate_more k address),
+      ∙ ap (λ (l : List (List ℕ)). x ++ l) (replicate-append-replicate k 1 address),
 )
 asks_more n (Some x) (Some y) (Some z) address (k, low, is) (inr then) = (k, omega (arith, low), then ∙ is)
 

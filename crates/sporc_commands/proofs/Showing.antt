@@ -1,14 +1,10 @@
 -- The line of a key file that `keygen` wrote.
 use Rattle.std.proofs.Common.{◌≡◌, ℕ, List, Some, Result, Ok, Err, sym, ap, ◌∙◌, subst}
-use Rattle.sporc_commands.proofs.Common.{◌>>=◌, NamedFile, Device}
+use Rattle.sporc_commands.proofs.Common.{◌>>=◌, NamedFile, Device, LmsPrivate, lms_public_of, NewKey, key_file_bytes, key_file_of, private_in, key_line}
 use Rattle.std.proofs.lemmas.Option.{same_Some}
-use Rattle.lms_tree.specs.LmsPrivate.{LmsPrivate, lms_public_of}
-use Rattle.sporc_keys.specs.KeyFile.{key_file_bytes, key_file_of, private_in}
 use Rattle.sporc_keys.specs.declared.key_file.KeyFile.{KeyFile}
-use Rattle.sporc_keys.specs.declared.new_key.NewKey.{NewKey}
 use Rattle.sporc_keys.proofs.KeyFileLaws.{key_file_again}
 use Rattle.sporc_words.specs.declared.public.Public.{Public}
-use Rattle.sporc_commands.specs.KeyMaking.{key_line}
 use Rattle.sporc_commands.specs.KeyShowing.{HasNewKey, IsLineOf}
 
 -- the key that a key file says is its own

@@ -1,40 +1,29 @@
 -- Why not all files of a document were written, case by case.
 use Rattle.std.proofs.Common.{◌≡◌, ℕ, ◌≤◌, List, [], ◌∷◌, Option, Result, Ok, Err, inr, subst, arith}
-use Rattle.sporc_commands.proofs.Common.{Rose, NamedFile, Use, Named, IsFounding, in_order, Participant, Fault, FileNames, names_of_document, Stores, StoresFirst, StoresPrefix, AreNamed, FoundOutcome}
-use Rattle.sporc_commands.proofs.Common.{IsStoreFault, founding_files}
-use Rattle.std.specs.Result.{IfErr}
-use Rattle.sporc_outside.specs.Folders.{FolderTold}
+use Rattle.sporc_commands.proofs.Common.{NamedFile, Use, Named, IsFounding, in_order, Participant, Fault, FileNames, names_of_document, Stores, AreNamed, FoundOutcome}
+use Rattle.sporc_commands.proofs.Common.{IsStoreFault, founding_files, FolderTold, IfErr, Found}
 use Rattle.sporc_outside.specs.Chances.{ChanceTold}
 use Rattle.sporc_keys.specs.declared.founding.Founding.{Founding}
-use Rattle.sporc_words.specs.declared.found.Found.{Found}
 use Rattle.sporc_files.specs.declared.fault.Fault.TheVariants as faults
 use Rattle.sporc_commands.proofs.Storing.{first_then, stored_then}
 
-data StoreCase (new : List NamedFile) (before after : Option (List NamedFile)) (low high : ℕ) : Fault → Type 0 where
-  StoreMemory : StoresFirst new before after → StoreCase new before after low high faults.Memory
-  StoreFailed : Rose low high → StoresPrefix new before after → StoreCase new before after low high faults.Outside
-
-module _ (new : List NamedFile) (before after : Option (List NamedFile)) (low high : ℕ) where
-  store_case : (fault : Fault) → IsStoreFault new before after low high fault → StoreCase new before after low high fault
-  store_case faults.Memory left = StoreMemory left
-  store_case faults.Outside (rose, left) = StoreFailed rose left
-  store_case fault never = absurd never
-
 -- behind a file that was written
 module _ (f : NamedFile) (new : List NamedFile) (before between after : Option (List NamedFile)) (low mid high : ℕ) (stored : Stores (f ∷ []) before between) (more : low ≤ mid) where
-  behind : (fault : Fault) → StoreCase new between after mid high fault → IsStoreFault (f ∷ new) before after low high fault
-  behind fault (StoreMemory left) = first_then (f ∷ []) new before between after stored left
-  behind fault (StoreFailed rose left) = (omega (arith, rose, more), stored_then (f ∷ []) new before between after stored left)
+  behind : (fault : Fault) → IsStoreFault new between after mid high fault → IsStoreFault (f ∷ new) before after low high fault
+  behind faults.Memory left = first_then (f ∷ []) new before between after stored left
+  behind faults.Outside (rose, left) = (omega (arith, rose, more), stored_then (f ∷ []) new before between after stored left)
+  behind fault never = absurd never
 
   pub behind_err : {T : Type 0} (r : Result T Fault) → IfErr r (IsStoreFault new between after mid high) → IfErr r (IsStoreFault (f ∷ new) before after low high)
   behind_err (Ok done) failed = tt
-  behind_err (Err fault) failed = behind fault (store_case new between after mid high fault failed)
+  behind_err (Err fault) failed = behind fault failed
 
 -- of a folder whose count of faults had risen before
-later : (new : List NamedFile) (before after : Option (List NamedFile)) (low mid high : ℕ) (fault : Fault) → low ≤ mid → StoreCase new before after mid high fault
+later : (new : List NamedFile) (before after : Option (List NamedFile)) (low mid high : ℕ) (fault : Fault) → low ≤ mid → IsStoreFault new before after mid high fault
     → IsStoreFault new before after low high fault
-later new before after low mid high fault more (StoreMemory left) = left
-later new before after low mid high fault more (StoreFailed rose left) = (omega (arith, rose, more), left)
+later new before after low mid high faults.Memory more left = left
+later new before after low mid high faults.Outside more (rose, left) = (omega (arith, rose, more), left)
+later new before after low mid high fault more never = absurd never
 
 -- what `found` did if not all files were written
 module _ {T : Type 0} (r : Result T Fault) (asked : Found) (files : Use FolderTold) (chance : Use ChanceTold) (y fault : Fault) (is : r ≡ Err y) (same : y ≡ fault) where
@@ -44,8 +33,7 @@ module _ {T : Type 0} (r : Result T Fault) (asked : Found) (files : Use FolderTo
       → IsStoreFault (founding_files n founding) between files.after.files mid files.after.faults fault → FoundOutcome asked files chance r
   write_fails n qs between mid named founding said those stand more read made cause =
       let here = subst (λ (told : Option (List NamedFile)). IsStoreFault (founding_files n founding) told files.after.files mid files.after.faults fault) stand cause in
-      let all = later (founding_files n founding) files.before.files files.after.files files.before.faults mid files.after.faults fault more
-      (store_case (founding_files n founding) files.before.files files.after.files mid files.after.faults fault here) in
+      let all = later (founding_files n founding) files.before.files files.after.files files.before.faults mid files.after.faults fault more here in
       rw (is, same) (inr (inr (record {
         named = named;
         read = subst (λ (m : FileNames). AreNamed files.before.files m asked.participants named) said

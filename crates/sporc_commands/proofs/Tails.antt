@@ -1,10 +1,11 @@
 -- What the tail of a log keeps, and what its bytes give.
 use Rattle.std.proofs.Common.{◌≡◌, ◌≤◌, ℕ, ◌+◌, List, [], ◌∷◌, ◌++◌, length, take, drop, Option, None, Some, Result, Ok, Err, OnOk, OnErr, refl, sym, ap, ◌∙◌, subst, arith, append_assoc}
 use Rattle.sporc_commands.proofs.Common.{IfSome, append_cancel_left, length-append, take-append-drop, take_at, AppendTold, file_images, IsPrefix, GivesAll, KeepsBehind, KeepsLast, LogTailModel}
+use Rattle.sporc_commands.proofs.Common.{take-take}
 use Rattle.sporc_order.specs.declared.tail.Unkept.{Unkept}
 use Rattle.sporc_store.specs.TailBytes.{IsTail, Recovers}
 use Rattle.sporc_store.specs.TailFiles.{Between, Keeps, OpensBehind, Puts, TailFileModel}
-use Rattle.sporc_store.proofs.TailReads.{recovers, shorter_take}
+use Rattle.sporc_store.proofs.TailReads.{recovers}
 
 -- ---- an entry is put
 
@@ -58,7 +59,7 @@ prefix_parts before behind log entries parts prefix within =
     let n = length before in
     let front = drop n log in
     let start : take n log ≡ before =
-    ap (take n) prefix ∙ shorter_take n (length log) entries within ∙ ap (take n) parts ∙ take_at before behind n refl in
+    ap (take n) prefix ∙ take-take n (length log) entries within ∙ ap (take n) parts ∙ take_at before behind n refl in
     let log_is : log ≡ before ++ front = sym (take-append-drop n log) ∙ ap (λ (l : List (List ℕ)). l ++ front) start in
     let more = drop (length log) entries in
     let whole : log ++ more ≡ entries = ap (λ (l : List (List ℕ)). l ++ more) prefix ∙ take-append-drop (length log) entries in

@@ -1,12 +1,13 @@
 -- Parts that are appended, joined with a last one of their kind.
-use Rattle.std.proofs.Common.{◌≡◌, ℕ, ◌+◌, ◌-◌, ◌<◌, ◌≤◌, true, false, List, [], ◌∷◌, ◌++◌, length, refl, ap, sym, subst, ◌∙◌, ◌⊎◌, inl, inr, append_assoc, arith, Some, Result, Ok, Err, set}
+use Rattle.std.proofs.Common.{◌≡◌, ℕ, ◌+◌, ◌-◌, ◌<◌, ◌≤◌, true, false, List, [], ◌∷◌, ◌++◌, length, refl, ap, sym, subst, ◌∙◌, ◌⊎◌, inl, inr, append_assoc, arith, Option, None, Some, Result, Ok, Err}
+use Rattle.std.proofs.Common.{set}
 use Rattle.sporc_delta.proofs.Common.{map-append, length-append, replicate-append-replicate, append-nil, slice_get, OnOk, Part, KeepRun, InsertText, RemoveRun, Keep, Insert, base_len, out_len}
-use Rattle.sporc_delta.proofs.Common.{keep_marks, remove_marks, insert_marks, part_marks, marks_of, same_kind, part_len, AreRuns, Appends, kept_by, removed_by, inserted_by, kept_at_end, removed_at_end}
-use Rattle.sporc_delta.proofs.Common.{text_at_end}
+use Rattle.sporc_delta.proofs.Common.{keep_marks, remove_marks, insert_marks, part_marks, marks_of, is_kind, kind_of, same_kind, part_len, AreRuns, Appends, kept_by, removed_by, inserted_by}
+use Rattle.sporc_delta.proofs.Common.{kept_at_end, removed_at_end, text_at_end}
 use Rattle.std.proofs.Math.Seq.{set-append_seam}
 use Rattle.sporc_delta.specs.Marks.{Remove}
 use Rattle.sporc_delta.proofs.Lengths.{out_len-append, base_len-append, out_len-keep_marks, base_len-remove_marks, out_len-insert_marks}
-use Rattle.sporc_delta.proofs.Runs.{marks_of-append}
+use Rattle.sporc_delta.proofs.Runs.{marks_of-append, same_is_kind}
 
 -- a list is empty or has a last element
 by_end : (ps : List Part) → (ps ≡ []) ⊎ ((front : List Part) × (last : Part) × (ps ≡ front ++ last ∷ []))
@@ -31,31 +32,29 @@ pub record EndsIn (ps : List Part) (last : Part) : Type 0 where
   pub front : List Part
   pub is : ps ≡ front ++ last ∷ []
 
-kept_here : (front : List Part) (last : Part) (n : ℕ) → n ≡ kept_by (Some last) → 0 < n → EndsIn (front ++ last ∷ []) (KeepRun n)
-kept_here front (KeepRun m) n is some = record { front = front; is = ap (λ k. front ++ KeepRun k ∷ []) (sym is) }
-kept_here front (InsertText text) n is some = absurd (omega arith)
-kept_here front (RemoveRun m) n is some = absurd (omega arith)
-
-removed_here : (front : List Part) (last : Part) (n : ℕ) → n ≡ removed_by (Some last) → 0 < n → EndsIn (front ++ last ∷ []) (RemoveRun n)
-removed_here front (RemoveRun m) n is some = record { front = front; is = ap (λ k. front ++ RemoveRun k ∷ []) (sym is) }
-removed_here front (InsertText text) n is some = absurd (omega arith)
-removed_here front (KeepRun m) n is some = absurd (omega arith)
+-- the last part is the run of this count, if that counts parts of one kind alone
+counted_end : (count : Option Part → ℕ) (run : ℕ → Part) → count None ≡ 0 → ((p : Part) → 0 < count (Some p) → p ≡ run (count (Some p)))
+    → (ps : List Part) (n : ℕ) → n ≡ count (slice_get ps (length ps - 1)) → 0 < n → EndsIn ps (run n)
+counted_end count run none is_run ps n is some = elim (by_end ps) [
+  | inl e ↦ absurd (omega (arith, is, ap (λ qs. count (slice_get qs (length qs - 1))) e, none))
+  | inr found ↦
+      let last : n ≡ count (Some found.1) = is ∙ ap (λ qs. count (slice_get qs (length qs - 1))) found.2 ∙ ap count (get_last found.0 found.1) in
+      record { front = found.0; is = found.2 ∙ ap (λ p. found.0 ++ p ∷ []) (is_run found.1 (omega arith) ∙ ap run (sym last)) }
+]
 
 pub kept_end : (ps : List Part) (n : ℕ) → n ≡ kept_at_end ps → 0 < n → EndsIn ps (KeepRun n)
-kept_end ps n is some = elim (by_end ps) [
-  | inl e ↦ let z : n ≡ 0 = is ∙ ap kept_at_end e in absurd (omega arith)
-  | inr found ↦
-      let P : List Part → Type 0 = λ qs. EndsIn qs (KeepRun n) in
-      subst P (sym found.2) (kept_here found.0 found.1 n (is ∙ ap kept_at_end found.2 ∙ ap kept_by (get_last found.0 found.1)) some)
-]
+kept_end = counted_end kept_by KeepRun refl is_keep
+  where
+    is_keep : (p : Part) → 0 < kept_by (Some p) → p ≡ KeepRun (kept_by (Some p))
+    is_keep (KeepRun n) some = refl
+    is_keep p some = absurd (omega arith)
 
 pub removed_end : (ps : List Part) (n : ℕ) → n ≡ removed_at_end ps → 0 < n → EndsIn ps (RemoveRun n)
-removed_end ps n is some = elim (by_end ps) [
-  | inl e ↦ let z : n ≡ 0 = is ∙ ap removed_at_end e in absurd (omega arith)
-  | inr found ↦
-      let P : List Part → Type 0 = λ qs. EndsIn qs (RemoveRun n) in
-      subst P (sym found.2) (removed_here found.0 found.1 n (is ∙ ap removed_at_end found.2 ∙ ap removed_by (get_last found.0 found.1)) some)
-]
+removed_end = counted_end removed_by RemoveRun refl is_remove
+  where
+    is_remove : (p : Part) → 0 < removed_by (Some p) → p ≡ RemoveRun (removed_by (Some p))
+    is_remove (RemoveRun n) some = refl
+    is_remove p some = absurd (omega arith)
 
 -- marks at the end
 pub marks_of-last : (front : List Part) (last : Part) → marks_of (front ++ last ∷ []) ≡ marks_of front ++ part_marks last
@@ -66,10 +65,11 @@ marks_grown : (front : List Part) (last more grown : Part) (ps : List Part)
 marks_grown front last more grown ps is joins = rw (is, marks_of-last front grown, marks_of-last front last, joins, append_assoc) refl
 
 -- a part at the end in place of one of its kind, or behind one of another kind
-pub AreRuns-grown : (front : List Part) (last grown : Part) → ((p : Part) → same_kind p last ≡ same_kind p grown) → 0 < part_len grown
+pub AreRuns-grown : (front : List Part) (last grown : Part) → kind_of last ≡ kind_of grown → 0 < part_len grown
     → AreRuns (front ++ last ∷ []) → AreRuns (front ++ grown ∷ [])
 AreRuns-grown [] last grown like some h = (some, tt, tt)
-AreRuns-grown (p ∷ []) last grown like some h = (h.0, sym (like p) ∙ h.1, AreRuns-grown [] last grown like some h.2)
+AreRuns-grown (p ∷ []) last grown like some h =
+    (h.0, sym (same_is_kind p grown) ∙ ap (is_kind (Some (kind_of p))) (sym like) ∙ same_is_kind p last ∙ h.1, AreRuns-grown [] last grown like some h.2)
 AreRuns-grown (p ∷ q ∷ front) last grown like some h = (h.0, h.1, AreRuns-grown (q ∷ front) last grown like some h.2)
 
 AreRuns-more : (front : List Part) (last more : Part) → same_kind last more ≡ false → 0 < part_len more
@@ -94,24 +94,17 @@ last_some (p ∷ front) last h = last_some front last h.2
 keeps_joined : (m n : ℕ) → keep_marks (m + n) ≡ keep_marks m ++ keep_marks n
 keeps_joined m n = sym (replicate-append-replicate m n Keep)
 
-pub same_keep : (m n : ℕ) (p : Part) → same_kind p (KeepRun m) ≡ same_kind p (KeepRun n)
-same_keep m n (KeepRun k) = refl
-same_keep m n (InsertText text) = refl
-same_keep m n (RemoveRun k) = refl
-
 pub kept_grown : (ps : List Part) (len m n : ℕ) → len ≡ length ps → m ≡ kept_at_end ps → 0 < m → Appends ps (set ps (len - 1) (KeepRun (m + n))) (keep_marks n)
 kept_grown ps len m n all is some =
     let end = kept_end ps m is some in
-    let P : List Part → Type 0 = AreRuns in
     rw (all, set_last end.front (KeepRun m) (KeepRun (m + n)) ps end.is) record {
       marks = marks_grown end.front (KeepRun m) (KeepRun n) (KeepRun (m + n)) ps end.is (keeps_joined m n);
-      are_runs = λ h. AreRuns-grown end.front (KeepRun m) (KeepRun (m + n)) (same_keep m (m + n)) (omega arith) (subst P end.is h);
+      are_runs = λ h. AreRuns-grown end.front (KeepRun m) (KeepRun (m + n)) refl (omega arith) (subst AreRuns end.is h);
     }
 
 not_keep : (front : List Part) (last : Part) (n : ℕ) → 0 ≡ kept_by (Some last) → AreRuns (front ++ last ∷ []) → same_kind last (KeepRun n) ≡ false
 not_keep front (KeepRun m) n is h = let some = last_some front (KeepRun m) h in absurd (omega arith)
-not_keep front (InsertText text) n is h = refl
-not_keep front (RemoveRun m) n is h = refl
+not_keep front last n is h = refl
 
 pub keep_pushed : (ps new : List Part) (m n : ℕ) → m ≡ kept_at_end ps → m ≡ 0 → 0 < n → new ≡ ps ++ KeepRun n ∷ [] → Appends ps new (keep_marks n)
 keep_pushed ps new m n is none some pushed = rw pushed record {
@@ -126,24 +119,17 @@ keep_pushed ps new m n is none some pushed = rw pushed record {
 removes_joined : (m n : ℕ) → remove_marks (m + n) ≡ remove_marks m ++ remove_marks n
 removes_joined m n = sym (replicate-append-replicate m n Remove)
 
-same_remove : (m n : ℕ) (p : Part) → same_kind p (RemoveRun m) ≡ same_kind p (RemoveRun n)
-same_remove m n (KeepRun k) = refl
-same_remove m n (InsertText text) = refl
-same_remove m n (RemoveRun k) = refl
-
 pub removed_grown : (ps : List Part) (len m n : ℕ) → len ≡ length ps → m ≡ removed_at_end ps → 0 < m → Appends ps (set ps (len - 1) (RemoveRun (m + n))) (remove_marks n)
 removed_grown ps len m n all is some =
     let end = removed_end ps m is some in
-    let P : List Part → Type 0 = AreRuns in
     rw (all, set_last end.front (RemoveRun m) (RemoveRun (m + n)) ps end.is) record {
       marks = marks_grown end.front (RemoveRun m) (RemoveRun n) (RemoveRun (m + n)) ps end.is (removes_joined m n);
-      are_runs = λ h. AreRuns-grown end.front (RemoveRun m) (RemoveRun (m + n)) (same_remove m (m + n)) (omega arith) (subst P end.is h);
+      are_runs = λ h. AreRuns-grown end.front (RemoveRun m) (RemoveRun (m + n)) refl (omega arith) (subst AreRuns end.is h);
     }
 
 not_remove : (front : List Part) (last : Part) (n : ℕ) → 0 ≡ removed_by (Some last) → AreRuns (front ++ last ∷ []) → same_kind last (RemoveRun n) ≡ false
 not_remove front (RemoveRun m) n is h = let some = last_some front (RemoveRun m) h in absurd (omega arith)
-not_remove front (InsertText text) n is h = refl
-not_remove front (KeepRun m) n is h = refl
+not_remove front last n is h = refl
 
 pub remove_pushed : (ps new : List Part) (m n : ℕ) → m ≡ removed_at_end ps → m ≡ 0 → 0 < n → new ≡ ps ++ RemoveRun n ∷ [] → Appends ps new (remove_marks n)
 remove_pushed ps new m n is none some pushed = rw pushed record {
@@ -155,24 +141,17 @@ remove_pushed ps new m n is none some pushed = rw pushed record {
 
 -- ---- parts that insert
 
-same_insert : (s t : List ℕ) (p : Part) → same_kind p (InsertText s) ≡ same_kind p (InsertText t)
-same_insert s t (KeepRun k) = refl
-same_insert s t (InsertText text) = refl
-same_insert s t (RemoveRun k) = refl
-
 pub text_grown : (ps front new : List Part) (s t : List ℕ) → ps ≡ front ++ InsertText s ∷ [] → 0 < length t → new ≡ front ++ InsertText (s ++ t) ∷ [] → Appends ps new (insert_marks t)
 text_grown ps front new s t is some grown = rw grown record {
   marks = marks_grown front (InsertText s) (InsertText t) (InsertText (s ++ t)) ps is (map-append Insert s t);
   are_runs = λ h.
-      let P : List Part → Type 0 = AreRuns in
       let n : 0 < length (s ++ t) = omega (arith, length-append s t) in
-      AreRuns-grown front (InsertText s) (InsertText (s ++ t)) (same_insert s (s ++ t)) n (subst P is h);
+      AreRuns-grown front (InsertText s) (InsertText (s ++ t)) refl n (subst AreRuns is h);
 }
 
 not_insert : (last : Part) (t : List ℕ) → inserted_by (Some last) ≡ false → same_kind last (InsertText t) ≡ false
-not_insert (KeepRun m) t is = refl
 not_insert (InsertText text) t is = cc
-not_insert (RemoveRun m) t is = refl
+not_insert last t is = refl
 
 pub text_pushed : (ps new : List Part) (t : List ℕ) → text_at_end ps ≡ false → 0 < length t → new ≡ ps ++ InsertText t ∷ [] → Appends ps new (insert_marks t)
 text_pushed ps new t none some pushed = rw pushed record {

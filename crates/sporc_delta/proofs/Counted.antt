@@ -41,9 +41,8 @@ seam bytes n utf8 =
 
 -- the characters of a part of a text are characters
 scalars-take : (n : ℕ) (text : List ℕ) → all_scalars text ≡ true → all_scalars (take n text) ≡ true
-scalars-take zero text h = refl
-scalars-take (suc n) [] h = refl
 scalars-take (suc n) (c ∷ text) h = let b = and_parts (scalar c) (all_scalars text) h in rw (b.0, scalars-take n text b.1) refl
+scalars-take n text h = refl
 
 scalars-drop : (n : ℕ) (text : List ℕ) → all_scalars text ≡ true → all_scalars (drop n text) ≡ true
 scalars-drop zero text h = h

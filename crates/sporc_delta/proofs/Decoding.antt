@@ -1,5 +1,6 @@
 -- Reading parts one after the other, as a loop does.
-use Rattle.std.proofs.Common.{◌≡◌, ℕ, zero, suc, ◌+◌, ◌≤◌, ◌<◌, Bool, true, false, cond, eqb, List, [], ◌∷◌, ◌++◌, length, drop, Option, Some, None, Result, Ok, Err, refl, sym, ap, subst, ◌∙◌, append_assoc, arith}
+use Rattle.std.proofs.Common.{◌≡◌, ℕ, zero, suc, ◌+◌, ◌≤◌, ◌<◌, Bool, true, false, cond, eqb, List, [], ◌∷◌, ◌++◌, length, drop, Option, Some, None, Result, Ok, Err, refl, sym, ap, subst, ◌∙◌}
+use Rattle.std.proofs.Common.{append_assoc, arith}
 use Rattle.sporc_delta.proofs.Common.{eqb-true, eqb-false, ne_eqb, append-nil, IsTrue, ◌↔◌, slice_index, w64, from_be_bytes, chars, is_utf8, Part, InsertText, Remove, Mark, marks_of, kind_of}
 use Rattle.sporc_delta.proofs.Common.{part_marks, kind_at, count_at, is_kind, body_at}
 use Rattle.sporc_bytes.specs.Fields.{Reading, ◌>>=◌, bytes_at}
@@ -37,8 +38,7 @@ head_ok before r head e =
     (λ kind. count_at (from_be_bytes w64 (drop 1 a.0.0)) >>= λ count. cond (is_kind before kind) (Err faults.SameNeighbours) (Ok (kind, count, a.0.1))) head a.2 in
     let c = bind_ok (count_at (from_be_bytes w64 (drop 1 a.0.0))) (λ count. cond (is_kind before b.0) (Err faults.SameNeighbours) (Ok (b.0, count, a.0.1))) head b.2 in
     let g = guard_ok (is_kind before b.0) faults.SameNeighbours (b.0, c.0, a.0.1) head c.2 in
-    let P : Kind × ℕ × Reading → Type 0 = λ h. HeadRead before r h in
-    subst P g.1 record { front = a.0.0; taken = fault_as_ok (λ _. faults.Short) (bytes_at 9 r) a.0 a.1; kind = b.1; count = c.1; unlike = g.0 }
+    subst (HeadRead before r) g.1 record { front = a.0.0; taken = fault_as_ok (λ _. faults.Short) (bytes_at 9 r) a.0 a.1; kind = b.1; count = c.1; unlike = g.0 }
 
 pub record TextRead (n : ℕ) (r : Reading) (x : List ℕ × Reading) : Type 0 where
   pub front : List ℕ
@@ -55,8 +55,7 @@ unfolding text_at
 text_ok n r x e =
     let a = bind_ok (piece_at n r) (λ text. cond (is_utf8 text.0) (Ok (chars text.0, text.1)) (Err faults.NotUtf8)) x e in
     let g = utf8_ok (is_utf8 a.0.0) faults.NotUtf8 (chars a.0.0, a.0.1) x a.2 in
-    let P : List ℕ × Reading → Type 0 = λ y. TextRead n r y in
-    subst P g.1 record { front = a.0.0; taken = fault_as_ok (λ _. faults.Short) (bytes_at n r) a.0 a.1; utf8 = g.0; is = refl }
+    subst (TextRead n r) g.1 record { front = a.0.0; taken = fault_as_ok (λ _. faults.Short) (bytes_at n r) a.0 a.1; utf8 = g.0; is = refl }
 
 -- what is left is shorter
 body_shorter : (kind : Kind) (n : ℕ) (r : Reading) (x : Part × Reading) → body_at kind n r ≡ Ok x → length x.1.rest ≤ length r.rest

@@ -1,9 +1,9 @@
 -- What is read is spelled so, and what is spelled so is read.
-use Rattle.std.proofs.Common.{◌≡◌, ℕ, zero, suc, ◌+◌, ◌≤◌, ◌<◌, Bool, true, false, ◌||◌, cond, eqb, ltb, List, [], ◌∷◌, ◌++◌, length, drop, Option, Some, None, Ok, Err, refl, sym, ap, subst, ◌∙◌, append_assoc, arith}
+use Rattle.std.proofs.Common.{◌≡◌, ℕ, zero, suc, ◌+◌, ◌≤◌, ◌<◌, Bool, true, false, ◌||◌, cond, eqb, ltb, List, [], ◌∷◌, ◌++◌, length, drop, Option, Some, None, Ok, Err, refl, sym, ap, subst, ◌∙◌}
+use Rattle.std.proofs.Common.{append_assoc, arith}
 use Rattle.sporc_delta.proofs.Common.{slice_index, w64, from_be_bytes, to_be_bytes, all_scalars, encode_utf8_all, eqb-false, eqb-true, le-ltb, ltb-false, ne_eqb, or_parts, append-nil, length-append}
 use Rattle.sporc_delta.proofs.Common.{chars-encodes, encodes-chars, scalars-chars, IsUtf8-from_is_utf8, is_utf8-from_IsUtf8, length-le-encodes, MAX_COUNT, Part, InsertText, Remove, Mark, marks_of}
-use Rattle.sporc_delta.proofs.Common.{runs, kind_of, part_len, same_kind, BeginsUnlike, AreRuns, kind_byte, part_bytes, parts_bytes, HasSpelling, HaveSpellings, Spells, kind_at, count_at, is_kind}
-use Rattle.sporc_delta.proofs.Common.{body_at}
+use Rattle.sporc_delta.proofs.Common.{runs, kind_of, part_len, BeginsUnlike, AreRuns, kind_byte, part_bytes, parts_bytes, HasSpelling, HaveSpellings, Spells, kind_at, count_at, is_kind, body_at}
 use Rattle.std.proofs.lemmas.Nat.{be_bytes_8, from_be_bytes-to_be_bytes_8}
 use Rattle.sporc_base.specs.Bytes.{IsBytes}
 use Rattle.sporc_base.proofs.ByteLemmas.{IsBytes-rest}
@@ -17,7 +17,7 @@ use Rattle.sporc_delta.specs.declared.part.Part.TheVariants.{Keep}
 use Rattle.sporc_delta.specs.Reading.{head_at, text_at, part_at, parts_at, read_delta}
 use Rattle.sporc_delta.proofs.Counted.{IsUtf8-encode_all}
 use Rattle.sporc_delta.proofs.Decoding.{guard_ok, head_ok, text_ok, no_parts}
-use Rattle.sporc_delta.proofs.Runs.{runs-marks_of, marks_of-runs, AreRuns-runs}
+use Rattle.sporc_delta.proofs.Runs.{runs-marks_of, marks_of-runs, AreRuns-runs, same_is_kind}
 
 -- ---- what was read
 
@@ -104,19 +104,16 @@ some_characters (c ∷ text) h = omega arith
 body_taken : (before : Option Kind) (r : Reading) (kind : Kind) (n : ℕ) (rest : Reading) (x : Part × Reading) → HeadTaken before r (kind, n, rest) → body_at kind n rest ≡ Ok x → PartTaken before r x
 body_taken before r kinds.Keep n rest x h e =
     let same : (Keep n, rest) ≡ x = cc e in
-    let P : Part × Reading → Type 0 = λ y. PartTaken before r y in
-    subst P same record { takes = h.takes; in_range = h.small; some = h.some; unlike = h.unlike }
+    subst (PartTaken before r) same record { takes = h.takes; in_range = h.small; some = h.some; unlike = h.unlike }
 body_taken before r kinds.Remove n rest x h e =
     let same : (Remove n, rest) ≡ x = cc e in
-    let P : Part × Reading → Type 0 = λ y. PartTaken before r y in
-    subst P same record { takes = h.takes; in_range = h.small; some = h.some; unlike = h.unlike }
+    subst (PartTaken before r) same record { takes = h.takes; in_range = h.small; some = h.some; unlike = h.unlike }
 body_taken before r kinds.Insert n rest x h e =
     let a = bind_ok (text_at n rest) (λ text. Ok (InsertText text.0, text.1)) x e in
     let t = text_taken n rest a.0 h.takes.bytes a.1 in
     let same : (InsertText a.0.0, a.0.1) ≡ x = cc a.2 in
-    let P : Part × Reading → Type 0 = λ y. PartTaken before r y in
     let head : Takes r (INSERT ∷ to_be_bytes w64 (length (encode_utf8_all a.0.0))) rest = subst (λ (k : ℕ). Takes r (INSERT ∷ to_be_bytes w64 k) rest) (sym t.len) h.takes in
-    subst P same record {
+    subst (PartTaken before r) same record {
       takes = Takes-then r (INSERT ∷ to_be_bytes w64 (length (encode_utf8_all a.0.0))) rest (encode_utf8_all a.0.0) a.0.1 head t.takes;
       in_range = (t.characters, omega (arith, t.len, h.small));
       some = some_characters a.0.0 (omega (arith, t.len, h.some));
@@ -133,17 +130,6 @@ part_taken before r x fits e =
 abbrev FollowsKind : Option Kind → List Part → Type 0
 FollowsKind before [] = Unit {0}
 FollowsKind before (p ∷ ps) = is_kind before (kind_of p) ≡ false
-
-same_is_kind : (p q : Part) → is_kind (Some (kind_of p)) (kind_of q) ≡ same_kind p q
-same_is_kind (Keep m) (Keep n) = refl
-same_is_kind (Keep m) (InsertText t) = refl
-same_is_kind (Keep m) (Remove n) = refl
-same_is_kind (InsertText s) (Keep n) = refl
-same_is_kind (InsertText s) (InsertText t) = refl
-same_is_kind (InsertText s) (Remove n) = refl
-same_is_kind (Remove m) (Keep n) = refl
-same_is_kind (Remove m) (InsertText t) = refl
-same_is_kind (Remove m) (Remove n) = refl
 
 begins_unlike : (p : Part) (ps : List Part) → FollowsKind (Some (kind_of p)) ps → BeginsUnlike p ps
 begins_unlike p [] h = tt
@@ -165,8 +151,7 @@ none_left (b ∷ bytes) len = absurd (omega arith)
 
 no_parts_taken : (before : Option Kind) (bytes : List ℕ) (ps : List Part) → length bytes ≡ 0 → [] ≡ ps → PartsTaken before bytes ps
 no_parts_taken before bytes ps len none =
-    let P : List Part → Type 0 = λ qs. PartsTaken before bytes qs in
-    subst P none record { spelled = none_left bytes len; in_range = tt; are_runs = tt; follows = tt }
+    subst (PartsTaken before bytes) none record { spelled = none_left bytes len; in_range = tt; are_runs = tt; follows = tt }
 
 parts_taken : (n : ℕ) (before : Option Kind) (r : Reading) (ps : List Part) → IsBytes r.rest → parts_at n before r ≡ Ok ps → PartsTaken before r.rest ps
 unfolding parts_at
@@ -186,8 +171,7 @@ parts_taken (suc n) before r ps fits e = by (λ before s ps fits e. parts_taken 
         let first = part_taken before r a.0 fits a.1 in
         let others = others_taken (Some (kind_of a.0.0)) a.0.1 c.0 first.takes.bytes c.1 in
         let all : a.0.0 ∷ c.0 ≡ ps = cc c.2 in
-        let P : List Part → Type 0 = λ qs. PartsTaken before r.rest qs in
-        subst P all record {
+        subst (PartsTaken before r.rest) all record {
           spelled = first.takes.parts ∙ ap (λ bs. part_bytes a.0.0 ++ bs) others.spelled;
           in_range = (first.in_range, others.in_range);
           are_runs = (first.some, begins_unlike a.0.0 c.0 others.follows, others.are_runs);
@@ -211,8 +195,7 @@ read_is_spelled bytes ms fits e =
 
 kind_again : (kind : Kind) → kind_at (kind_byte kind) ≡ Ok kind
 kind_again kinds.Keep = refl
-kind_again kinds.Insert = refl
-kind_again kinds.Remove = refl
+kind_again _ = refl
 
 count_again : (count : ℕ) → 0 < count → count ≤ MAX_COUNT → count_at count ≡ Ok count
 count_again count some small =
@@ -241,9 +224,8 @@ some_bytes text h = omega (arith, length-le-encodes text)
 
 -- the place behind a part
 abbrev behind : Part → ℕ → ℕ
-behind (Keep n) at = at + 9
 behind (InsertText text) at = at + 9 + length (encode_utf8_all text)
-behind (Remove n) at = at + 9
+behind _ at = at + 9
 
 part_again : (before : Option Kind) (p : Part) (at : ℕ) (rest : List ℕ) → is_kind before (kind_of p) ≡ false → 0 < part_len p → HasSpelling p
     → part_at before (left_at (part_bytes p ++ rest) at) ≡ Ok (p, left_at rest (behind p at))
@@ -259,8 +241,7 @@ part_again before (InsertText text) at rest unlike some fits =
 -- a part has bytes
 some_part_bytes : (p : Part) (rest : List ℕ) → 0 < length (part_bytes p ++ rest)
 some_part_bytes (Keep n) rest = omega arith
-some_part_bytes (InsertText text) rest = omega arith
-some_part_bytes (Remove n) rest = omega arith
+some_part_bytes _ rest = omega arith
 
 next_again : (n : ℕ) (before : Option Kind) (r : Reading) (p : Part) (ps : List Part) (rest : Reading) → 0 < length r.rest → part_at before r ≡ Ok (p, rest) → parts_at n (Some (kind_of p)) rest ≡ Ok ps
     → parts_at (suc n) before r ≡ Ok (p ∷ ps)
@@ -280,9 +261,7 @@ parts_again (suc n) before (p ∷ ps) at le h fits follows =
 
 not_before : (ps : List Part) → FollowsKind None ps
 not_before [] = tt
-not_before (Keep n ∷ ps) = refl
-not_before (InsertText text ∷ ps) = refl
-not_before (Remove n ∷ ps) = refl
+not_before ps = refl
 
 pub spelled_is_read : (bytes : List ℕ) (ms : List Mark) → Spells ms bytes → read_delta bytes ≡ Ok ms
 unfolding read_delta

@@ -9,14 +9,9 @@ use Rattle.sporc_delta.proofs.Runs.{marks_of-runs}
 
 pub same_part-Decides : (p q : Part) → Decides (same_part p q) (p ≡ q)
 same_part-Decides (Keep m) (Keep n) = (λ t. ap Keep ((Decides-eqb m n).0 t), λ e. (Decides-eqb m n).1 cc)
-same_part-Decides (Keep m) (Insert t) = (λ t. absurd cc, λ e. absurd cc)
-same_part-Decides (Keep m) (Remove n) = (λ t. absurd cc, λ e. absurd cc)
-same_part-Decides (Insert s) (Keep n) = (λ t. absurd cc, λ e. absurd cc)
 same_part-Decides (Insert s) (Insert t) = (λ h. ap Insert ((bytes_eq-Decides s t).0 h), λ e. (bytes_eq-Decides s t).1 cc)
-same_part-Decides (Insert s) (Remove n) = (λ t. absurd cc, λ e. absurd cc)
-same_part-Decides (Remove m) (Keep n) = (λ t. absurd cc, λ e. absurd cc)
-same_part-Decides (Remove m) (Insert t) = (λ t. absurd cc, λ e. absurd cc)
 same_part-Decides (Remove m) (Remove n) = (λ t. ap Remove ((Decides-eqb m n).0 t), λ e. (Decides-eqb m n).1 cc)
+same_part-Decides p q = (λ t. absurd cc, λ e. absurd cc)
 
 pub same_delta-Decides : (ms ns : List Mark) → Decides (same_delta ms ns) (ms ≡ ns)
 same_delta-Decides ms ns =

@@ -1,9 +1,9 @@
 -- Deltas that keep another count at one of their ends.
 use Rattle.std.proofs.Common.{◌≡◌, ℕ, zero, suc, ◌+◌, ◌-◌, ◌<◌, ◌≤◌, List, [], ◌∷◌, ◌++◌, length, drop, take, set, refl, ap, sym, subst, ◌∙◌, arith}
-use Rattle.sporc_delta.proofs.Common.{append-nil, drop_at, length-append, length-replicate, take_at, MAX_TEXT_LEN, Part, KeepRun, InsertText, RemoveRun, First, Last, Mark, Keep, base_len, out_len}
+use Rattle.sporc_delta.proofs.Common.{append-nil, drop_at, length-append, length-replicate, take_at, MAX_TEXT_LEN, Part, KeepRun, First, Last, Mark, Keep, base_len, out_len}
 use Rattle.sporc_delta.proofs.Common.{keep_marks, AreRuns, DeltaInvariant, kept_at_end, marks_of, runs, CanShift, Shifts, count_of, kept_at_start, kept_first, kept_last, kept_there, shifted}
 use Rattle.sporc_delta.specs.declared.shift.Shift.{Shift}
-use Rattle.sporc_delta.proofs.Appended.{AreRuns-grown, kept_end, marks_of-last, same_keep, set_last}
+use Rattle.sporc_delta.proofs.Appended.{AreRuns-grown, kept_end, marks_of-last, set_last}
 use Rattle.sporc_delta.proofs.Lengths.{base_len-append, base_len-keep_marks, out_len-append, out_len-keep_marks}
 use Rattle.sporc_delta.proofs.Runs.{marks_of-runs, runs-marks_of}
 
@@ -15,10 +15,8 @@ pub record BeginsWith (ms : List Mark) (k : ℕ) : Type 0 where
   pub is : ms ≡ keep_marks k ++ rest
 
 first_of_parts : (ms : List Mark) (ps : List Part) → marks_of ps ≡ ms → BeginsWith ms (kept_at_start ps)
-first_of_parts ms [] e = record { rest = ms; is = refl }
 first_of_parts ms (KeepRun n ∷ ps) e = record { rest = marks_of ps; is = sym e }
-first_of_parts ms (InsertText text ∷ ps) e = record { rest = ms; is = refl }
-first_of_parts ms (RemoveRun n ∷ ps) e = record { rest = ms; is = refl }
+first_of_parts ms ps e = record { rest = ms; is = refl }
 
 pub begins_with : (ms : List Mark) → BeginsWith ms (kept_first ms)
 begins_with ms = first_of_parts ms (runs ms) (marks_of-runs ms)
@@ -60,31 +58,25 @@ pub record ShiftedLengths (shift : Shift) (ms : List Mark) : Type 0 where
   pub in_base : kept_there shift (runs ms) ≤ base_len ms
   pub in_out : kept_there shift (runs ms) ≤ out_len ms
 
+-- marks that keep so many, and what stands beside these
+shifted_by : (shift : Shift) (ms beside : List Mark) (keeps : ℕ → List Mark) → ((k : ℕ) → (base_len (keeps k) ≡ k + base_len beside) × (out_len (keeps k) ≡ k + out_len beside))
+    → ms ≡ keeps (kept_there shift (runs ms)) → shifted shift ms ≡ keeps (count_of shift) → ShiftedLengths shift ms
+shifted_by shift ms beside keeps len was now =
+    let old = len (kept_there shift (runs ms)) in
+    let new = len (count_of shift) in
+    let base = ap base_len was ∙ old.0 in
+    let out = ap out_len was ∙ old.1 in
+    record { base = omega (arith, base, ap base_len now, new.0); out = omega (arith, out, ap out_len now, new.1); in_base = omega (arith, base); in_out = omega (arith, out) }
+
 pub shifted_lengths : (shift : Shift) (ms : List Mark) → ShiftedLengths shift ms
 shifted_lengths (First n) ms =
-    let k = kept_first ms in
     let begin = begins_with ms in
-    let new = shifted_first ms begin.rest n begin.is in
-    let base = ap base_len begin.is ∙ base_len-append (keep_marks k) begin.rest in
-    let out = ap out_len begin.is ∙ out_len-append (keep_marks k) begin.rest in
-    record {
-      base = omega (arith, base, base_len-keep_marks k, ap base_len new, base_len-append (keep_marks n) begin.rest, base_len-keep_marks n);
-      out = omega (arith, out, out_len-keep_marks k, ap out_len new, out_len-append (keep_marks n) begin.rest, out_len-keep_marks n);
-      in_base = omega (arith, base, base_len-keep_marks k);
-      in_out = omega (arith, out, out_len-keep_marks k);
-    }
+    shifted_by (First n) ms begin.rest (λ k. keep_marks k ++ begin.rest) (λ k. (rw (base_len-append, base_len-keep_marks) refl, rw (out_len-append, out_len-keep_marks) refl))
+    begin.is (shifted_first ms begin.rest n begin.is)
 shifted_lengths (Last n) ms =
-    let k = kept_last ms in
     let end = ends_with ms in
-    let new = shifted_last ms end.front n end.is in
-    let base = ap base_len end.is ∙ base_len-append end.front (keep_marks k) in
-    let out = ap out_len end.is ∙ out_len-append end.front (keep_marks k) in
-    record {
-      base = omega (arith, base, base_len-keep_marks k, ap base_len new, base_len-append end.front (keep_marks n), base_len-keep_marks n);
-      out = omega (arith, out, out_len-keep_marks k, ap out_len new, out_len-append end.front (keep_marks n), out_len-keep_marks n);
-      in_base = omega (arith, base, base_len-keep_marks k);
-      in_out = omega (arith, out, out_len-keep_marks k);
-    }
+    shifted_by (Last n) ms end.front (λ k. end.front ++ keep_marks k) (λ k. (rw (base_len-append, base_len-keep_marks) (omega arith), rw (out_len-append, out_len-keep_marks) (omega arith)))
+    end.is (shifted_last ms end.front n end.is)
 
 -- ---- over parts
 
@@ -96,28 +88,24 @@ IsPlaceOf (Last n) ps place = place ≡ length ps - 1
 unlike_keep : (m n : ℕ) (ps : List Part) → AreRuns (KeepRun m ∷ ps) → 0 < n → AreRuns (KeepRun n ∷ ps)
 unlike_keep m n [] h some = (some, tt, tt)
 unlike_keep m n (KeepRun k ∷ ps) h some = absurd cc
-unlike_keep m n (InsertText text ∷ ps) h some = (some, refl, h.2)
-unlike_keep m n (RemoveRun k ∷ ps) h some = (some, refl, h.2)
+unlike_keep m n ps h some = (some, refl, h.2)
 
 first_put : (ps : List Part) (n : ℕ) → 0 < n → 0 < kept_at_start ps → Shifts (First n) ps (set ps 0 (KeepRun n))
-first_put [] n some kept = absurd (omega arith)
-first_put (InsertText text ∷ ps) n some kept = absurd (omega arith)
-first_put (RemoveRun k ∷ ps) n some kept = absurd (omega arith)
 first_put (KeepRun k ∷ ps) n some kept = record {
   are_runs = λ h. unlike_keep k n ps h some;
   marks = λ h.
       let same : kept_first (marks_of (KeepRun k ∷ ps)) ≡ k = ap kept_at_start (runs-marks_of (KeepRun k ∷ ps) h) in
       sym (shifted_first (marks_of (KeepRun k ∷ ps)) (marks_of ps) n (ap (λ (m : ℕ). keep_marks m ++ marks_of ps) (sym same)));
 }
+first_put ps n some kept = absurd (omega arith)
 
 last_put : (ps : List Part) (len n : ℕ) → len ≡ length ps → 0 < n → 0 < kept_at_end ps → Shifts (Last n) ps (set ps (len - 1) (KeepRun n))
 last_put ps len n all some kept =
     let k = kept_at_end ps in
     let end = kept_end ps (kept_at_end ps) refl kept in
     let new : set ps (length ps - 1) (KeepRun n) ≡ end.front ++ KeepRun n ∷ [] = set_last end.front (KeepRun (kept_at_end ps)) (KeepRun n) ps end.is in
-    let P : List Part → Type 0 = AreRuns in
     rw (all, new) record {
-      are_runs = λ h. AreRuns-grown end.front (KeepRun (kept_at_end ps)) (KeepRun n) (same_keep (kept_at_end ps) n) some (subst P end.is h);
+      are_runs = λ h. AreRuns-grown end.front (KeepRun (kept_at_end ps)) (KeepRun n) refl some (subst AreRuns end.is h);
       marks = λ h.
           let same : kept_last (marks_of ps) ≡ kept_at_end ps = ap kept_at_end (runs-marks_of ps h) in
           let is : marks_of ps ≡ marks_of end.front ++ keep_marks (kept_last (marks_of ps)) =
@@ -127,9 +115,8 @@ last_put ps len n all some kept =
 
 pub put_there : (shift kind : Shift) (ps : List Part) (place : ℕ) → shift ≡ kind → IsPlaceOf kind ps place → 0 < count_of shift → 0 < kept_there shift ps → Shifts shift ps (set ps place (KeepRun (count_of kind)))
 put_there shift kind ps place is here some kept =
-    let P : Shift → Type 0 = λ s. (0 < count_of s) × (0 < kept_there s ps) in
     let Q : Shift → Type 0 = λ s. Shifts s ps (set ps place (KeepRun (count_of kind))) in
-    let known = subst P is (some, kept) in
+    let known = subst (λ (s : Shift). (0 < count_of s) × (0 < kept_there s ps)) is (some, kept) in
     subst Q (sym is) (by_kind kind known.0 known.1 here)
   where
     by_kind : (kind : Shift) → 0 < count_of kind → 0 < kept_there kind ps → IsPlaceOf kind ps place → Shifts kind ps (set ps place (KeepRun (count_of kind)))

@@ -1,11 +1,10 @@
 -- The bytes of parts.
 use Rattle.std.proofs.Common.{◌≡◌, ℕ, suc, ◌<◌, ◌+◌, ◌*◌, ◌≤◌, List, [], ◌∷◌, ◌++◌, length, ap, sym, subst, ◌∙◌, arith, take, drop, get_or, add-one, append_assoc}
 use Rattle.sporc_delta.proofs.Common.{length-append, append-nil, take_all, drop_all, take_more, length-encode, len_utf8_bounds, w64, to_be_bytes, encode_utf8_all, AllByRecursion, Part, InsertText}
-use Rattle.sporc_delta.proofs.Common.{Remove, out_len, part_marks, marks_of, part_bytes, parts_bytes, IsTypedPart}
+use Rattle.sporc_delta.proofs.Common.{out_len, part_marks, marks_of, part_bytes, parts_bytes, IsTypedPart}
 use Rattle.std.proofs.Math.Seq.{drop-cons}
 use Rattle.std.specs.Char.{encode_utf8}
 use Rattle.sporc_base.proofs.ListLemmas.{all_append}
-use Rattle.sporc_delta.specs.declared.part.Part.TheVariants.{Keep}
 use Rattle.sporc_delta.proofs.Lengths.{out_len-append, out_len-insert_marks}
 
 -- a character has at most four bytes
@@ -15,9 +14,8 @@ length-encode_all (c ∷ text) = omega (arith, length-encode_all text, length-ap
 
 -- a part has nine bytes, and the bytes of its text
 length-part_bytes : (p : Part) → length (part_bytes p) ≤ 9 + 4 * out_len (part_marks p)
-length-part_bytes (Keep n) = omega arith
 length-part_bytes (InsertText text) = omega (arith, length-encode_all text, out_len-insert_marks text, length-append (to_be_bytes w64 (length (encode_utf8_all text))) (encode_utf8_all text))
-length-part_bytes (Remove n) = omega arith
+length-part_bytes p = omega arith
 
 pub length-parts_bytes : (ps : List Part) → length (parts_bytes ps) ≤ 9 * length ps + 4 * out_len (marks_of ps)
 length-parts_bytes [] = omega arith

@@ -1,14 +1,12 @@
 -- The passes of one lock: number 0, those that were split from it, and the sessions that had them.
-use Rattle.std.proofs.Common.{◌≡◌, ◌≢◌, ◌∙◌, ◌==◌, ℕ, suc, ◌+◌, ◌≤◌, ◌<◌, Bool, true, false, List, [], ◌∷◌, length, drop, map, replicate, All, Option, Some, None, get_or, slice_get, refl, ap, sym, subst, arith, inl, inr}
+use Rattle.std.proofs.Common.{◌≡◌, ◌≢◌, ◌∙◌, ℕ, suc, ◌+◌, ◌≤◌, ◌<◌, List, [], ◌∷◌, length, drop, map, replicate, All, Option, Some, None, get_or, slice_get, refl, ap, sym, subst, arith, inl, inr}
 use Rattle.sporc_docs.proofs.Common.{Known, Pass, first_known, splitting, known_of, read_of, OrderModel, SessionEnd, Item, by_of, placed, IsLogOf, IsWornAt, log_at_first, Visit, Splits, Joins, IsBack}
-use Rattle.sporc_docs.proofs.Common.{Ends, Session, IsOneOf, AttendsDocument, AttendAll, Serves}
-use Rattle.std.proofs.lemmas.List.Elements.{All-head, All-tail}
+use Rattle.sporc_docs.proofs.Common.{Ends, Session, IsOneOf, AttendsDocument, AttendAll, Serves, All-head, All-tail, starts_then, starts_same, none_of}
+use Rattle.std.proofs.lemmas.Bool.{cases_eq}
 use Rattle.sporc_turn.specs.declared.known.Joined.{Joined}
 use Rattle.sporc_turn.specs.declared.limits.TheConstants.{MAX_TICKETS}
 use Rattle.sporc_turn.specs.Log.{StartsWith, own}
 use Rattle.sporc_serve.specs.Turns.{HasReadLast}
-use Rattle.sporc_serve.proofs.Tracing.{starts_then, starts_same}
-use Rattle.sporc_serve.proofs.Serving.{none_of}
 use Rattle.sporc_serve.proofs.Turning.{starts_log}
 
 -- ---- number 0
@@ -22,14 +20,7 @@ somes (Some q ∷ qs) = suc (somes qs)
 -- what number 0 keeps as passes are split from it
 pub splits_keep : (k : Known Item) (c : List (Option (Pass Item))) (k' : Known Item) → Splits k c k'
     → (k'.number ≡ k.number) × (k'.mine ≡ k.mine) × (k'.start ≡ k.start) × (k'.seen ≡ k.seen) × (k'.joined ≡ k.joined) × (k'.splits ≡ k.splits + somes c)
-splits_keep k [] k' is = (
-  ap (λ (x : Known Item). x.number) is,
-  ap (λ (x : Known Item). x.mine) is,
-  ap (λ (x : Known Item). x.start) is,
-  ap (λ (x : Known Item). x.seen) is,
-  ap (λ (x : Known Item). x.joined) is,
-  ap (λ (x : Known Item). x.splits) is ∙ omega arith,
-)
+splits_keep k [] k' is = rw is (refl, refl, refl, refl, refl, omega arith)
 splits_keep k (None ∷ qs) k' h = splits_keep k qs k' h
 splits_keep k (Some q ∷ qs) k' h =
     let more = splits_keep (splitting k) qs k' h.1 in
@@ -41,33 +32,17 @@ pub joins_keep : (p : Pass Item) (c : List (Option (Pass Item))) (p' : Pass Item
     → ((known_of p').number ≡ (known_of p).number) × ((known_of p').mine ≡ (known_of p).mine) × ((known_of p').start ≡ (known_of p).start)
     × ((known_of p').splits ≡ (known_of p).splits) × (length (known_of p').joined ≡ length (known_of p).joined + somes c)
     × StartsWith (known_of p').seen (known_of p).seen × (read_of p ≤ read_of p')
-joins_keep p [] p' is = (
-  ap (λ (x : Pass Item). (known_of x).number) is,
-  ap (λ (x : Pass Item). (known_of x).mine) is,
-  ap (λ (x : Pass Item). (known_of x).start) is,
-  ap (λ (x : Pass Item). (known_of x).splits) is,
-  ap (λ (x : Pass Item). length (known_of x).joined) is ∙ omega arith,
-  subst (λ (x : Pass Item). StartsWith (known_of x).seen (known_of p).seen) (sym is) (starts_same (known_of p).seen),
-  subst (λ (x : Pass Item). read_of p ≤ read_of x) (sym is) (omega arith),
-)
+joins_keep p [] p' is = rw is (refl, refl, refl, refl, omega arith, starts_same (known_of p).seen, omega arith)
 joins_keep p (None ∷ qs) p' h = joins_keep p qs p' h
 joins_keep p (Some q ∷ qs) p' h =
-    let mid = h.0 in
     let one = h.1 in
-    let more = joins_keep mid qs p' h.2 in
-    let is = one.known_is in
-    let count : length (known_of mid).joined ≡ suc (length (known_of p).joined) = ap (λ (x : Known Item). length x.joined) is in
-    let total = more.4 in
+    let rest = joins_keep h.0 qs p' h.2 in
+    let more = rw one.known_is at rest in
+    let total : length (known_of p').joined ≡ suc (length (known_of p).joined) + somes qs = more.4 in
+    let begins = starts_then (known_of p).seen (known_of h.0).seen (known_of p').seen one.first rest.5 in
     let read = one.read_is in
-    let read' = more.6 in (
-      more.0 ∙ ap (λ (x : Known Item). x.number) is,
-      more.1 ∙ ap (λ (x : Known Item). x.mine) is,
-      more.2 ∙ ap (λ (x : Known Item). x.start) is,
-      more.3 ∙ ap (λ (x : Known Item). x.splits) is,
-      omega (arith, count, total),
-      starts_then (known_of p).seen (known_of mid).seen (known_of p').seen one.first more.5,
-      omega (arith, read, read'),
-    )
+    let read' = rest.6 in
+    (more.0, more.1, more.2, more.3, omega (arith, total), begins, omega (arith, read, read'))
 
 -- what holds of all that were joined holds of those joined before
 joined_before : (P : Joined Item → Type 0) (p : Pass Item) (c : List (Option (Pass Item))) (p' : Pass Item) → Joins p c p' → All P (known_of p').joined
@@ -115,14 +90,12 @@ module _ (start log : List Item) where
   pub idle : (c : List (Option (Pass Item))) (k k' : Known Item) → Splits k c k' → AreIn c → (n : ℕ) → k.splits < n → n ≤ k'.splits → own by_of n (length start) log ≡ []
   idle [] k k' is are n low high = let same = ap (λ (x : Known Item). x.splits) is in absurd (omega (arith, same, low, high))
   idle (None ∷ qs) k k' h are n low high = idle qs k k' h are n low high
-  idle (Some q ∷ qs) k k' h are n low high = go (n == k.splits + 1) refl (λ more. idle qs (splitting k) k' h.1 are.1 n more high)
-    where
-      go : (b : Bool) → (n == k.splits + 1) ≡ b → ((splitting k).splits < n → own by_of n (length start) log ≡ []) → own by_of n (length start) log ≡ []
-      go true is later =
-          let here : n ≡ k.splits + 1 = grind (arith, is) in
-          let number : (known_of q).number ≡ n = ap (λ (x : Known Item). x.number) h.0 ∙ sym here in
-          subst (λ (m : ℕ). own by_of m (length start) log ≡ []) number (are.0.own_are ∙ ap (λ (x : Known Item). x.mine) h.0)
-      go false is later = let apart : n ≢ k.splits + 1 = grind (arith, is) in later (omega (arith, apart, low))
+  idle (Some q ∷ qs) k k' h are n low high = elim (cases_eq n (k.splits + 1)) [
+    | inl here ↦
+        let number : (known_of q).number ≡ n = ap (λ (x : Known Item). x.number) h.0 ∙ sym here in
+        rw (← number) (are.0.own_are ∙ ap (λ (x : Known Item). x.mine) h.0)
+    | inr apart ↦ idle qs (splitting k) k' h.1 are.1 n (omega (arith, apart, low)) high
+  ]
 
 -- ---- the sessions
 
@@ -143,19 +116,13 @@ module _ (i : ℕ) where
   -- what became of the passes for the document at this place
   abbrev pub AllServe : List Seat → List (Option (Pass Item)) → List (Option (Pass Item)) → Type 0
   AllServe [] c c' = c' ≡ c
-  AllServe (s ∷ ss) [] c' = ⊥
-  AllServe (s ∷ ss) (None ∷ c) c' = ⊥
-  AllServe (s ∷ ss) (Some p ∷ c) [] = ⊥
-  AllServe (s ∷ ss) (Some p ∷ c) (None ∷ c') = ⊥
   AllServe (s ∷ ss) (Some p ∷ c) (Some p' ∷ c') = Serves s.visit s.place i p p' × AllServe ss c c'
+  AllServe (s ∷ ss) _ _ = ⊥
 
   pub serve_somes : (ss : List Seat) (c c' : List (Option (Pass Item))) → AllServe ss c c' → somes c' ≡ somes c
   serve_somes [] c c' is = ap somes is
-  serve_somes (s ∷ ss) [] c' h = absurd h
-  serve_somes (s ∷ ss) (None ∷ c) c' h = absurd h
-  serve_somes (s ∷ ss) (Some p ∷ c) [] h = absurd h
-  serve_somes (s ∷ ss) (Some p ∷ c) (None ∷ c') h = absurd h
   serve_somes (s ∷ ss) (Some p ∷ c) (Some p' ∷ c') h = ap suc (serve_somes ss c c' h.1)
+  serve_somes (s ∷ ss) c c' h = absurd h
 
   module _ (documents : List (List ℕ)) (o : OrderModel) (there : slice_get documents i ≡ Some o.genesis.document)
       (apart : (j : ℕ) → slice_get documents j ≡ Some o.genesis.document → j ≡ i) (log : List Item) where
@@ -166,10 +133,6 @@ module _ (i : ℕ) where
     attend_all : (ss : List Seat) (c c' : List (Option (Pass Item))) (k k' : Known Item) → AllServe ss c c' → Splits k c k' → k.seen ≡ start → AreIn start log c'
         → AttendAll o.genesis start log (k.splits + 1) (map (session_of documents) ss)
     attend_all [] c c' k k' serves splits seen are = tt
-    attend_all (s ∷ ss) [] c' k k' serves splits seen are = absurd serves
-    attend_all (s ∷ ss) (None ∷ c) c' k k' serves splits seen are = absurd serves
-    attend_all (s ∷ ss) (Some p ∷ c) [] k k' serves splits seen are = absurd serves
-    attend_all (s ∷ ss) (Some p ∷ c) (None ∷ c') k k' serves splits seen are = absurd serves
     attend_all (s ∷ ss) (Some p ∷ c) (Some p' ∷ c') k k' serves splits seen are =
         (attends s.place serves.0, attend_all ss c c' (splitting k) k' serves.1 splits.1 seen are.1)
       where
@@ -196,18 +159,17 @@ module _ (i : ℕ) where
                 worn = λ ticket ended. are.0.worn (subst (λ (e : SessionEnd). HasReadLast (read_of p') e) ended served.1);
               },
             )
+    attend_all (s ∷ ss) c c' k k' serves splits seen are = absurd serves
 
     -- each number that an item has is of a session that is bound to the document
     one_of : (ss : List Seat) (c c' : List (Option (Pass Item))) (k k' : Known Item) → AllServe ss c c' → Splits k c k' → AreIn start log c' → (n : ℕ) → k.splits < n
         → n ≤ k'.splits → own by_of n (length start) log ≢ [] → IsOneOf o.genesis.document (k.splits + 1) (map (session_of documents) ss) n
     one_of [] c c' k k' is splits are n low high some =
         absurd (some (idle start log c k k' splits (subst (AreIn start log) is are) n low high))
-    one_of (s ∷ ss) [] c' k k' serves splits are n low high some = absurd serves
-    one_of (s ∷ ss) (None ∷ c) c' k k' serves splits are n low high some = absurd serves
-    one_of (s ∷ ss) (Some p ∷ c) [] k k' serves splits are n low high some = absurd serves
-    one_of (s ∷ ss) (Some p ∷ c) (None ∷ c') k k' serves splits are n low high some = absurd serves
-    one_of (s ∷ ss) (Some p ∷ c) (Some p' ∷ c') k k' serves splits are n low high some =
-        go (n == k.splits + 1) refl (λ more. one_of ss c c' (splitting k) k' serves.1 splits.1 are.1 n more high some)
+    one_of (s ∷ ss) (Some p ∷ c) (Some p' ∷ c') k k' serves splits are n low high some = elim (cases_eq n (k.splits + 1)) [
+      | inl here ↦ inl (bound s.place serves.0 here, here)
+      | inr other ↦ inr (one_of ss c c' (splitting k) k' serves.1 splits.1 are.1 n (omega (arith, other, low)) high some)
+    ]
       where
         none : p' ≡ p → n ≡ k.splits + 1 → own by_of n (length start) log ≡ []
         none same here =
@@ -218,16 +180,11 @@ module _ (i : ℕ) where
         bound : (place : Option ℕ) → Serves s.visit place i p p' → n ≡ k.splits + 1
             → document_at documents place ≡ Some o.genesis.document
         bound None h here = absurd (some (none h here))
-        bound (Some place) h here = at (place == i) refl
-          where
-            at : (b : Bool) → (place == i) ≡ b → slice_get documents place ≡ Some o.genesis.document
-            at true is = let same : place ≡ i = grind (arith, is) in subst (λ (j : ℕ). slice_get documents j ≡ Some o.genesis.document) (sym same) there
-            at false is = let other : place ≢ i = grind (arith, is) in absurd (some (none (h.1 other) here))
-
-        go : (b : Bool) → (n == k.splits + 1) ≡ b → ((splitting k).splits < n → IsOneOf o.genesis.document (k.splits + 1 + 1) (map (session_of documents) ss) n)
-            → IsOneOf o.genesis.document (k.splits + 1) (map (session_of documents) (s ∷ ss)) n
-        go true is later = let here : n ≡ k.splits + 1 = grind (arith, is) in inl (bound s.place serves.0 here, here)
-        go false is later = let other : n ≢ k.splits + 1 = grind (arith, is) in inr (later (omega (arith, other, low)))
+        bound (Some place) h here = elim (cases_eq place i) [
+          | inl same ↦ rw same there
+          | inr other ↦ absurd (some (none (h.1 other) here))
+        ]
+    one_of (s ∷ ss) c c' k k' serves splits are n low high some = absurd serves
 
   -- number 0 of a lock, once its passes were joined back
   module _ (documents : List (List ℕ)) (o : OrderModel) (there : slice_get documents i ≡ Some o.genesis.document)

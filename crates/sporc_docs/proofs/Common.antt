@@ -23,6 +23,12 @@ pub use Rattle.std.proofs.lemmas.Slice.Eq.{bytes_eq-Decides}
 pub use Rattle.std.specs.List.{list_any, position_from}
 pub use Rattle.sporc_outside.specs.Nets.{AreShutBehind, NetTold}
 pub use Rattle.sporc_outside.specs.Streams.{Shuts, StreamTold}
+pub use Rattle.std.proofs.lemmas.Option.{same_Some, slice_get-map}
+pub use Rattle.std.proofs.lemmas.List.Elements.{All-head, All-nil, All-tail}
+pub use Rattle.sporc_serve.proofs.Tracing.{starts_same, starts_then}
+pub use Rattle.sporc_serve.proofs.Serving.{first_is, none_of, tells_before}
+pub use Rattle.sporc_serve.proofs.Crowding.{IsLastTicket, behind_more, behind_none, from_more, from_none, kept_more, last_ticket, tells_more}
+pub use Rattle.sporc_entry.specs.declared.genesis.Genesis.{Genesis}
 pub use Rattle.sporc_docs.specs.Crowds.{AllSit, IsCrowd}
 pub use Rattle.sporc_docs.specs.Hands.{AllHands, Both, HasFirst, HasPass, HasRoom, HavePasses, HaveRoom, IsEmpty, Joins, JoinsAt, LogsBegin, MayHave, Splits, SplitsAt, column, pass_at}
 pub use Rattle.sporc_docs.specs.Lists.{AreApart, is_of, list_of, place_of, route_of}
@@ -32,3 +38,4 @@ pub use Rattle.sporc_docs.specs.Machine.{is_bound_to, is_document, is_later, pro
 pub use Rattle.sporc_docs.specs.Served.{AreBound, AreKept, AreServed, AttendAll, AttendsDocument, IsOneOf, IsServedDocument, Session, as_served, visits_of}
 pub use Rattle.sporc_docs.specs.Sessions.{Became, IsBound, IsUnboundEnd, Serves, Sits, named_by}
 pub use Rattle.sporc_docs.specs.declared.hands.Hand.{Hand}
+pub use Rattle.sporc_docs.specs.declared.locks.Locks.{Locks}

@@ -1,34 +1,23 @@
 -- Sessions of many documents beside one another.
-use Rattle.std.proofs.Common.{◌≡◌, ◌∙◌, ℕ, suc, ◌+◌, ◌≤◌, Bool, true, false, List, [], ◌∷◌, length, cond, Option, Some, None, Result, Ok, Err, slice_get, refl, sym, subst, arith, bytes_eq}
-use Rattle.sporc_docs.proofs.Common.{position_from, NetTold, StreamTold, Pass, Turn, known_of, stream_of, ToServer, Hello, Submit, Pull, Ghosts, Desk, SessionEnd, ServeFault, Item, stand_at, Inlet}
-use Rattle.sporc_docs.proofs.Common.{inlet_at, IsFirst, visit, came, handed_back, AreFrom, AreBehind, TellsOf, with_end, Hand, IsCrowd, AllHands, Both, HasPass, HavePasses, LogsBegin, MayHave}
-use Rattle.sporc_docs.proofs.Common.{pass_at, named_by, IsUnboundEnd, Sits}
+use Rattle.std.proofs.Common.{◌≡◌, ◌∙◌, ℕ, suc, ◌≤◌, false, List, [], ◌∷◌, length, Option, Some, None, Result, Ok, Err, slice_get, refl, sym, subst, arith, bytes_eq}
+use Rattle.sporc_docs.proofs.Common.{NetTold, StreamTold, Pass, Turn, known_of, stream_of, ToServer, Hello, Ghosts, Desk, SessionEnd, ServeFault, Item, stand_at, Inlet, inlet_at, IsFirst, visit, came}
+use Rattle.sporc_docs.proofs.Common.{handed_back, AreFrom, AreBehind, TellsOf, with_end, Hand, IsCrowd, AllHands, Both, HasPass, HavePasses, LogsBegin, MayHave, pass_at, named_by, IsUnboundEnd, Sits}
+use Rattle.sporc_docs.proofs.Common.{IsLastTicket, last_ticket, tells_more, kept_more, from_more, from_none, behind_more, behind_none}
 use Rattle.sporc_outside.specs.Counts.{Rose}
 use Rattle.sporc_outside.specs.Told.{AppendsItem, TakesItem, IsFalseIfTold}
-use Rattle.sporc_serve.specs.declared.end.SessionEnd.TheVariants.{Closed, LinkEnded, LinkFault, BadFrame, Worn, Memory, Unkept}
+use Rattle.sporc_serve.specs.declared.end.SessionEnd.TheVariants.{Worn}
 use Rattle.sporc_serve.specs.declared.fault.ServeFault.TheVariants as faults
-use Rattle.sporc_serve.proofs.Crowding.{IsLastTicket, last_ticket, tells_more, kept_more, from_more, from_none, behind_more, behind_none}
+use Rattle.sporc_docs.proofs.Places.{position_found}
 use Rattle.sporc_docs.proofs.Ending.{same_place, both_at}
 
 -- a place that is named is within the documents
-position_within : (f : List ℕ → Bool) (i : ℕ) (xs : List (List ℕ)) (place : ℕ) → position_from f i xs ≡ Some place → (j : ℕ) × (place ≡ i + j) × (d : List ℕ) × (slice_get xs j ≡ Some d)
-position_within f i [] place h = absurd cc
-position_within f i (x ∷ xs) place h = go (f x) h (position_within f (i + 1) xs place)
-  where
-    go : (b : Bool) → cond b (Some i) (position_from f (i + 1) xs) ≡ Some place
-        → (position_from f (i + 1) xs ≡ Some place → (j : ℕ) × (place ≡ i + 1 + j) × (d : List ℕ) × (slice_get xs j ≡ Some d))
-        → (j : ℕ) × (place ≡ i + j) × (d : List ℕ) × (slice_get (x ∷ xs) j ≡ Some d)
-    go true h more = let here : place ≡ i = cc in (0, omega (arith, here), x, refl)
-    go false h more = let m = more h in let at : place ≡ i + 1 + m.0 = m.1 in (suc m.0, omega (arith, at), m.2, m.3)
-
 named_within : (documents : List (List ℕ)) (m : ToServer) (place : ℕ) → named_by documents m ≡ Some place → (d : List ℕ) × (slice_get documents place ≡ Some d)
-named_within documents (Submit entry) place h = absurd cc
-named_within documents (Pull from) place h = absurd cc
 named_within documents (Hello d member) place h =
-    let found = position_within (bytes_eq d) 0 documents place h in
+    let found = position_found (bytes_eq d) 0 documents place h in
     let from = found.1 in
     let at : place ≡ found.0 = omega (arith, from) in
     (found.2, subst (λ (j : ℕ). slice_get documents j ≡ Some found.2) (sym at) found.3)
+named_within documents m place h = absurd cc
 
 has_is : {T : Type 0} {gs : Ghosts T} (t : Turn (Desk T gs) Item) (q : Option (Pass Item)) → HasPass t q → (p : Pass Item) × (q ≡ Some p)
 has_is t None h = absurd h
@@ -42,12 +31,7 @@ module _ {T : Type 0} {gs : Ghosts T} (turns : List (Turn (Desk T gs) Item)) (do
     where
       at : (why : SessionEnd) → IsFirst a b (Err why) → IsLastTicket why
       at (Worn ticket) first = absurd first.4
-      at Closed first = tt
-      at LinkEnded first = tt
-      at LinkFault first = tt
-      at BadFrame first = tt
-      at Memory first = tt
-      at Unkept first = tt
+      at why first = tt
 
   -- a session that ended for want of a ticket did so for want of the last
   sits_last : (h h' : List (Option (Pass Item))) (b a : StreamTold) (end : SessionEnd) → HavePasses turns h → HavePasses turns h'
@@ -115,10 +99,9 @@ module _ {T : Type 0} {gs : Ghosts T} (turns : List (Turn (Desk T gs) Item)) (do
 -- hands with passes may have them
 pub may_have : {T : Type 0} {gs : Ghosts T} (ts : List (Turn (Desk T gs) Item)) (ps : List (Option (Pass Item))) → HavePasses ts ps → Both MayHave ts ps
 may_have [] [] h = tt
-may_have [] (p ∷ ps) h = absurd h
-may_have (t ∷ ts) [] h = absurd h
 may_have (t ∷ ts) (None ∷ ps) h = absurd h.0
 may_have (t ∷ ts) (Some p ∷ ps) h = (h.0, may_have ts ps h.1)
+may_have ts ps h = absurd h
 
 pub all_may_have : {T : Type 0} {gs : Ghosts T} (ts : List (Turn (Desk T gs) Item)) (hs : List Hand) → AllHands (HavePasses ts) hs → AllHands (Both MayHave ts) hs
 all_may_have ts [] h = tt

@@ -1,8 +1,8 @@
 -- The sessions of many documents, once their passes were joined back.
-use Rattle.std.proofs.Common.{◌≡◌, ◌≢◌, ◌∙◌, ℕ, zero, suc, List, [], ◌∷◌, length, map, reverse, Option, Some, None, Result, Err, slice_get, refl, ap, sym, subst, arith}
+use Rattle.std.proofs.Common.{option_map, ◌≡◌, ◌≢◌, ◌∙◌, ℕ, zero, suc, List, [], ◌∷◌, length, map, reverse, Option, Some, None, Result, Err, slice_get, refl, ap, sym, subst, arith}
 use Rattle.sporc_docs.proofs.Common.{length-map, NetTold, Known, Pass, Turn, splitting, known_of, OrderModel, Ghosts, Desk, Item, log_at_first, ServeFault, Visit, CameOpen, came, handed_back, AreFrom}
 use Rattle.sporc_docs.proofs.Common.{AreBehind, NoneUnkept, TellsOf, Hand, AllSit, IsCrowd, Both, AllHands, HasFirst, HasPass, MayHave, LogsBegin, Splits, SplitsAt, JoinsAt, column, pass_at, AreApart}
-use Rattle.sporc_docs.proofs.Common.{AreBack, IsBack, KnowsFirst, Ends, AreEnding, AreBound, visits_of, Serves}
+use Rattle.sporc_docs.proofs.Common.{AreBack, IsBack, KnowsFirst, Ends, AreEnding, AreBound, visits_of, Serves, same_Some, slice_get-map}
 use Rattle.sporc_serve.specs.declared.fault.ServeFault.TheVariants as faults'
 use Rattle.sporc_docs.proofs.Binding.{bound_to, documents_of, apart_reverse, one_place}
 use Rattle.sporc_docs.proofs.Columns.{Seat, session_of, AllServe, back, ends}
@@ -17,39 +17,31 @@ same_place (x' ∷ xs) (y' ∷ ys) zero x size at = (y', refl)
 same_place (x' ∷ xs) (y' ∷ ys) (suc i) x size at = same_place xs ys i x (omega (arith, size)) at
 
 pub document_there : (os : List OrderModel) (i : ℕ) (o : OrderModel) → slice_get os i ≡ Some o → slice_get (documents_of os) i ≡ Some o.genesis.document
-document_there [] i o at = absurd cc
-document_there (x ∷ os) zero o at = let same : x ≡ o = cc in ap (λ (y : OrderModel). Some y.genesis.document) same
-document_there (x ∷ os) (suc i) o at = document_there os i o at
+document_there os i o at = slice_get-map (λ (x : OrderModel). x.genesis.document) os i ∙ ap (option_map (λ (x : OrderModel). x.genesis.document)) at
 
 module _ {A : Type 0} (R : A → Option (Pass Item) → Type 0) where
   pub both_at : (xs : List A) (ps : List (Option (Pass Item))) → Both R xs ps → (i : ℕ) (x : A) → slice_get xs i ≡ Some x → R x (pass_at i ps)
   both_at [] ps h i x at = absurd cc
   both_at (x' ∷ xs) [] h i x at = absurd h
-  both_at (x' ∷ xs) (p ∷ ps) h zero x at = subst (λ (y : A). R y p) (some_is at) h.0
-    where
-      some_is : Some x' ≡ Some x → x' ≡ x
-      some_is h = cc
+  both_at (x' ∷ xs) (p ∷ ps) h zero x at = subst (λ (y : A). R y p) (same_Some x' x at) h.0
   both_at (x' ∷ xs) (p ∷ ps) h (suc i) x at = both_at xs ps h.1 i x at
 
   pub both_of : (xs : List A) (ps : List (Option (Pass Item))) → length xs ≡ length ps → ((i : ℕ) (x : A) → slice_get xs i ≡ Some x → R x (pass_at i ps)) → Both R xs ps
   both_of [] [] size h = tt
-  both_of [] (p ∷ ps) size h = absurd (omega (arith, size))
-  both_of (x ∷ xs) [] size h = absurd (omega (arith, size))
   both_of (x ∷ xs) (p ∷ ps) size h = (h 0 x refl, both_of xs ps (omega (arith, size)) (λ i y at. h (suc i) y at))
+  both_of xs ps size h = absurd (omega (arith, size))
 
   -- a pass that is there stands at a place of both
   pub place_of_pass : (xs : List A) (ps : List (Option (Pass Item))) → Both R xs ps → (i : ℕ) (p : Pass Item) → pass_at i ps ≡ Some p → (x : A) × (slice_get xs i ≡ Some x)
   place_of_pass [] [] h i p at = absurd cc
-  place_of_pass [] (q ∷ qs) h i p at = absurd h
-  place_of_pass (x ∷ xs) [] h i p at = absurd h
   place_of_pass (x ∷ xs) (q ∷ qs) h zero p at = (x, refl)
   place_of_pass (x ∷ xs) (q ∷ qs) h (suc i) p at = place_of_pass xs qs h.1 i p at
+  place_of_pass xs ps h i p at = absurd h
 
 pub all_back : (os : List OrderModel) (ps : List (Option (Pass Item))) → Both (λ o p. IsBack p) os ps → AreBack ps
 all_back [] [] h = tt
-all_back [] (p ∷ ps) h = absurd h
-all_back (o ∷ os) [] h = absurd h
 all_back (o ∷ os) (p ∷ ps) h = (h.0, all_back os ps h.1)
+all_back os ps h = absurd h
 
 -- ---- what the passes of hands know at first
 
@@ -94,16 +86,14 @@ module _ {T : Type 0} {gs : Ghosts T} (turns : List (Turn (Desk T gs) Item))
     (documents : List (List ℕ)) where
   abbrev pub seats_of : (vs : List Visit) (hs hs' : List Hand) → AllSit turns documents vs hs hs' → List Seat
   seats_of [] hs hs' sit = []
-  seats_of (v ∷ vs) [] hs' sit = absurd sit
-  seats_of (v ∷ vs) (h ∷ hs) [] sit = absurd sit
   seats_of (v ∷ vs) (h ∷ hs) (h' ∷ hs') sit = record { visit = v; place = sit.2.0 } ∷ seats_of vs hs hs' sit.3
+  seats_of (v ∷ vs) hs hs' sit = absurd sit
 
   pub seats_visits : (vs : List Visit) (hs hs' : List Hand) (sit : AllSit turns documents vs hs hs')
       → visits_of (map (session_of documents) (seats_of vs hs hs' sit)) ≡ vs
   seats_visits [] hs hs' sit = refl
-  seats_visits (v ∷ vs) [] hs' sit = absurd sit
-  seats_visits (v ∷ vs) (h ∷ hs) [] sit = absurd sit
   seats_visits (v ∷ vs) (h ∷ hs) (h' ∷ hs') sit = ap (λ (l : List Visit). v ∷ l) (seats_visits vs hs hs' sit.3)
+  seats_visits (v ∷ vs) hs hs' sit = absurd sit
 
   module _ (i : ℕ) (t : Turn (Desk T gs) Item) (there : slice_get turns i ≡ Some t) where
     serve_more : (s : Seat) (ss : List Seat) (q q' : Option (Pass Item)) (c c' : List (Option (Pass Item))) → HasPass t q → HasPass t q'
@@ -117,21 +107,19 @@ module _ {T : Type 0} {gs : Ghosts T} (turns : List (Turn (Desk T gs) Item))
     pub all_serve : (vs : List Visit) (hs hs' : List Hand) (sit : AllSit turns documents vs hs hs')
         → AllServe i (seats_of vs hs hs' sit) (column i hs) (column i hs')
     all_serve [] hs hs' sit = ap (column i) sit
-    all_serve (v ∷ vs) [] hs' sit = absurd sit
-    all_serve (v ∷ vs) (h ∷ hs) [] sit = absurd sit
     all_serve (v ∷ vs) (h ∷ hs) (h' ∷ hs') sit =
         serve_more (record { visit = v; place = sit.2.0 }) (seats_of vs hs hs' sit.3) (pass_at i h.passes.items) (pass_at i h'.passes.items) (column i hs) (column i hs')
         (both_at HasPass turns h.passes.items sit.0 i t there) (both_at HasPass turns h'.passes.items sit.1 i t there) (sit.2.1.serves i) (all_serve vs hs hs' sit.3)
+    all_serve (v ∷ vs) hs hs' sit = absurd sit
 
 -- each session is bound to the document that its first message names
 pub all_bound : {T : Type 0} {gs : Ghosts T} (turns : List (Turn (Desk T gs) Item)) (orders : List OrderModel) (vs : List Visit) (hs hs' : List Hand)
     (sit : AllSit turns (documents_of (reverse orders)) vs hs hs')
     → AreBound orders (map (session_of (documents_of (reverse orders))) (seats_of turns (documents_of (reverse orders)) vs hs hs' sit))
 all_bound turns orders [] hs hs' sit = tt
-all_bound turns orders (v ∷ vs) [] hs' sit = absurd sit
-all_bound turns orders (v ∷ vs) (h ∷ hs) [] sit = absurd sit
 all_bound turns orders (v ∷ vs) (h ∷ hs) (h' ∷ hs') sit =
     (bound_to orders v sit.2.0 sit.2.1.bound, all_bound turns orders vs hs hs' sit.3)
+all_bound turns orders (v ∷ vs) hs hs' sit = absurd sit
 
 -- ---- number 0 at a place
 

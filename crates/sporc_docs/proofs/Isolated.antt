@@ -1,9 +1,9 @@
 -- The sessions of one document, beside those of others.
-use Rattle.std.proofs.Common.{◌≡◌, ◌∙◌, ℕ, ◌==◌, Bool, true, false, List, [], ◌∷◌, Option, Some, None, refl, ap, sym, subst, cond, find, filter, ◌||◌, if◌then◌else◌, arith}
-use Rattle.sporc_docs.proofs.Common.{list_any, bytes_eq-Decides, OrderModel, ToServer, Hello, Submit, Pull, is_of, list_of, Event, Machine, at_first, bound_by, bound_with, is_later, Asked, behind}
-use Rattle.sporc_docs.proofs.Common.{asked_of, asked_by, asked_at, after_event, answers_of, answers_to, bound_in, is_document, is_bound_to, IsIsolated}
+use Rattle.std.proofs.Common.{◌≡◌, ◌∙◌, ℕ, ◌==◌, Bool, true, false, List, [], ◌∷◌, Option, Some, None, inl, inr, refl, ap, sym, subst, cond, find, filter, ◌||◌, if◌then◌else◌, arith}
+use Rattle.sporc_docs.proofs.Common.{list_any, bytes_eq-Decides, OrderModel, ToServer, Hello, is_of, list_of, Event, Machine, at_first, bound_by, bound_with, is_later, Asked, behind, asked_of}
+use Rattle.sporc_docs.proofs.Common.{asked_by, asked_at, after_event, answers_of, answers_to, bound_in, is_document, is_bound_to, IsIsolated, Genesis}
+use Rattle.std.proofs.lemmas.Bool.{cases_Bool}
 use Rattle.std.specs.Str.{bytes_eq}
-use Rattle.sporc_entry.specs.declared.genesis.Genesis.{Genesis}
 use Rattle.sporc_order.specs.Sessions.{step_of}
 use Rattle.sporc_serve.proofs.Logs.{step_genesis}
 
@@ -17,81 +17,59 @@ is_of-step d o g m = ap (λ (x : Genesis). bytes_eq d x.document) (step_genesis 
 held_same : (os : List OrderModel) (d : List ℕ) (g : Bool) (m : ToServer) (e : List ℕ)
     → list_any (is_of e) (asked_of os d g m).orders ≡ list_any (is_of e) os
 held_same [] d g m e = refl
-held_same (o ∷ os) d g m e = go (is_of d o) (held_same os d g m e)
-  where
-    go : (b : Bool) → list_any (is_of e) (asked_of os d g m).orders ≡ list_any (is_of e) os
-        → list_any (is_of e) (if b then record { answer = (step_of o g m).answer; orders = (step_of o g m).order ∷ os } else behind o (asked_of os d g m)).orders
-        ≡ list_any (is_of e) (o ∷ os)
-    go true rest = ap (λ (b : Bool). b || list_any (is_of e) os) (is_of-step e o g m)
-    go false rest = ap (λ (b : Bool). is_of e o || b) rest
+held_same (o ∷ os) d g m e = elim (cases_Bool (is_of d o)) [
+  | inl is ↦ rw is (ap (λ (b : Bool). b || list_any (is_of e) os) (is_of-step e o g m))
+  | inr is ↦ rw is (ap (λ (b : Bool). is_of e o || b) (held_same os d g m e))
+]
 
 -- the list of a document is of it
 found_is : (d : List ℕ) (os : List OrderModel) (o : OrderModel) → list_of os d ≡ Some o → is_of d o ≡ true
 found_is d [] o h = absurd cc
-found_is d (x ∷ os) o h = go (is_of d x) refl h (found_is d os o)
-  where
-    go : (b : Bool) → is_of d x ≡ b → cond b (Some x) (find (is_of d) os) ≡ Some o → (list_of os d ≡ Some o → is_of d o ≡ true) → is_of d o ≡ true
-    go true is h rest = let same : x ≡ o = cc in subst (λ (y : OrderModel). is_of d y ≡ true) same is
-    go false is h rest = rest h
+found_is d (x ∷ os) o h = elim (cases_Bool (is_of d x)) [
+  | inl is ↦ let same : x ≡ o = cc (rw is at h) in rw (← same) is
+  | inr is ↦ found_is d os o (rw is at h)
+]
 
 -- a list that is asked answers as alone, and is then what it is alone
 pub asked_there : (d : List ℕ) (os : List OrderModel) (o : OrderModel) (g : Bool) (m : ToServer) → list_of os d ≡ Some o
     → ((asked_of os d g m).answer ≡ (step_of o g m).answer) × (list_of (asked_of os d g m).orders d ≡ Some (step_of o g m).order)
 asked_there d [] o g m h = absurd cc
-asked_there d (x ∷ os) o g m h = go (is_of d x) refl h (asked_there d os o g m)
-  where
-    go : (b : Bool) → is_of d x ≡ b → cond b (Some x) (find (is_of d) os) ≡ Some o
-        → (list_of os d ≡ Some o → ((asked_of os d g m).answer ≡ (step_of o g m).answer) × (list_of (asked_of os d g m).orders d ≡ Some (step_of o g m).order))
-        → ((if b then record { answer = (step_of x g m).answer; orders = (step_of x g m).order ∷ os } else behind x (asked_of os d g m)).answer ≡ (step_of o g m).answer)
-        × (list_of (if b then record { answer = (step_of x g m).answer; orders = (step_of x g m).order ∷ os } else behind x (asked_of os d g m)).orders d
-        ≡ Some (step_of o g m).order)
-    go true is h more =
-        let same : x ≡ o = cc in (
-          ap (λ (y : OrderModel). (step_of y g m).answer) same,
-          ap (λ (b : Bool). cond b (Some (step_of x g m).order) (find (is_of d) os)) (is_of-step d x g m ∙ is)
-              ∙ ap (λ (y : OrderModel). Some (step_of y g m).order) same,
-        )
-    go false is h more =
-        let rest = more h in
-        (rest.0, ap (λ (b : Bool). cond b (Some x) (list_of (asked_of os d g m).orders d)) is ∙ rest.1)
+asked_there d (x ∷ os) o g m h = elim (cases_Bool (is_of d x)) [
+  | inl is ↦
+      let same : x ≡ o = cc (rw is at h) in
+      rw (← same) (rw is (refl, ap (λ (b : Bool). cond b (Some (step_of x g m).order) (find (is_of d) os)) (is_of-step d x g m ∙ is)))
+  | inr is ↦ rw (is, is) (asked_there d os o g m (rw is at h))
+]
 
 -- a list of another document stays
 pub asked_elsewhere : (d other : List ℕ) (os : List OrderModel) (g : Bool) (m : ToServer) → bytes_eq d other ≡ false
     → list_of (asked_of os other g m).orders d ≡ list_of os d
 asked_elsewhere d other [] g m apart = refl
-asked_elsewhere d other (x ∷ os) g m apart = go (is_of other x) refl (asked_elsewhere d other os g m apart)
-  where
-    go : (b : Bool) → is_of other x ≡ b → list_of (asked_of os other g m).orders d ≡ list_of os d
-        → list_of (if b then record { answer = (step_of x g m).answer; orders = (step_of x g m).order ∷ os } else behind x (asked_of os other g m)).orders d
-        ≡ list_of (x ∷ os) d
-    go true is rest =
-        let not_here : is_of d x ≡ false = subst (λ (y : List ℕ). bytes_eq d y ≡ false) ((bytes_eq-Decides other x.genesis.document).0 is) apart in
-        ap (λ (b : Bool). cond b (Some (step_of x g m).order) (find (is_of d) os)) (is_of-step d x g m ∙ not_here)
-        ∙ sym (ap (λ (b : Bool). cond b (Some x) (find (is_of d) os)) not_here)
-    go false is rest = ap (λ (l : Option OrderModel). cond (is_of d x) (Some x) l) rest
+asked_elsewhere d other (x ∷ os) g m apart = elim (cases_Bool (is_of other x)) [
+  | inl is ↦
+      let not_here : is_of d x ≡ false = rw (← ((bytes_eq-Decides other x.genesis.document).0 is)) apart in
+      rw (is, not_here) (ap (λ (b : Bool). cond b (Some (step_of x g m).order) (find (is_of d) os)) (is_of-step d x g m ∙ not_here))
+  | inr is ↦ rw is (ap (λ (l : Option OrderModel). cond (is_of d x) (Some x) l) (asked_elsewhere d other os g m apart))
+]
 
 -- ---- what a session is bound to
 
 bound_by-event : (s : Machine) (e : Event) (m : ToServer) → bound_by (asked_at s e).orders m ≡ bound_by s.orders m
-bound_by-event s e (Submit entry) = refl
-bound_by-event s e (Pull from) = refl
-bound_by-event s e (Hello d member) = go (bound_with s.orders (s.bound e.session) e.message)
-  where
-    go : (b : Option (List ℕ))
-        → (if list_any (is_of d) (asked_by s.orders b (is_later (s.bound e.session)) e.message).orders then Some d else None)
-        ≡ (if list_any (is_of d) s.orders then Some d else None)
-    go None = refl
-    go (Some other) = ap (λ (b : Bool). if b then Some d else None) (held_same s.orders other (is_later (s.bound e.session)) e.message d)
+bound_by-event s e (Hello d member) =
+    elim (bound_with s.orders (s.bound e.session) e.message)
+    as (λ b. (if list_any (is_of d) (asked_by s.orders b (is_later (s.bound e.session)) e.message).orders then Some d else None) ≡ bound_by s.orders (Hello d member)) [
+      | None ↦ refl
+      | Some other ↦ ap (λ (b : Bool). if b then Some d else None) (held_same s.orders other (is_later (s.bound e.session)) e.message d)
+    ]
+bound_by-event s e m = refl
 
 bound_in-same : (os os' : List OrderModel) (b : Option (Option (List ℕ))) (es : List Event) (t : ℕ) → ((m : ToServer) → bound_by os' m ≡ bound_by os m)
     → bound_in os' b es t ≡ bound_in os b es t
-bound_in-same os os' (Some b) es t same = refl
-bound_in-same os os' None [] t same = refl
-bound_in-same os os' None (e ∷ es) t same = go (t == e.session) (bound_in-same os os' None es t same)
-  where
-    go : (b : Bool) → bound_in os' None es t ≡ bound_in os None es t → (if b then bound_by os' e.message else bound_in os' None es t) ≡ (if b then bound_by os e.message else bound_in os None es t)
-    go true rest = same e.message
-    go false rest = rest
+bound_in-same os os' None (e ∷ es) t same = elim (cases_Bool (t == e.session)) [
+  | inl is ↦ rw is (same e.message)
+  | inr is ↦ rw is (bound_in-same os os' None es t same)
+]
+bound_in-same os os' b es t same = refl
 
 -- what the event's session is bound to
 bound_here : (os : List OrderModel) (b : Option (Option (List ℕ))) (e : Event) (es : List Event) → bound_in os b (e ∷ es) e.session ≡ bound_with os b e.message
@@ -135,17 +113,11 @@ module _ (d : List ℕ) (is_one : ℕ → Bool) where
 
   bound_alone : (os : List OrderModel) (o : OrderModel) (b : Option (Option (List ℕ))) (m : ToServer) → is_of d o ≡ true → bound_with os b m ≡ Some d
       → bound_with (o ∷ []) b m ≡ Some d
-  bound_alone os o (Some b) m is bound = bound
-  bound_alone os o None (Submit entry) is bound = bound
-  bound_alone os o None (Pull from) is bound = bound
-  bound_alone os o None (Hello e member) is bound = go (list_any (is_of e) os) bound
-    where
-      go : (b : Bool) → (if b then Some e else None) ≡ Some d → (if is_of e o || false then Some e else None) ≡ Some d
-      go false h = absurd cc
-      go true h =
-          let same : e ≡ d = cc in
-          subst (λ (x : List ℕ). (if is_of x o || false then Some x else None) ≡ Some d) (sym same)
-          (ap (λ (b : Bool). if b || false then Some d else None) is)
+  bound_alone os o None (Hello e member) is bound = elim (cases_Bool (list_any (is_of e) os)) [
+    | inl held ↦ let same : e ≡ d = cc (rw held at bound) in rw (same, is)
+    | inr none ↦ let clash = rw none at bound in absurd cc
+  ]
+  bound_alone os o b m is bound = bound
 
   module _ (s a : Machine) (e : Event) (o : OrderModel) (is : IsAlone s a o) where
     abbrev here : Bool
@@ -203,24 +175,18 @@ module _ (d : List ℕ) (is_one : ℕ → Bool) where
   isolated_from : (s a : Machine) (o : OrderModel) (es : List Event) → AreOf s es → is_of d o ≡ true → IsAlone s a o
       → answers_to is_one s es ≡ answers_of a (filter (λ e. is_one e.session) es)
   isolated_from s a o [] are is_it is = refl
-  isolated_from s a o (e ∷ es) are is_it is = go (is_one e.session) refl (λ o' is_it'. isolated_from (after_event s e) (after_event a e) o' es (are_of_later s e es are) is_it')
-      (isolated_from (after_event s e) a o es (are_of_later s e es are) is_it)
-    where
-      bound : is_one e.session ≡ is_document d (bound_with s.orders (s.bound e.session) e.message)
-      bound = are e.session ∙ ap (is_document d) (bound_here s.orders (s.bound e.session) e es)
-
-      go : (b : Bool) → is_one e.session ≡ b
-          → ((o' : OrderModel) → is_of d o' ≡ true → IsAlone (after_event s e) (after_event a e) o'
-          → answers_to is_one (after_event s e) es ≡ answers_of (after_event a e) (filter (λ e. is_one e.session) es))
-          → (IsAlone (after_event s e) a o → answers_to is_one (after_event s e) es ≡ answers_of a (filter (λ e. is_one e.session) es))
-          → (if b then (asked_at s e).answer ∷ answers_to is_one (after_event s e) es else answers_to is_one (after_event s e) es)
-          ≡ answers_of a (cond b (e ∷ filter (λ e. is_one e.session) es) (filter (λ e. is_one e.session) es))
-      go true one more rest =
-          let both = alike s a e o is is_it one (is_document-is (bound_with s.orders (s.bound e.session) e.message) (sym bound ∙ one)) in
-          let later = more (step_of o (is_later (s.bound e.session)) e.message).order
-          (is_of-step d o (is_later (s.bound e.session)) e.message ∙ is_it) both.1 in
-          (λ i. both.0 i ∷ later i)
-      go false not_one more rest = rest (apart s a e o is not_one (sym bound ∙ not_one))
+  isolated_from s a o (e ∷ es) are is_it is =
+      let bound : is_one e.session ≡ is_document d (bound_with s.orders (s.bound e.session) e.message) =
+      are e.session ∙ ap (is_document d) (bound_here s.orders (s.bound e.session) e es) in
+      let more = λ (x : Machine) (o' : OrderModel). isolated_from (after_event s e) x o' es (are_of_later s e es are) in
+      elim (cases_Bool (is_one e.session)) [
+        | inl one ↦
+            let both = alike s a e o is is_it one (is_document-is (bound_with s.orders (s.bound e.session) e.message) (sym bound ∙ one)) in
+            let o' = (step_of o (is_later (s.bound e.session)) e.message).order in
+            let later = more (after_event a e) o' (is_of-step d o (is_later (s.bound e.session)) e.message ∙ is_it) both.1 in
+            rw one (λ i. both.0 i ∷ later i)
+        | inr not_one ↦ rw not_one (more a o is_it (apart s a e o is not_one (sym bound ∙ not_one)))
+      ]
 
 pub isolated : IsIsolated
 isolated orders d o events there =

@@ -1,16 +1,14 @@
 -- Locks, and lists with one item more or less at their ends.
 use Rattle.std.proofs.Common.{◌≡◌, ◌∙◌, ℕ, List, [], ◌∷◌, ◌++◌, length, reverse, replicate, suc, Option, Some, None, refl, ap, sym, subst, subst₂, append_assoc, arith}
 use Rattle.sporc_docs.proofs.Common.{reverse-append, map-append, Pass, Turn, Known, first_known, known_of, IsPassOf, OrderModel, Ghosts, Desk, Item, log_at_first, Hand, Both, AllHands, IsEmpty}
-use Rattle.sporc_docs.proofs.Common.{HasFirst, KnowsFirst, AreOpen, AreBack, IsBack, AreKept}
+use Rattle.sporc_docs.proofs.Common.{HasFirst, KnowsFirst, AreOpen, AreBack, IsBack, AreKept, Locks}
 use Rattle.std.specs.Prelude.{IsSome}
-use Rattle.sporc_docs.specs.declared.locks.Locks.{Locks}
 
 module _ {A B : Type 0} (R : A → B → Type 0) where
   pub both_more : (xs : List A) (ys : List B) (x : A) (y : B) → Both R xs ys → R x y → Both R (xs ++ x ∷ []) (ys ++ y ∷ [])
   both_more [] [] x y h one = (one, tt)
-  both_more [] (y' ∷ ys) x y h one = absurd h
-  both_more (x' ∷ xs) [] x y h one = absurd h
   both_more (x' ∷ xs) (y' ∷ ys) x y h one = (h.0, both_more xs ys x y h.1 one)
+  both_more xs ys x y h one = absurd h
 
   no_end : (ys : List B) (y : B) → Both R [] (ys ++ y ∷ []) → ⊥
   no_end [] y h = h
@@ -32,23 +30,20 @@ module _ {A B : Type 0} (R : A → B → Type 0) where
 
   pub both_append : (xs xs' : List A) (ys ys' : List B) → Both R xs ys → Both R xs' ys' → Both R (xs ++ xs') (ys ++ ys')
   both_append [] xs' [] ys' h more = more
-  both_append [] xs' (y ∷ ys) ys' h more = absurd h
-  both_append (x ∷ xs) xs' [] ys' h more = absurd h
   both_append (x ∷ xs) xs' (y ∷ ys) ys' h more = (h.0, both_append xs xs' ys ys' h.1 more)
+  both_append xs xs' ys ys' h more = absurd h
 
   pub both_reverse : (xs : List A) (ys : List B) → Both R xs ys → Both R (reverse xs) (reverse ys)
   both_reverse [] [] h = tt
-  both_reverse [] (y ∷ ys) h = absurd h
-  both_reverse (x ∷ xs) [] h = absurd h
   both_reverse (x ∷ xs) (y ∷ ys) h =
       subst (λ (l : List A). Both R l (reverse (y ∷ ys))) (sym (reverse-append (x ∷ []) xs))
       (subst (λ (l : List B). Both R (reverse xs ++ x ∷ []) l) (sym (reverse-append (y ∷ []) ys)) (both_more (reverse xs) (reverse ys) x y (both_reverse xs ys h.1) h.0))
+  both_reverse xs ys h = absurd h
 
   pub both_length : (xs : List A) (ys : List B) → Both R xs ys → length xs ≡ length ys
   both_length [] [] h = refl
-  both_length [] (y ∷ ys) h = absurd h
-  both_length (x ∷ xs) [] h = absurd h
   both_length (x ∷ xs) (y ∷ ys) h = ap suc (both_length xs ys h.1)
+  both_length xs ys h = absurd h
 
 -- one item more in front of those that are reversed
 pub reversed_more : {A : Type 0} (all left less : List A) (x : A) (xs : List A) → all ≡ left ++ reverse xs → left ≡ less ++ x ∷ [] → all ≡ less ++ reverse (xs ++ x ∷ [])
@@ -82,9 +77,8 @@ kept_length {T} keeps ts os kept = both_length (λ (t : T) (o : OrderModel). ∥
 -- what keeps nothing, as many times as there are orders
 pub none_kept : {T : Type 0} (ts : List T) (os : List OrderModel) → length ts ≡ length os → AreKept (λ t es. Unit {0}) ts os
 none_kept [] [] size = tt
-none_kept [] (o ∷ os) size = absurd (omega (arith, size))
-none_kept (t ∷ ts) [] size = absurd (omega (arith, size))
 none_kept (t ∷ ts) (o ∷ os) size = (∣ tt ∣₁, none_kept ts os (omega (arith, size)))
+none_kept ts os size = absurd (omega (arith, size))
 
 -- a lock more
 pub open_more : {T : Type 0} {gs : Ghosts T} (os : List OrderModel) (o : OrderModel) (locks locks' : Locks T gs) (t : Turn (Desk T gs) Item) (d : List ℕ) (p : Pass Item) → AreOpen os locks
@@ -110,15 +104,9 @@ back_less (q ∷ qs) p h = let less = back_less qs p h.1 in ((h.0, less.0), less
 -- hands without a pass
 empty_each : {T : Type 0} {gs : Ghosts T} (ts : List (Turn (Desk T gs) Item)) (ps : List (Option (Pass Item))) → ps ≡ replicate (length ts) None → Both IsEmpty ts ps
 empty_each [] [] is = tt
-empty_each [] (p ∷ ps) is = absurd cc
-empty_each (t ∷ ts) [] is = absurd cc
-empty_each (t ∷ ts) (p ∷ ps) is = (head is, empty_each ts ps (tail is))
-  where
-    head : (p ∷ ps) ≡ None ∷ replicate (length ts) None → p ≡ None
-    head h = cc
-
-    tail : (p ∷ ps) ≡ None ∷ replicate (length ts) None → ps ≡ replicate (length ts) None
-    tail h = cc
+empty_each (t ∷ ts) (p ∷ ps) is =
+    let same : (p ∷ ps) ≡ None ∷ replicate (length ts) None = is in (cc, empty_each ts ps (cc))
+empty_each ts ps is = absurd cc
 
 pub empty_all : {T : Type 0} {gs : Ghosts T} (ts : List (Turn (Desk T gs) Item)) (n : ℕ) (hs : List Hand) → length ts ≡ n → AllHands (λ ps. ps ≡ replicate n None) hs → AllHands (Both IsEmpty ts) hs
 empty_all ts n [] size h = tt

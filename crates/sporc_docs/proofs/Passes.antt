@@ -41,12 +41,8 @@ room_left n t (Some p) (Some q) (Some p') first room splits = subst (λ (x : Kno
 
 pub have_left : {T : Type 0} {gs : Ghosts T} (n : ℕ) (ts : List (Turn (Desk T gs) Item)) (ps ps' : List (Option (Pass Item))) (q : ℕ → Option (Pass Item)) → Both HasFirst ts ps → Both HasFirst ts ps'
     → HaveRoom (suc n) ps → ((i : ℕ) → SplitsAt (pass_at i ps) (q i ∷ []) (pass_at i ps')) → HaveRoom n ps'
-have_left n [] [] [] q first first' room splits = tt
-have_left n [] (p ∷ ps) ps' q first first' room splits = absurd first
-have_left n [] [] (p' ∷ ps') q first first' room splits = absurd first'
+have_left n ts ps [] q first first' room splits = tt
+have_left n [] ps (p' ∷ ps') q first first' room splits = absurd first'
 have_left n (t ∷ ts) [] ps' q first first' room splits = absurd first
-have_left n (t ∷ ts) (p ∷ ps) [] q first first' room splits = tt
-have_left n (t ∷ ts) (p ∷ ps) (p' ∷ ps') q first first' room splits = (
-  room_left n t p (q 0) p' first.0 room.0 (splits 0),
-  have_left n ts ps ps' (λ i. q (suc i)) first.1 first'.1 room.1 (λ i. splits (suc i)),
-)
+have_left n (t ∷ ts) (p ∷ ps) (p' ∷ ps') q first first' room splits =
+    (room_left n t p (q 0) p' first.0 room.0 (splits 0), have_left n ts ps ps' (λ i. q (suc i)) first.1 first'.1 room.1 (λ i. splits (suc i)))

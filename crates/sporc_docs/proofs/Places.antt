@@ -1,46 +1,34 @@
 -- Places of documents, and lists with one more.
-use Rattle.std.proofs.Common.{◌≡◌, ◌∙◌, ℕ, ◌+◌, ◌<◌, Bool, true, false, List, [], ◌∷◌, ◌++◌, Option, Some, None, refl, ap, sym, subst, cond, find, drop, length, length-append, arith, bytes_eq, slice_index_or, add-one, suc, is_ok, is_some, if◌then◌else◌, ◌≤◌, Result, Ok, Err}
-use Rattle.sporc_docs.proofs.Common.{position_from, bytes_eq-Decides, OrderModel, is_of, list_of, AreApart}
+use Rattle.std.proofs.Common.{slice_get, ◌≡◌, ◌∙◌, ℕ, ◌+◌, ◌<◌, Bool, true, false, List, [], ◌∷◌, ◌++◌, Option, Some, None, refl, ap, sym, subst, cond, find, drop, length, length-append, arith, inl, inr, slice_index_or, add-one, suc, is_ok, is_some, if◌then◌else◌, ◌≤◌, Result, Ok, Err}
+use Rattle.sporc_docs.proofs.Common.{position_from, OrderModel, is_of, list_of, AreApart, same_Some}
+use Rattle.std.specs.Option.{option_or}
+use Rattle.std.proofs.lemmas.Bool.{cases_Bool}
+use Rattle.std.proofs.lemmas.Cmp.{nat_list_eq_equiv}
+use Rattle.std.proofs.lemmas.List.Folds.{find-append}
 use Rattle.std.proofs.Math.Seq.{drop-cons}
+
+-- what is found nowhere is not the first, nor any behind it
+pub none_parts : {A : Type 0} (b : Bool) (x : A) (rest : Option A) → cond b (Some x) rest ≡ None → (b ≡ false) × (rest ≡ None)
+none_parts true x rest none = absurd cc
+none_parts false x rest none = (refl, none)
 
 -- a document has a place exactly if a list is its own
 pub none_held : (d : List ℕ) (i : ℕ) (os : List OrderModel) → position_from (is_of d) i os ≡ None → list_of os d ≡ None
 none_held d i [] h = refl
-none_held d i (o ∷ os) h = go (is_of d o) h (none_held d (i + 1) os)
-  where
-    go : (b : Bool) → cond b (Some i) (position_from (is_of d) (i + 1) os) ≡ None → (position_from (is_of d) (i + 1) os ≡ None → list_of os d ≡ None) → cond b (Some o) (find (is_of d) os) ≡ None
-    go true h rest = absurd cc
-    go false h rest = rest h
-
--- one list is of one document
-apart_both : (d e : List ℕ) → bytes_eq d e ≡ false → bytes_eq e d ≡ false
-apart_both d e h = go (bytes_eq e d) refl
-  where
-    go : (b : Bool) → bytes_eq e d ≡ b → b ≡ false
-    go false is = refl
-    go true is =
-        let same : e ≡ d = (bytes_eq-Decides e d).0 is in
-        let is_here : bytes_eq d e ≡ true = (bytes_eq-Decides d e).1 (sym same) in absurd cc
+none_held d i (o ∷ os) h =
+    let parts = none_parts (is_of d o) i (position_from (is_of d) (i + 1) os) h in
+    ap (λ (b : Bool). cond b (Some o) (find (is_of d) os)) parts.0 ∙ none_held d (i + 1) os parts.1
 
 pub none_more : (d : List ℕ) (os : List OrderModel) (o : OrderModel) → list_of os d ≡ None → is_of d o ≡ false → list_of (os ++ o ∷ []) d ≡ None
-none_more d [] o h is_not = ap (λ (b : Bool). cond b (Some o) None) is_not
-none_more d (x ∷ os) o h is_not = go (is_of d x) h (λ low. none_more d os o low is_not)
-  where
-    go : (b : Bool) → cond b (Some x) (find (is_of d) os) ≡ None → (list_of os d ≡ None → list_of (os ++ o ∷ []) d ≡ None) → cond b (Some x) (find (is_of d) (os ++ o ∷ [])) ≡ None
-    go true h rest = absurd cc
-    go false h rest = rest h
+none_more d os o h is_not =
+    find-append (is_of d) os (o ∷ []) ∙ ap (λ (f : Option OrderModel). option_or f (cond (is_of d o) (Some o) None)) h ∙ ap (λ (b : Bool). cond b (Some o) None) is_not
 
 -- a list more of another document
 pub apart_more : (os : List OrderModel) (o : OrderModel) → AreApart os → list_of os o.genesis.document ≡ None → AreApart (os ++ o ∷ [])
 apart_more [] o are none = (refl, tt)
 apart_more (x ∷ os) o are none =
-    let both = split (is_of o.genesis.document x) refl none in
-    (none_more x.genesis.document os o are.0 (apart_both o.genesis.document x.genesis.document both.0), apart_more os o are.1 both.1)
-  where
-    split : (b : Bool) → is_of o.genesis.document x ≡ b → cond b (Some x) (find (is_of o.genesis.document) os) ≡ None
-        → (is_of o.genesis.document x ≡ false) × (list_of os o.genesis.document ≡ None)
-    split true is h = absurd cc
-    split false is h = (is, h)
+    let both = none_parts (is_of o.genesis.document x) x (find (is_of o.genesis.document) os) none in
+    (none_more x.genesis.document os o are.0 (nat_list_eq_equiv.symm x.genesis.document o.genesis.document ∙ both.0), apart_more os o are.1 both.1)
 
 -- documents stay apart, and few enough, as one is pushed
 pub kept_apart : {A E : Type 0} (r : Result A E) (os os' : List OrderModel) (o : OrderModel) (n : ℕ) → os' ≡ (if is_ok r then os ++ o ∷ [] else os) → length os < n
@@ -51,22 +39,7 @@ kept_apart (Ok x) os os' o n is room are none =
 kept_apart (Err e) os os' o n is room are none =
     subst (λ (l : List OrderModel). (length l ≤ n) × AreApart l) (sym is) (omega (arith, room), are)
 
--- the item at a place
-item_at : {A : Type 0} (xs : List A) (i : ℕ) (x : A) → i < length xs → x ≡ slice_index_or xs i x → drop i xs ≡ x ∷ drop (i + 1) xs
-item_at {A} xs i x within is = rw add-one (drop-cons xs i x within ∙ ap (λ (y : A). y ∷ drop (suc i) xs) (sym is))
-
--- it is one that is looked for, or it isn't
-pub at_place : {A : Type 0} (is_one : A → Bool) (xs : List A) (i : ℕ) (x : A) → i < length xs → x ≡ slice_index_or xs i x → is_one x ≡ true
-    → position_from is_one i (drop i xs) ≡ Some i
-at_place is_one xs i x within is is_here =
-    ap (position_from is_one i) (item_at xs i x within is) ∙ ap (λ (b : Bool). cond b (Some i) (position_from is_one (i + 1) (drop (i + 1) xs))) is_here
-
-pub not_at_place : {A : Type 0} (is_one : A → Bool) (xs : List A) (i : ℕ) (x : A) → i < length xs → x ≡ slice_index_or xs i x → is_one x ≡ false
-    → position_from is_one i (drop i xs) ≡ position_from is_one (i + 1) (drop (i + 1) xs)
-not_at_place is_one xs i x within is is_not =
-    ap (position_from is_one i) (item_at xs i x within is) ∙ ap (λ (b : Bool). cond b (Some i) (position_from is_one (i + 1) (drop (i + 1) xs))) is_not
-
--- it is one that is looked for, or it isn't, of the item as it is read there
+-- the item as it is read there is one that is looked for, or it isn't
 pub read_at_place : {A : Type 0} (is_one : A → Bool) (xs : List A) (i : ℕ) (d : A) → i < length xs → is_one (slice_index_or xs i d) ≡ true
     → position_from is_one i (drop i xs) ≡ Some i
 read_at_place {A} is_one xs i d within is_here =
@@ -77,6 +50,24 @@ pub not_read_at_place : {A : Type 0} (is_one : A → Bool) (xs : List A) (i : �
 not_read_at_place {A} is_one xs i d within is_not =
     let last : position_from is_one (i + 1) (drop (suc i) xs) ≡ position_from is_one (i + 1) (drop (i + 1) xs) = rw add-one refl in
     ap (position_from is_one i) (drop-cons xs i d within) ∙ ap (λ (b : Bool). cond b (Some i) (position_from is_one (i + 1) (drop (suc i) xs))) is_not ∙ last
+
+-- and so it is of the item that it is
+pub at_place : {A : Type 0} (is_one : A → Bool) (xs : List A) (i : ℕ) (x : A) → i < length xs → x ≡ slice_index_or xs i x → is_one x ≡ true
+    → position_from is_one i (drop i xs) ≡ Some i
+at_place is_one xs i x within is is_here = read_at_place is_one xs i x within (ap is_one (sym is) ∙ is_here)
+
+pub not_at_place : {A : Type 0} (is_one : A → Bool) (xs : List A) (i : ℕ) (x : A) → i < length xs → x ≡ slice_index_or xs i x → is_one x ≡ false
+    → position_from is_one i (drop i xs) ≡ position_from is_one (i + 1) (drop (i + 1) xs)
+not_at_place is_one xs i x within is is_not = not_read_at_place is_one xs i x within (ap is_one (sym is) ∙ is_not)
+
+-- a place that is found has an item that is looked for
+pub position_found : {A : Type 0} (f : A → Bool) (i : ℕ) (xs : List A) (place : ℕ) → position_from f i xs ≡ Some place
+    → (j : ℕ) × (place ≡ i + j) × (x : A) × (slice_get xs j ≡ Some x) × (f x ≡ true)
+position_found f i [] place h = absurd cc
+position_found {A} f i (x ∷ xs) place h = elim (cases_Bool (f x)) [
+  | inl is ↦ let here = same_Some i place (rw is at h) in (0, omega (arith, here), x, refl, is)
+  | inr is ↦ let m = position_found f (i + 1) xs place (rw is at h) in let at : place ≡ i + 1 + m.0 = m.1 in (suc m.0, omega (arith, at), m.2, m.3, m.4)
+]
 
 pub is_none : (x : Option ℕ) → is_some x ≡ false → x ≡ None
 is_none None h = refl

@@ -1,33 +1,27 @@
 -- Orders, before and after.
-use Rattle.std.proofs.Common.{◌≡◌, ◌∙◌, ℕ, ◌+◌, ◌<◌, ◌≤◌, ◌^◌, Bool, List, [], ◌∷◌, ◌++◌, length, reverse, replicate, cond, find, true, false, length-append, ◌-◌, is_err, Ok, Err, OnOk, All, Option, Some, None, Result, refl, ap, sym, subst, arith}
+use Rattle.std.proofs.Common.{◌≡◌, ◌∙◌, ℕ, ◌+◌, ◌<◌, ◌≤◌, ◌^◌, Bool, List, [], ◌∷◌, ◌++◌, length, reverse, replicate, cond, find, false, length-append, ◌-◌, is_err, Ok, Err, OnOk, All, Option, Some, None, Result, refl, ap, sym, subst, arith}
 use Rattle.sporc_docs.proofs.Common.{drop_all, reverse-reverse, length-reverse, length-map, NetTold, StreamTold, Known, Pass, known_of, OrderModel, Ghosts, ServeFault, Item, by_of, order_at, placed}
 use Rattle.sporc_docs.proofs.Common.{log_at_first, came, handed_back, AreFrom, AreBehind, TellsOf, Both, HasFirst, HaveRoom, list_of, is_of, AreApart, KnowsFirst, AreOpen, AreBack, Closes, Ends}
-use Rattle.sporc_docs.proofs.Common.{AreEnding, Session, visits_of, IsOneOf, IsServedDocument, AreServed}
-use Rattle.std.proofs.lemmas.List.Elements.{All-nil}
-use Rattle.sporc_serve.proofs.Tracing.{starts_same}
-use Rattle.sporc_serve.proofs.Crowding.{from_none, behind_none}
-use Rattle.sporc_serve.proofs.Serving.{first_is, tells_before}
-use Rattle.sporc_docs.specs.declared.locks.Locks.{Locks}
+use Rattle.sporc_docs.proofs.Common.{AreEnding, Session, visits_of, IsOneOf, IsServedDocument, AreServed, All-nil, starts_same, first_is, tells_before, from_none, behind_none, Locks}
+use Rattle.sporc_docs.proofs.Places.{none_parts}
 use Rattle.sporc_docs.proofs.Opening.{both_append, both_reverse, both_length}
 
 both_join : {A B C : Type 0} (R : A → B → Type 0) (S : B → C → Type 0) (T : A → C → Type 0) → ((x : A) (y : B) (z : C) → R x y → S y z → T x z) → (xs : List A) (ys : List B) (zs : List C)
     → Both R xs ys → Both S ys zs → Both T xs zs
 both_join R S T then [] [] [] r s = tt
-both_join R S T then [] [] (z ∷ zs) r s = absurd s
 both_join R S T then [] (y ∷ ys) zs r s = absurd r
 both_join R S T then (x ∷ xs) [] zs r s = absurd r
-both_join R S T then (x ∷ xs) (y ∷ ys) [] r s = absurd s
 both_join R S T then (x ∷ xs) (y ∷ ys) (z ∷ zs) r s = (then x y z r.0 s.0, both_join R S T then xs ys zs r.1 s.1)
+both_join R S T then xs ys zs r s = absurd s
 
 -- room for the splits of a lock that was opened
 pub room_first : (os : List OrderModel) (ps : List (Option (Pass Item))) (n : ℕ) → n < 2 ^ 32 → Both KnowsFirst os ps → HaveRoom n ps
 room_first [] [] n few h = tt
-room_first [] (p ∷ ps) n few h = absurd h
-room_first (o ∷ os) [] n few h = absurd h
 room_first (o ∷ os) (None ∷ ps) n few h = absurd h.0
 room_first (o ∷ os) (Some p ∷ ps) n few h =
     let none : (known_of p).splits ≡ 0 = ap (λ (k : Known Item). k.splits) h.0 in
     (omega (arith, none, few), room_first os ps n few h.1)
+room_first os ps n few h = absurd h
 
 -- as many of each
 pub open_lengths : {T : Type 0} {gs : Ghosts T} (os : List OrderModel) (locks : Locks T gs) → AreOpen os locks → (length locks.documents.items ≡ length os) × (length locks.turns.items ≡ length os)
@@ -138,11 +132,10 @@ serves_before old mid new n result os os' served coming returned le =
 -- no pass was split from a lock that was opened
 pub opened_back : (os : List OrderModel) (ps : List (Option (Pass Item))) → Both KnowsFirst os ps → AreBack ps
 opened_back [] [] h = tt
-opened_back [] (p ∷ ps) h = absurd h
-opened_back (o ∷ os) [] h = absurd h
 opened_back (o ∷ os) (None ∷ ps) h = absurd h.0
 opened_back (o ∷ os) (Some p ∷ ps) h =
     (ap (λ (k : Known Item). k.splits - length k.joined) h.0, opened_back os ps h.1)
+opened_back os ps h = absurd h
 
 -- all orders were opened
 pub opened_all : (all rest opened : List OrderModel) → rest ≡ [] → all ≡ rest ++ reverse opened → (opened ≡ reverse all) × (length opened ≡ length all)
@@ -169,20 +162,14 @@ ok_then (Err e) b A is fine h = absurd cc
 module _ (ss : List Session) where
   none_kept : (os os' : List OrderModel) → Both (IsServedDocument ss) os os' → (d : List ℕ) → list_of os d ≡ None → list_of os' d ≡ None
   none_kept [] [] h d none = refl
-  none_kept [] (o' ∷ os') h d none = absurd h
-  none_kept (o ∷ os) [] h d none = absurd h
-  none_kept (o ∷ os) (o' ∷ os') h d none = go (is_of d o) (is_of d o') (ap (λ (x : OrderModel). is_of d x) h.0.1.order_is) none (none_kept os os' h.1 d)
-    where
-      go : (b b' : Bool) → b' ≡ b → cond b (Some o) (find (is_of d) os) ≡ None → (list_of os d ≡ None → list_of os' d ≡ None)
-          → cond b' (Some o') (find (is_of d) os') ≡ None
-      go true b' same none rest = absurd cc
-      go false true same none rest = absurd cc
-      go false false same none rest = rest none
+  none_kept (o ∷ os) (o' ∷ os') h d none =
+      let parts = none_parts (is_of d o) o (find (is_of d) os) none in
+      ap (λ (b : Bool). cond b (Some o') (find (is_of d) os')) (ap (λ (x : OrderModel). is_of d x) h.0.1.order_is ∙ parts.0) ∙ none_kept os os' h.1 d parts.1
+  none_kept os os' h d none = absurd h
 
   pub apart_kept : (os os' : List OrderModel) → Both (IsServedDocument ss) os os' → AreApart os → AreApart os'
   apart_kept [] [] h are = tt
-  apart_kept [] (o' ∷ os') h are = absurd h
-  apart_kept (o ∷ os) [] h are = absurd h
   apart_kept (o ∷ os) (o' ∷ os') h are =
       let same : o'.genesis.document ≡ o.genesis.document = ap (λ (x : OrderModel). x.genesis.document) h.0.1.order_is in
       (subst (λ (d : List ℕ). list_of os' d ≡ None) (sym same) (none_kept os os' h.1 o.genesis.document are.0), apart_kept os os' h.1 are.1)
+  apart_kept os os' h are = absurd h

@@ -1,10 +1,9 @@
 -- A session of many documents.
 use Rattle.std.proofs.Common.{◌≡◌, ◌∙◌, ℕ, zero, suc, ◌<◌, false, List, [], ◌∷◌, length, set, Option, Some, Ok, slice_index_or, refl, ap, sym, subst, subst₂, arith}
 use Rattle.sporc_docs.proofs.Common.{Shuts, StreamTold, Known, ToServer, Unread, stream_of, next, Ghosts, SessionEnd, inlet_at, IsFirst, IsLogOf, ServerStand, stand, stand_at, Leads, visit}
-use Rattle.sporc_docs.proofs.Common.{IsServedSession, Pass, Turn, Desk, Item, HasPass, HavePasses, pass_at, Became}
+use Rattle.sporc_docs.proofs.Common.{IsServedSession, Pass, Turn, Desk, Item, HasPass, HavePasses, pass_at, Became, Genesis}
 use Rattle.std.specs.Io.KnownBytes.{Consumes}
 use Rattle.std.proofs.KnownBytes.{Consumes-nil}
-use Rattle.sporc_entry.specs.declared.genesis.Genesis.{Genesis}
 use Rattle.sporc_wire.specs.ToServer.{to_server_of}
 use Rattle.sporc_serve.proofs.Going.{kept}
 use Rattle.sporc_serve.proofs.Stepping.{session_ended}
@@ -14,9 +13,8 @@ use Rattle.sporc_serve.proofs.Waiting.{trace_waits}
 
 pub have_length : {T : Type 0} {gs : Ghosts T} (ts : List (Turn (Desk T gs) Item)) (ps : List (Option (Pass Item))) → HavePasses ts ps → length ps ≡ length ts
 have_length [] [] h = refl
-have_length [] (p ∷ ps) h = absurd h
-have_length (t ∷ ts) [] h = absurd h
 have_length (t ∷ ts) (p ∷ ps) h = ap suc (have_length ts ps h.1)
+have_length ts ps h = absurd h
 
 pub have_at : {T : Type 0} {gs : Ghosts T} (ts : List (Turn (Desk T gs) Item)) (ps : List (Option (Pass Item))) (i : ℕ) (t : Turn (Desk T gs) Item) (p : Option (Pass Item)) → HavePasses ts ps → i < length ts
     → t ≡ slice_index_or ts i t → p ≡ slice_index_or ps i p → HasPass t p
@@ -45,11 +43,9 @@ at_set_here (q ∷ qs) zero p new h = h
 at_set_here (q ∷ qs) (suc i) p new h = at_set_here qs i p new h
 
 at_set_elsewhere : (ps : List (Option (Pass Item))) (i j : ℕ) (new : Option (Pass Item)) → ¬ (i ≡ j) → pass_at j (set ps i new) ≡ pass_at j ps
-at_set_elsewhere [] i j new apart = refl
 at_set_elsewhere (q ∷ qs) zero zero new apart = absurd (apart refl)
-at_set_elsewhere (q ∷ qs) zero (suc j) new apart = refl
-at_set_elsewhere (q ∷ qs) (suc i) zero new apart = refl
 at_set_elsewhere (q ∷ qs) (suc i) (suc j) new apart = at_set_elsewhere qs i j new (λ same. apart (ap suc same))
+at_set_elsewhere ps i j new apart = refl
 
 -- what became of a pass at its place, and at any other
 pub became_here : (how : Pass Item → Pass Item → Type 0) (ps : List (Option (Pass Item))) (i : ℕ) (old new : Option (Pass Item)) (p p' : Pass Item)

@@ -10,7 +10,8 @@ use Rattle.sporc_entry.specs.declared.fault.EntryFault.{EntryFault}
 use Rattle.sporc_entry.specs.declared.wrap.Wrap.{Wrap}
 use Rattle.sporc_entry.specs.Fields.{role_at}
 use Rattle.sporc_member.specs.Device.{IsMember}
-use Rattle.sporc_entry.specs.ChangeBody.{kind_at, change_of_device, change_of_member, change_of_kind, change_at, wrap_at, change_body_at, change_body_from, kind_of, change_fields, change_bytes, change_body_bytes, IsChange, IsWrap}
+use Rattle.sporc_entry.specs.ChangeBody.{kind_at, change_of_device, change_of_member, change_of_kind, change_at, wrap_at, change_body_at, change_body_from, kind_of, change_fields, change_bytes}
+use Rattle.sporc_entry.specs.ChangeBody.{change_body_bytes, IsChange, IsWrap}
 use Rattle.sporc_entry.proofs.FieldLaws.{Leaves, byte_is, role_takes, role_again}
 use Rattle.sporc_entry.proofs.VersionLaws.{kind_known, kind_takes, kind_again}
 
@@ -198,8 +199,7 @@ body_bytes c rest = change_bytes c.change (c.commitment ++ (c.previous ++ (to_be
 
 body_parts : (c : ChangeBody) (r0 r1 r2 r3 r4 r5 : List ℕ) → r0 ≡ change_bytes c.change r1 → r1 ≡ c.commitment ++ r2 → r2 ≡ c.previous ++ r3 → r3 ≡ to_be_bytes w16 (length c.wraps) ++ r4
     → r4 ≡ flat_map wrap_bytes c.wraps ++ r5 → r0 ≡ body_bytes c r5
-body_parts c r0 r1 r2 r3 r4 r5 e0 e1 e2 e3 e4 =
-    e0 ∙ ap (change_bytes c.change) (e1 ∙ ap (λ (t : List ℕ). c.commitment ++ t) (e2 ∙ ap (λ (t : List ℕ). c.previous ++ t) (e3 ∙ ap (λ (t : List ℕ). to_be_bytes w16 (length c.wraps) ++ t) e4)))
+body_parts c r0 r1 r2 r3 r4 r5 e0 e1 e2 e3 e4 = rw (e0, e1, e2, e3, e4) refl
 
 fields_take : (version : ℕ) (r : Reading) (x : ChangeBody × Reading) → IsBytes r.rest → change_body_at version r ≡ Ok x → Leaves r (body_bytes x.0) x.1 × IsChangeBody version x.0
 unfolding change_body_at
@@ -217,8 +217,7 @@ fields_take version r x h e =
     let body : ChangeBody = record { change = a.0.0; commitment = b.0.0; previous = c.0.0; wraps = w.0.0 } in
     let made : ChangeBody × Reading = (body, w.0.1) in
     let counted : c.0.1.rest ≡ to_be_bytes w16 (length w.0.0) ++ n.0.1.rest = tn.0.parts ∙ ap (λ (k : ℕ). to_be_bytes w16 k ++ n.0.1.rest) (sym tw.count) in
-    let P : ChangeBody × Reading → Type 0 = λ y. Leaves r (body_bytes y.0) y.1 × IsChangeBody version y.0 in
-    subst P {x = made} {y = x} (ok_is made x w.2) (
+    subst (λ (y : ChangeBody × Reading). Leaves r (body_bytes y.0) y.1 × IsChangeBody version y.0) {x = made} {y = x} (ok_is made x w.2) (
       record { parts = body_parts body r.rest a.0.1.rest b.0.1.rest c.0.1.rest n.0.1.rest w.0.1.rest ta.text.parts tb.0.parts tc.0.parts counted tw.text.parts; bytes = tw.text.bytes },
       record { kind = ta.kind; change = ta.change; commitment = tb.1; previous = tc.1; count = omega (arith, tw.count, tn.2); wraps = tw.each },
     )
@@ -234,8 +233,7 @@ change_body_takes version at bytes c h e =
     let tail : flat_map wrap_bytes a.0.0.wraps ++ a.0.1.rest ≡ flat_map wrap_bytes a.0.0.wraps = ap (λ (rest : List ℕ). flat_map wrap_bytes a.0.0.wraps ++ rest) nothing ∙ append-nil (flat_map wrap_bytes a.0.0.wraps) in
     let whole : bytes ≡ change_body_bytes a.0.0 =
     t.0.parts ∙ ap (λ (bs : List ℕ). change_bytes a.0.0.change (a.0.0.commitment ++ (a.0.0.previous ++ (to_be_bytes w16 (length a.0.0.wraps) ++ bs)))) tail in
-    let P : ChangeBody → Type 0 = λ y. IsChangeBody version y × (bytes ≡ change_body_bytes y) in
-    subst P (ok_is a.0.0 c b.2) (t.1, whole)
+    subst (λ (y : ChangeBody). IsChangeBody version y × (bytes ≡ change_body_bytes y)) (ok_is a.0.0 c b.2) (t.1, whole)
 
 pub change_body_again : (version at : ℕ) (c : ChangeBody) → IsChangeBody version c → change_body_from version at (change_body_bytes c) ≡ Ok c
 unfolding change_body_from change_body_at change_body_bytes

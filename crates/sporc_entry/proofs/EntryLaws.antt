@@ -1,9 +1,10 @@
 -- An entry that is read is spelled so, and one that is spelled so is read again.
-use Rattle.std.proofs.Common.{◌≡◌, ℕ, ◌+◌, ◌^◌, ◌<◌, ◌≤◌, Bool, true, false, cond, eqb, List, [], ◌∷◌, ◌++◌, length, drop, Some, Result, Ok, Err, refl, sym, ap, subst, ◌∙◌, append_assoc, arith, lit<, length-append}
+use Rattle.std.proofs.Common.{◌≡◌, ℕ, ◌+◌, ◌^◌, ◌<◌, ◌≤◌, Bool, true, false, cond, eqb, List, [], ◌∷◌, ◌++◌, length, drop, Some, Result, Ok, Err, refl, sym, ap, subst, ◌∙◌, append_assoc, arith, lit<}
+use Rattle.std.proofs.Common.{length-append}
 use Rattle.sporc_entry.proofs.Common.{IfOk, w16, w32, to_be_bytes, eqb-false, take_at, drop_at, Reading, ◌>>=◌, fault_as, counted_at, counted, IsBytes, bind_ok, ok_is, wide16, wide32, number_takes}
-use Rattle.sporc_entry.proofs.Common.{bytes_takes, bytes_again, u16_again, u32_again, counted_takes, counted_again, end_takes, byte_takes, byte_again, fault_as_ok, ChangeBody, Entry, Header, Malformed}
-use Rattle.sporc_entry.proofs.Common.{Memory, GivesUnless, change_body_from, IsChangeBody, SpellsChange, FIRST_VERSION, DEVICES_VERSION, MAX_EDIT_BODY, MAX_CHANGE_BODY, MAX_SIGNATURE, MAX_ENTRY}
-use Rattle.sporc_entry.proofs.Common.{body_limit, body_read, device_bytes, counted_bytes, IsEntry, header_len, body_place}
+use Rattle.sporc_entry.proofs.Common.{bytes_takes, bytes_again, u16_again, u32_again, counted_takes, counted_again, end_takes, byte_takes, byte_again, fault_as_ok, ChangeBody, Entry, Header}
+use Rattle.sporc_entry.proofs.Common.{Malformed, Memory, GivesUnless, change_body_from, IsChangeBody, SpellsChange, FIRST_VERSION, DEVICES_VERSION, MAX_EDIT_BODY, MAX_CHANGE_BODY, MAX_SIGNATURE}
+use Rattle.sporc_entry.proofs.Common.{MAX_ENTRY, body_limit, body_read, device_bytes, counted_bytes, IsEntry, header_len, body_place}
 use Rattle.sporc_base.proofs.ByteLemmas.{IsBytes-drop, IsBytes-take}
 use Rattle.sporc_entry.specs.declared.fault.EntryFault.{EntryFault}
 use Rattle.sporc_entry.specs.Entry.{header_at, entry_of, change_of, header_bytes, entry_bytes, IsHeader}
@@ -16,10 +17,7 @@ use Rattle.sporc_entry.proofs.ChangeLaws.{change_body_takes, change_body_again}
 header_parts : (h : Header) (r0 r1 r2 r3 r4 r5 r6 r7 r8 r9 r10 : List ℕ) → r0 ≡ h.version ∷ r1 → r1 ≡ h.document ++ r2 → r2 ≡ to_be_bytes w16 h.author ++ r3 → r3 ≡ device_bytes h.version h.device ++ r4
     → r4 ≡ to_be_bytes w32 h.number ++ r5 → r5 ≡ to_be_bytes w32 h.base ++ r6 → r6 ≡ h.base_hash ++ r7 → r7 ≡ to_be_bytes w32 h.epoch ++ r8 → r8 ≡ to_be_bytes w32 h.leaf ++ r9 → r9 ≡ h.kind ∷ r10 → r0 ≡ header_bytes h r10
 unfolding header_bytes
-header_parts h r0 r1 r2 r3 r4 r5 r6 r7 r8 r9 r10 e0 e1 e2 e3 e4 e5 e6 e7 e8 e9 =
-    let after : (xs ys zs : List ℕ) → ys ≡ zs → xs ++ ys ≡ xs ++ zs = λ xs ys zs e. ap (λ (t : List ℕ). xs ++ t) e in
-    e0 ∙ ap (λ (t : List ℕ). h.version ∷ t) (e1 ∙ after h.document _ _ (e2 ∙ after (to_be_bytes w16 h.author) _ _ (e3 ∙ after (device_bytes h.version h.device) _ _ (e4 ∙ after (to_be_bytes w32 h.number) _ _
-    (e5 ∙ after (to_be_bytes w32 h.base) _ _ (e6 ∙ after h.base_hash _ _ (e7 ∙ after (to_be_bytes w32 h.epoch) _ _ (e8 ∙ after (to_be_bytes w32 h.leaf) _ _ e9))))))))
+header_parts h r0 r1 r2 r3 r4 r5 r6 r7 r8 r9 r10 e0 e1 e2 e3 e4 e5 e6 e7 e8 e9 = rw (e0, e1, e2, e3, e4, e5, e6, e7, e8, e9) refl
 
 header_takes : (r : Reading) (x : Header × Reading) → IsBytes r.rest → header_at r ≡ Ok x → Leaves r (header_bytes x.0) x.1 × IsHeader x.0
 unfolding header_at
@@ -47,8 +45,7 @@ header_takes r x h e =
     let header : Header =
     record { version = v.0.0; document = d.0.0; author = a.0.0; device = dev.0.0; number = n.0.0; base = b.0.0; base_hash = s.0.0; epoch = p.0.0; leaf = l.0.0; kind = k.0.0 } in
     let made : Header × Reading = (header, k.0.1) in
-    let P : Header × Reading → Type 0 = λ y. Leaves r (header_bytes y.0) y.1 × IsHeader y.0 in
-    subst P {x = made} {y = x} (ok_is made x k.2) (
+    subst (λ (y : Header × Reading). Leaves r (header_bytes y.0) y.1 × IsHeader y.0) {x = made} {y = x} (ok_is made x k.2) (
       record {
         parts = header_parts header r.rest v.0.1.rest d.0.1.rest a.0.1.rest dev.0.1.rest n.0.1.rest b.0.1.rest s.0.1.rest p.0.1.rest l.0.1.rest k.0.1.rest
             tv.0.parts td.0.parts ta.0.parts tdev.0.parts tn.0.parts tb.0.parts ts.0.parts tp.0.parts tl.0.parts tk.0.parts;
@@ -161,8 +158,7 @@ entry_takes bytes e h read =
     let body_is_bytes = counted_is_bytes a.0.1.rest b.0.0 b.0.1.rest ta.0.bytes tb.0.parts in
     let signature : b.0.1.rest ≡ counted_bytes s.0.0 [] = ts.0.parts ∙ ap (λ (rest : List ℕ). counted s.0.0 ++ rest) nothing ∙ counted_text s.0.0 [] in
     let body : a.0.1.rest ≡ counted_bytes b.0.0 (counted_bytes s.0.0 []) = tb.0.parts ∙ ap (λ (rest : List ℕ). counted b.0.0 ++ rest) signature ∙ counted_text b.0.0 (counted_bytes s.0.0 []) in
-    let P : Entry → Type 0 = λ y. IsEntry y × (bytes ≡ entry_bytes y) in
-    subst P {x = made} {y = e} (ok_is made e n.2) (
+    subst (λ (y : Entry). IsEntry y × (bytes ≡ entry_bytes y)) {x = made} {y = e} (ok_is made e n.2) (
       record { header = ta.1; body = tb.2; change = body_takes a.0.0 b.0.0 u.0 body_is_bytes u.1; signature = ts.2 },
       ta.0.parts ∙ ap (header_bytes a.0.0) body,
     )

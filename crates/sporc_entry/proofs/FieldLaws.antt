@@ -30,9 +30,8 @@ role_takes r x h e =
     let t = byte_takes 1 3 r a.0 (omega arith) h a.1 in
     let code : role_code_of b.0 ≡ a.0.0 = eqb-true _ _ (found_passes (λ role. role_code_of role == a.0.0) (Reader ∷ Editor ∷ Admin ∷ []) b.0 (present_ok r.at (role_with_code a.0.0) b.0 b.1)) in
     let one : a.0.0 ∷ [] ≡ role_code_of b.0 ∷ [] = ap (λ (n : ℕ). n ∷ []) (sym code) in
-    let P : List ℕ → Type 0 = λ text. Takes r text a.0.1 in
     let Q : Role × Reading → Type 0 = λ y. Takes r (role_code_of y.0 ∷ []) y.1 in
-    subst Q (ok_is (b.0, a.0.1) x b.2) (subst P one t.0)
+    subst Q (ok_is (b.0, a.0.1) x b.2) (subst (λ (text : List ℕ). Takes r text a.0.1) one t.0)
 
 pub role_again : (role : Role) (at : ℕ) (rest : List ℕ) → role_at (record { rest = role_code_of role ∷ rest; at = at }) ≡ Ok (role, record { rest = rest; at = at + 1 })
 unfolding role_at

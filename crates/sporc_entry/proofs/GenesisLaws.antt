@@ -34,8 +34,7 @@ founder_takes least r x pos h e =
     let last = Takes-then a.0.1 (role_code_of b.0.0 ∷ []) b.0.1 c.0.0 c.0.1 tb tc.0 in
     let whole = Takes-then r (to_be_bytes w16 a.0.0) a.0.1 ((role_code_of b.0.0 ∷ []) ++ c.0.0) c.0.1 ta.0 last in
     let is : IsFounder made.0 = record { member = (omega (arith, pos, ta.1), omega (arith, ta.2)); key = tc.1 } in
-    let P : Founder × Reading → Type 0 = λ y. IsReadFrom number_of founder_bytes IsFounder least r y in
-    subst P (ok_is made x c.2) (record { text = whole; above = ta.1; is = is })
+    subst (IsReadFrom number_of founder_bytes IsFounder least r) (ok_is made x c.2) (record { text = whole; above = ta.1; is = is })
 
 founder_again : ReadsAgain founder_at number_of founder_bytes IsFounder
 unfolding founder_at
@@ -72,8 +71,7 @@ genesis_text g rest = 1 ∷ g.document ++ (g.commitment ++ (to_be_bytes w16 (len
 
 genesis_parts : (g : Genesis) (r0 r1 r2 r3 r4 r5 : List ℕ) → r0 ≡ 1 ∷ r1 → r1 ≡ g.document ++ r2 → r2 ≡ g.commitment ++ r3 → r3 ≡ to_be_bytes w16 (length g.founders) ++ r4
     → r4 ≡ flat_map founder_bytes g.founders ++ r5 → r0 ≡ genesis_text g r5
-genesis_parts g r0 r1 r2 r3 r4 r5 e0 e1 e2 e3 e4 =
-    e0 ∙ ap (λ (t : List ℕ). 1 ∷ t) (e1 ∙ ap (λ (t : List ℕ). g.document ++ t) (e2 ∙ ap (λ (t : List ℕ). g.commitment ++ t) (e3 ∙ ap (λ (t : List ℕ). to_be_bytes w16 (length g.founders) ++ t) e4)))
+genesis_parts g r0 r1 r2 r3 r4 r5 e0 e1 e2 e3 e4 = rw (e0, e1, e2, e3, e4) refl
 
 -- a genesis in range, whoever its founders are
 pub record IsInRange (g : Genesis) : Type 0 where
@@ -101,8 +99,7 @@ fields_take r x h e =
     let one : v.0.0 ≡ 1 = is_one v.0.0 tv.1 tv.2 in
     let first : r.rest ≡ 1 ∷ v.0.1.rest = tv.0.parts ∙ ap (λ (m : ℕ). m ∷ v.0.1.rest) one in
     let counted : c.0.1.rest ≡ to_be_bytes w16 (length f.0.0) ++ n.0.1.rest = tn.0.parts ∙ ap (λ (k : ℕ). to_be_bytes w16 k ++ n.0.1.rest) (sym tf.count) in
-    let P : Genesis × Reading → Type 0 = λ y. Leaves r (genesis_text y.0) y.1 × IsInRange y.0 in
-    subst P {x = made} {y = x} (ok_is made x f.2) (
+    subst (λ (y : Genesis × Reading). Leaves r (genesis_text y.0) y.1 × IsInRange y.0) {x = made} {y = x} (ok_is made x f.2) (
       record { parts = genesis_parts genesis r.rest v.0.1.rest d.0.1.rest c.0.1.rest n.0.1.rest f.0.1.rest first td.0.parts tc.0.parts counted tf.text.parts; bytes = tf.text.bytes },
       record { document = td.1; commitment = tc.1; count = (omega (arith, tf.count, tn.1), omega (arith, tf.count, tn.2)); founders = tf.each; ascending = tf.ascending },
     )
@@ -117,8 +114,7 @@ genesis_in_takes bytes g h e =
     let nothing : a.0.1.rest ≡ [] = end_takes a.0.1 n.1 in
     let tail : flat_map founder_bytes a.0.0.founders ++ a.0.1.rest ≡ flat_map founder_bytes a.0.0.founders = ap (λ (rest : List ℕ). flat_map founder_bytes a.0.0.founders ++ rest) nothing ∙ append-nil (flat_map founder_bytes a.0.0.founders) in
     let whole : bytes ≡ genesis_bytes a.0.0 = t.0.parts ∙ ap (λ (bs : List ℕ). 1 ∷ a.0.0.document ++ (a.0.0.commitment ++ (to_be_bytes w16 (length a.0.0.founders) ++ bs))) tail in
-    let P : Genesis → Type 0 = λ y. IsInRange y × (bytes ≡ genesis_bytes y) in
-    subst P (ok_is a.0.0 g n.2) (t.1, whole)
+    subst (λ (y : Genesis). IsInRange y × (bytes ≡ genesis_bytes y)) (ok_is a.0.0 g n.2) (t.1, whole)
 
 genesis_in_again : (g : Genesis) → IsGenesis g → genesis_in (genesis_bytes g) ≡ Ok g
 unfolding genesis_in genesis_at genesis_bytes

@@ -1,8 +1,8 @@
 -- The place of a fault is within the bytes that are read.
 use Rattle.std.proofs.Common.{◌≡◌, ℕ, zero, suc, ◌+◌, ◌≤◌, Bool, true, false, cond, ltb, leb, eqb, List, [], ◌∷◌, length, take, drop, Option, Some, None, Result, Ok, Err, refl, subst, arith}
-use Rattle.sporc_entry.proofs.Common.{◌&&◌, MatchResult, option_map, Width, w8, w16, w32, byte_len, ltb-false, length-take, length-drop, Reading, ◌>>=◌, only_if, end_at, present, fault_as, MAX_MEMBERS}
-use Rattle.sporc_entry.proofs.Common.{Add, Remove, SetRole, AddDevice, DropDevice, Upgrade, role_with_code, HIGHEST_MEMBER, MAX_SIGNATURE, Header, FIRST_VERSION, DEVICES_VERSION, ADD, REMOVE, SET_ROLE}
-use Rattle.sporc_entry.proofs.Common.{ADD_DEVICE, UPGRADE, device_at, body_limit, body_read, accepted, tested, names_device, has_kind, header_len, body_place}
+use Rattle.sporc_entry.proofs.Common.{◌&&◌, MatchResult, option_map, Width, w8, w16, w32, byte_len, leb-true, ltb-false, length-take, length-drop, Reading, ◌>>=◌, only_if, end_at, present, fault_as}
+use Rattle.sporc_entry.proofs.Common.{MAX_MEMBERS, Add, Remove, SetRole, AddDevice, DropDevice, Upgrade, role_with_code, HIGHEST_MEMBER, MAX_ENTRY, MAX_SIGNATURE, Entry, Header, FIRST_VERSION}
+use Rattle.sporc_entry.proofs.Common.{DEVICES_VERSION, ADD, REMOVE, SET_ROLE, ADD_DEVICE, UPGRADE, device_at, body_limit, body_read, accepted, tested, names_device, has_kind, header_len, body_place}
 use Rattle.sporc_bytes.specs.Fields.{ascending_at, bytes_at, number_at, counted_at, next_of, number_within, values_at}
 use Rattle.sporc_base.specs.FirstFault.{unless, first_of}
 use Rattle.sporc_member.specs.declared.founder.Founder.{Founder}
@@ -11,6 +11,8 @@ use Rattle.sporc_entry.specs.declared.genesis.Genesis.{Genesis}
 use Rattle.sporc_entry.specs.Fields.{role_at}
 use Rattle.sporc_entry.specs.ChangeBody.{kind_at, change_of_device, change_of_member, change_of_kind, change_at, wrap_at, change_body_at, change_body_from}
 use Rattle.sporc_entry.specs.Entry.{header_at, entry_of}
+use Rattle.sporc_entry.proofs.EntryLaws.{limit_most}
+use Rattle.sporc_entry.proofs.VersionLaws.{header_len-le}
 use Rattle.sporc_entry.specs.Genesis.{founder_at, founders_at, genesis_at, genesis_in, has_admin_founder, bad_key, genesis_of}
 
 -- ---- steps
@@ -23,8 +25,8 @@ then : {A B : Type 0} (end : ℕ) (after : A → Type 0) (last : B → Type 0) (
 then end after last (Ok x) f h k = k x h
 then end after last (Err at) f h k = h
 
-allowed : {A : Type 0} (b : Bool) (at end : ℕ) (x : A) → at ≤ end → Bounded end (λ y. y ≡ x) (only_if b at x)
-allowed true at end x le = refl
+allowed : {A : Type 0} (b : Bool) (at end : ℕ) (x : A) → at ≤ end → Bounded end (λ y. (b ≡ true) × (y ≡ x)) (only_if b at x)
+allowed true at end x le = (refl, refl)
 allowed false at end x le = le
 
 -- what is left begins so many bytes further, and ends at this place
@@ -39,9 +41,9 @@ Begins end at x = Left end at x.1
 abbrev Takes : ℕ → ℕ → ℕ → List ℕ × Reading → Type 0
 Takes n end at x = (length x.0 ≡ n) × Begins end (at + n) x
 
--- a counted string was taken
-abbrev TakesCounted : ℕ → ℕ → List ℕ × Reading → Type 0
-TakesCounted end at x = Begins end (at + 4 + length x.0) x
+-- a counted string of at most so many bytes was taken
+abbrev TakesCounted : ℕ → ℕ → ℕ → List ℕ × Reading → Type 0
+TakesCounted limit end at x = (length x.0 ≤ limit) × Begins end (at + 4 + length x.0) x
 
 -- what is left ends at this place
 abbrev Ends : {A : Type 0} → ℕ → A × Reading → Type 0
@@ -80,26 +82,26 @@ role_begins end at r left =
     let le : r.at ≤ end = omega (arith, left.ends) in
     then end _ _ (number_within 1 3 w8 r) _ (within_begins 1 3 w8 end at r left) (λ code h. then end _ _ (present r.at (role_with_code code.0)) _ (present_bounded r.at end (role_with_code code.0) le) (λ role _. h))
 
-counted_begins : (limit end at : ℕ) (r : Reading) → Left end at r → Bounded end (TakesCounted end at) (counted_at limit r)
+counted_begins : (limit end at : ℕ) (r : Reading) → Left end at r → Bounded end (TakesCounted limit end at) (counted_at limit r)
 unfolding counted_at
 counted_begins limit end at r left =
     let le : r.at ≤ end = omega (arith, left.ends) in
-    then end _ _ (number_at w32 r) _ (number_begins w32 end at r left) (λ n h. then end _ _ (only_if (leb n.0 limit) r.at n.0) _ (allowed _ r.at end n.0 le) (λ len _.
-    then_bytes len n.1 h))
+    then end _ _ (number_at w32 r) _ (number_begins w32 end at r left) (λ n h. then end _ _ (only_if (leb n.0 limit) r.at n.0) _ (allowed _ r.at end n.0 le) (λ len k.
+    then_bytes len n.1 (omega (arith, leb-true n.0 limit k.0, k.1)) h))
   where
-    then_bytes : (len : ℕ) (r : Reading) → Left end (at + 4) r → Bounded end (TakesCounted end at) (bytes_at len r)
-    then_bytes len r h = weaker (bytes_at len r) (bytes_begin len end (at + 4) r h)
+    then_bytes : (len : ℕ) (r : Reading) → len ≤ limit → Left end (at + 4) r → Bounded end (TakesCounted limit end at) (bytes_at len r)
+    then_bytes len r small h = weaker (bytes_at len r) (bytes_begin len end (at + 4) r h)
       where
-        weaker : (read : Result (List ℕ × Reading) ℕ) → Bounded end (Takes len end (at + 4)) read → Bounded end (TakesCounted end at) read
-        weaker (Ok x) h = record { place = omega (arith, h.0, h.1.place); ends = h.1.ends }
+        weaker : (read : Result (List ℕ × Reading) ℕ) → Bounded end (Takes len end (at + 4)) read → Bounded end (TakesCounted limit end at) read
+        weaker (Ok x) h = (omega (arith, h.0), record { place = omega (arith, h.0, h.1.place); ends = h.1.ends })
         weaker (Err at) h = h
 
-end_bounded : (end : ℕ) (r : Reading) → r.at + length r.rest ≡ end → Bounded end (λ _. Unit {0}) (end_at r)
-end_bounded end r e = go r.rest
+end_bounded : (end : ℕ) (r : Reading) → r.at + length r.rest ≡ end → Bounded end (λ _. r.at ≡ end) (end_at r)
+end_bounded end r e = go r.rest e
   where
-    go : (bs : List ℕ) → Bounded end (λ _. Unit {0}) (end_at (record { rest = bs; at = r.at }))
-    go [] = tt
-    go (b ∷ bs) = omega (arith, e)
+    go : (bs : List ℕ) → r.at + length bs ≡ end → Bounded end (λ _. r.at ≡ end) (end_at (record { rest = bs; at = r.at }))
+    go [] e = omega arith
+    go (b ∷ bs) e = omega arith
 
 -- values one after another
 values_end : {A S : Type 0} (end : ℕ) (after : S → Type 0) (read : S → Result (A × S) ℕ) → ((s : S) → after s → Bounded end (λ x. after x.1) (read s)) → (n : ℕ) (s : S) → after s → Bounded end (λ x. after x.1) (values_at read n s)
@@ -215,7 +217,7 @@ body_bounded h end body le = go (eqb h.kind 1)
     go true = tt
     go false = later _ (then (body_place h.version + length body) _ _ (change_body_from h.version (body_place h.version) body) _ (change_bounded h.version (body_place h.version) body) (λ _ _. tt))
 
-entry_bounded : (bytes : List ℕ) → Bounded (length bytes) (λ _. Unit {0}) (entry_of bytes)
+entry_bounded : (bytes : List ℕ) → Bounded (length bytes) (λ _. length bytes ≤ MAX_ENTRY) (entry_of bytes)
 unfolding entry_of
 entry_bounded bytes =
     let end = length bytes in
@@ -223,8 +225,9 @@ entry_bounded bytes =
     let left : Left end 0 r = record { place = refl; ends = omega arith } in
     then end _ _ (header_at r) _ (header_begins end r left)
     (λ header h. then end _ _ (counted_at (body_limit header.0.kind) header.1) _ (counted_begins (body_limit header.0.kind) end (header_len header.0.version) header.1 h)
-    (λ body k. then end _ _ (body_read header.0 body.0) _ (body_bounded header.0 end body.0 (omega (arith, k.place, k.ends))) (λ read _. then end _ _ (counted_at MAX_SIGNATURE body.1) _ (counted_begins MAX_SIGNATURE end _ body.1 k)
-    (λ signature l. then end _ _ (end_at signature.1) _ (end_bounded end signature.1 l.ends) (λ _ _. tt)))))
+    (λ body k. then end _ _ (body_read header.0 body.0) _ (body_bounded header.0 end body.0 (omega (arith, k.1.place, k.1.ends))) (λ read _. then end _ _ (counted_at MAX_SIGNATURE body.1) _ (counted_begins MAX_SIGNATURE end _ body.1 k.1)
+    (λ signature l. then end _ _ (end_at signature.1) _ (end_bounded end signature.1 l.1.ends)
+    (λ _ is. omega (arith, is, l.0, l.1.place, k.0, limit_most header.0.kind, header_len-le header.0.version))))))
 
 -- ---- geneses
 
@@ -257,14 +260,18 @@ genesis_in_bounded bytes =
 
 -- ---- the laws
 
-at_fault : {A : Type 0} (end at : ℕ) (read : Result A ℕ) → Bounded end (λ _. Unit {0}) read → read ≡ Err at → at ≤ end
-at_fault {A} end at read h e = let P : Result A ℕ → Type 0 = λ given. Bounded end (λ _. Unit {0}) given in subst P e h
+at_fault : {A : Type 0} (after : A → Type 0) (end at : ℕ) (read : Result A ℕ) → Bounded end after read → read ≡ Err at → at ≤ end
+at_fault {A} after end at read h e = let P : Result A ℕ → Type 0 = Bounded end after in subst P e h
 
 pub change_place : (version first : ℕ) (bytes : List ℕ) (at : ℕ) → change_body_from version first bytes ≡ Err at → at ≤ first + length bytes
-change_place version first bytes at e = at_fault (first + length bytes) at (change_body_from version first bytes) (change_bounded version first bytes) e
+change_place version first bytes at e = at_fault _ (first + length bytes) at (change_body_from version first bytes) (change_bounded version first bytes) e
 
 pub entry_place : (bytes : List ℕ) (at : ℕ) → entry_of bytes ≡ Err at → at ≤ length bytes
-entry_place bytes at e = at_fault (length bytes) at (entry_of bytes) (entry_bounded bytes) e
+entry_place bytes at e = at_fault _ (length bytes) at (entry_of bytes) (entry_bounded bytes) e
+
+-- bytes that read as an entry are few
+pub entry_len : (bytes : List ℕ) (e : Entry) → entry_of bytes ≡ Ok e → length bytes ≤ MAX_ENTRY
+entry_len bytes e read = let P : Result Entry ℕ → Type 0 = Bounded (length bytes) (λ _. length bytes ≤ MAX_ENTRY) in subst P read (entry_bounded bytes)
 
 -- a genesis whose founders are refused is not malformed
 not_malformed : (b : Bool) (o : Option Founder) (g : Genesis) (at : ℕ) → accepted g (first_of (unless b NoAdmin ∷ option_map (λ m. BadKey m.member) o ∷ [])) ≡ Err (Malformed at) → ⊥
@@ -279,4 +286,4 @@ malformed_is (Ok g) at e = absurd (not_malformed (has_admin_founder g.founders) 
 
 pub genesis_place : (bytes : List ℕ) (at : ℕ) → genesis_of bytes ≡ Err (Malformed at) → at ≤ length bytes
 unfolding genesis_of
-genesis_place bytes at e = at_fault (length bytes) at (genesis_in bytes) (genesis_in_bounded bytes) (malformed_is (genesis_in bytes) at e)
+genesis_place bytes at e = at_fault _ (length bytes) at (genesis_in bytes) (genesis_in_bounded bytes) (malformed_is (genesis_in bytes) at e)

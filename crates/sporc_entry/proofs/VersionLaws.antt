@@ -46,8 +46,7 @@ device_takes version r x h e = go (names_device version) e
         let t = number_takes w8 (2 ^ 8) wide8 r x h e in
         (subst (λ (text : List ℕ). Takes r text x.1) (byte_is x.0 t.1) t.0, t.1, λ no. absurd cc)
     go false e =
-        let P : ℕ × Reading → Type 0 = λ y. Takes r [] y.1 × (y.0 < 2 ^ 8) × (false ≡ false → y.0 ≡ 0) in
-        subst P (ok_is (0, r) x e) (Takes-nothing r h, omega arith, λ _. refl)
+        subst (λ (y : ℕ × Reading). Takes r [] y.1 × (y.0 < 2 ^ 8) × (false ≡ false → y.0 ≡ 0)) (ok_is (0, r) x e) (Takes-nothing r h, omega arith, λ _. refl)
 
 -- a device that was read
 abbrev device_left : List ℕ → ℕ → ℕ → Result (ℕ × Reading) ℕ

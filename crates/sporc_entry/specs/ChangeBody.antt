@@ -139,13 +139,22 @@ change_body_bytes c = change_bytes c.change (c.commitment
 
 -- ---- what has a spelling
 
+-- a change whose member's number, device's number and key are such, as far as it has them
+abbrev pub ChangeWith : (ℕ → Type 0) → (ℕ → Type 0) → (List ℕ → Type 0) → Change → Type 0
+ChangeWith Member Device Key (Add member role key) = Member member × Key key
+ChangeWith Member Device Key (Remove member) = Member member
+ChangeWith Member Device Key (SetRole member role) = Member member
+ChangeWith Member Device Key (AddDevice member device key) =
+    Member member × Device device × Key key
+ChangeWith Member Device Key (DropDevice member device) = Member member × Device device
+ChangeWith Member Device Key Upgrade = Unit {0}
+
+-- a public key
+abbrev pub IsKey : List ℕ → Type 0
+IsKey key = length key ≡ 56
+
 abbrev pub IsChange : Change → Type 0
-IsChange (Add member role key) = IsMember member × (length key ≡ 56)
-IsChange (Remove member) = IsMember member
-IsChange (SetRole member role) = IsMember member
-IsChange (AddDevice member device key) = IsMember member × (device < 2 ^ 8) × (length key ≡ 56)
-IsChange (DropDevice member device) = IsMember member × (device < 2 ^ 8)
-IsChange Upgrade = Unit {0}
+IsChange change = ChangeWith IsMember (λ device. device < 2 ^ 8) IsKey change
 
 pub record IsWrap (w : Wrap) : Type 0 where
   pub member : w.member < 2 ^ 16

@@ -1,11 +1,9 @@
 -- Worked examples of the definitions.
 use Rattle.std.proofs.Common.{◌≡◌, ℕ, true, false, List, [], ◌∷◌, Some, None, refl}
-use Rattle.sporc_epoch.proofs.Common.{Ok, Err, insert, empty, gets, mask_of, Wrap, EpochStart, Keys, entry_stream, previous_stream, least_unpaired, wraps_sealed, is_committed}
+use Rattle.sporc_epoch.proofs.Common.{Ok, Err, insert, empty, gets, mask_of, Wrap, EpochStart, Keys, entry_stream, previous_stream, least_unpaired, wraps_sealed, is_committed, WrongKey, wrap_for}
 use Rattle.sporc_member.specs.declared.role.Role.TheVariants.{Editor}
 use Rattle.sporc_member.specs.declared.change.Change.TheVariants.{Add, Remove, AddDevice}
 use Rattle.sporc_member.specs.Device.{first_device}
-use Rattle.sporc_epoch.specs.declared.fault.HintFault.TheVariants.{WrongKey}
-use Rattle.sporc_epoch.specs.Wraps.{wrap_for}
 use Rattle.sporc_epoch.specs.Hints.{adds, keys_back}
 
 -- leaf 5 of member 3, by its first device and by device 7

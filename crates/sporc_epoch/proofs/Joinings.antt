@@ -1,14 +1,13 @@
 -- The scan of a history for the change that adds a member.
 use Rattle.std.proofs.Common.{◌≡◌, ℕ, suc, ◌+◌, ◌<◌, Bool, true, false, cond, not, List, [], ◌∷◌, ◌++◌, map, reverse, take, drop, length, get_or, Some, None, refl, ap, sym, ◌∙◌, arith, append-nil}
-use Rattle.sporc_epoch.proofs.Common.{Option, find, take_while, cons_option, prefix_len, EpochStart, joins, start_by, joining, starts_before}
+use Rattle.sporc_epoch.proofs.Common.{Option, find, take_while, cons_option, prefix_len, EpochStart, joins, start_by, joining, starts_before, reverse-append, map-append, take_more, take-append-drop}
+use Rattle.sporc_epoch.proofs.Common.{change_in, changes}
 use Rattle.std.specs.Option.{option_or}
-use Rattle.std.proofs.lemmas.List.{reverse-append, map-append, take_more, take-append-drop}
 use Rattle.std.proofs.Math.Seq.{drop-cons}
 use Rattle.std.proofs.lemmas.Bool.{and_parts, ltb-true}
 use Rattle.std.proofs.lemmas.List.Elements.{filter_map-append}
 use Rattle.std.proofs.lemmas.List.Folds.{find-append}
 use Rattle.sporc_entry.specs.declared.committed.CommittedChange.{CommittedChange}
-use Rattle.sporc_entry.specs.CommittedChanges.{change_in, changes}
 use Rattle.sporc_epoch.specs.declared.streams.TheConstants.{MAX_EPOCH}
 
 -- none of these entries adds the member, and starts are what their changes say of epochs

@@ -1,9 +1,8 @@
 -- What look-ups in maps of the code say of them as finite maps.
 use Rattle.std.proofs.Common.{◌≡◌, ℕ, List, [], ◌∷◌, Some, cond, refl, ap, sym, ◌∙◌, ◌==◌}
 use Rattle.sporc_epoch.proofs.Common.{nat_eq, nat_cmp, eq_by_cmp, nat_cmp_total, nat_eq_equiv, unsigned_tied, unsigned_ties, get, insert, from_entries, get-insert, same_map, nat_cmp-IsAntisymmetric}
-use Rattle.sporc_epoch.proofs.Common.{pairs_in}
+use Rattle.sporc_epoch.proofs.Common.{pairs_in, BTreeMap}
 use Rattle.std.specs.Map.{lookup}
-use Rattle.std.specs.BTreeMap.{BTreeMap}
 use Rattle.std.specs.BTreeMap as tree
 use Rattle.std.specs.FinMap.{find, get-from_entries}
 

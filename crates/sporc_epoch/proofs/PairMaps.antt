@@ -1,7 +1,6 @@
 -- Keys that members share, as the maps of the code hold them.
 use Rattle.std.proofs.Common.{◌≡◌, ℕ, List, Some, cond, ap, sym, ◌∙◌}
-use Rattle.sporc_epoch.proofs.Common.{nat_cmp, eq_by_cmp, nat_cmp_total, nat_eq_equiv, unsigned_tied, unsigned_ties, insert, get-insert, same_map, nat_cmp-IsAntisymmetric, pairs_in}
-use Rattle.std.specs.BTreeMap.{BTreeMap}
+use Rattle.sporc_epoch.proofs.Common.{nat_cmp, eq_by_cmp, nat_cmp_total, nat_eq_equiv, unsigned_tied, unsigned_ties, insert, get-insert, same_map, nat_cmp-IsAntisymmetric, pairs_in, BTreeMap}
 use Rattle.std.specs.BTreeMap as tree
 use Rattle.sporc_epoch.proofs.Lookups.{get_pairs}
 

@@ -1,10 +1,9 @@
 -- What is sealed opens.
 use Rattle.std.proofs.Common.{◌≡◌, ◌≢◌, ℕ, zero, suc, ◌+◌, ◌==◌, min, Bool, true, false, cond, List, [], ◌∷◌, map, filter, Some, None, is_none, refl, ap, subst, ◌∙◌, inl, inr, ◌⊎◌, arith}
 use Rattle.sporc_epoch.proofs.Common.{Option, Ok, fold, option_map, option_and_then, Contains, cons_option, unsigned_Decides, get, mask_of, mask_from-mask_from, Wrap, Keys, previous_stream, Sealing}
-use Rattle.sporc_epoch.proofs.Common.{wraps_sealed, least_unpaired}
-use Rattle.sporc_entry.specs.declared.change.ChangeBody.{ChangeBody}
+use Rattle.sporc_epoch.proofs.Common.{wraps_sealed, least_unpaired, ChangeBody, wrap_for}
 use Rattle.sporc_epoch.specs.Sealing.{body_sealed, lesser, body_unless, change_sealed}
-use Rattle.sporc_epoch.specs.Wraps.{wrap_for, opened_under, wrap_opened, previous_opened}
+use Rattle.sporc_epoch.specs.Wraps.{opened_under, wrap_opened, previous_opened}
 
 -- ---- each member has a pairwise key
 

@@ -1,20 +1,12 @@
 -- The body of a sealed change has a spelling.
 use Rattle.std.proofs.Common.{◌≡◌, true, ℕ, zero, suc, ◌+◌, ◌<◌, ◌≤◌, ◌^◌, List, [], ◌∷◌, length, get_or, None, Some, refl, ap, subst, sym, ◌∙◌, arith}
-use Rattle.sporc_epoch.proofs.Common.{Option, Ok, option_map, All, AllByRecursion, cons_option, get, mask_of, length-mask_from, Wrap, Keys, previous_stream, Sealing, wraps_sealed}
-use Rattle.sha2.proofs.Facts256.{length-sha256}
+use Rattle.sporc_epoch.proofs.Common.{Option, Ok, option_map, All, AllByRecursion, cons_option, get, mask_of, length-mask_from, Wrap, Keys, previous_stream, Sealing, wraps_sealed, length-sha256}
+use Rattle.sporc_epoch.proofs.Common.{ChangeBody}
 use Rattle.sporc_member.specs.declared.limits.TheConstants.{MAX_MEMBERS}
-use Rattle.sporc_entry.specs.declared.change.ChangeBody.{ChangeBody}
 use Rattle.sporc_entry.specs.ChangeBody.{kind_of, IsChange, IsWrap, IsChangeBody}
 use Rattle.sporc_entry.specs.Version.{has_kind}
 use Rattle.sporc_epoch.specs.Sealing.{body_sealed, change_sealed}
 use Rattle.sporc_epoch.proofs.SealedKeys.{sealed}
-
--- a wrap, where there is a pairwise key, and those of the others
-first_wrap : (stream : ℕ) (key : List ℕ) (member : ℕ) (pair : Option (List ℕ)) (rest : List Wrap) → length key ≡ 32 → member < 2 ^ 16 → AllByRecursion IsWrap rest
-    → AllByRecursion IsWrap (cons_option (option_map (λ (p : List ℕ). let w : Wrap = record { member = member; sealed = mask_of p stream key } in w) pair) rest)
-first_wrap stream key member None rest size small others = others
-first_wrap stream key member (Some p) rest size small others =
-    (record { member = small; sealed = length-mask_from p stream 0 key ∙ size }, others)
 
 -- each of some numbers is small, by its place
 pub all_small : (members : List ℕ) → ((i : ℕ) → get_or members i 0 < 2 ^ 16) → All (λ m. m < 2 ^ 16) members
@@ -22,12 +14,16 @@ all_small [] h k d l = absurd (omega (arith, l))
 all_small (m ∷ ms) h zero d l = h 0
 all_small (m ∷ ms) h (suc k) d l = all_small ms (λ i. h (suc i)) k d (omega (arith, l))
 
--- wraps have the numbers of members and sealed keys of 32 bytes
-wraps_typed : (stream : ℕ) (key : List ℕ) (pairs : Keys) (members : List ℕ) → length key ≡ 32 → All (λ m. m < 2 ^ 16) members → AllByRecursion IsWrap (wraps_sealed stream key pairs members)
-wraps_typed stream key pairs [] size small = tt
-wraps_typed stream key pairs (m ∷ ms) size small =
-    first_wrap stream key m (get pairs m) (wraps_sealed stream key pairs ms) size (small 0 m (omega arith))
-    (wraps_typed stream key pairs ms size (λ k d l. small (suc k) d (omega (arith, l))))
+-- what holds of a key sealed for each of some members holds of those that are sealed
+pub wraps_each : (P : Wrap → Type 0) (stream : ℕ) (key : List ℕ) (pairs : Keys) (members : List ℕ) → All (λ m. (pair : List ℕ) → P (record { member = m; sealed = mask_of pair stream key })) members
+    → AllByRecursion P (wraps_sealed stream key pairs members)
+wraps_each P stream key pairs [] each = tt
+wraps_each P stream key pairs (m ∷ ms) each = go (get pairs m) (wraps_each P stream key pairs ms (λ k d l. each (suc k) d (omega (arith, l))))
+  where
+    go : (pair : Option (List ℕ)) → AllByRecursion P (wraps_sealed stream key pairs ms)
+        → AllByRecursion P (cons_option (option_map (λ (p : List ℕ). let w : Wrap = record { member = m; sealed = mask_of p stream key } in w) pair) (wraps_sealed stream key pairs ms))
+    go None others = others
+    go (Some pair) others = (each 0 m (omega arith) pair, others)
 
 one_wrap : (stream : ℕ) (key : List ℕ) (member : ℕ) (pair : Option (List ℕ)) (rest : List Wrap)
     → length (cons_option (option_map (λ (p : List ℕ). let w : Wrap = record { member = member; sealed = mask_of p stream key } in w) pair) rest) ≤ suc (length rest)
@@ -48,7 +44,8 @@ spelled_with version body stream key pairs members kind change commitment previo
   commitment = commitment;
   previous = previous;
   count = omega (arith, ap length wraps, wraps_few stream key pairs members, few);
-  wraps = subst (AllByRecursion IsWrap) (sym wraps) (wraps_typed stream key pairs members size small);
+  wraps = subst (AllByRecursion IsWrap) (sym wraps)
+      (wraps_each IsWrap stream key pairs members (λ k d l pair. record { member = small k d l; sealed = length-mask_from pair stream 0 key ∙ size }));
 }
 
 -- the body of a change that was sealed

@@ -1,9 +1,7 @@
 -- One step of the walk back through the epochs.
 use Rattle.std.proofs.Common.{◌≡◌, ℕ, true, false, cond, List, [], ◌∷◌, ◌++◌, reverse, refl, ap, ◌∙◌}
-use Rattle.sporc_epoch.proofs.Common.{Result, Ok, Err, insert, mask_of, EpochStart, Keys, previous_stream, is_of, is_committed, ring_of}
-use Rattle.std.proofs.lemmas.List.{reverse-append}
+use Rattle.sporc_epoch.proofs.Common.{Result, Ok, Err, insert, mask_of, EpochStart, Keys, previous_stream, is_of, is_committed, ring_of, reverse-append, WrongKey}
 use Rattle.sporc_epoch.specs.declared.fault.HintFault.{HintFault}
-use Rattle.sporc_epoch.specs.declared.fault.HintFault.TheVariants.{WrongKey}
 use Rattle.sporc_epoch.specs.Hints.{with_key, keys_back}
 
 -- the last of some starts is the first from the end

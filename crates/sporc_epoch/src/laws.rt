@@ -32,10 +32,9 @@ pub fn streams_do_not_meet()
 /// What the author of a change seals, each member opens who holds the same pairwise key, and the
 /// new key opens the key of the epoch before.
 pub fn sealed_keys_open()
-    ensures new { (s : Sealing) (pairs mine : Keys) (body : ChangeBody) (author member : ℕ)
-        → change_sealed s pairs ≡ Ok body → Contains s.members member
-        → get mine author ≡ get pairs member
-        → wrap_opened body author s.stream member mine ≡ Some s.new }
+    ensures new { (s : Sealing) (pairs mine : Keys) (body : ChangeBody) (author m : ℕ)
+        → change_sealed s pairs ≡ Ok body → Contains s.members m → get mine author ≡ get pairs m
+        → wrap_opened body author s.stream m mine ≡ Some s.new }
     ensures previous { (s : Sealing) (pairs : Keys) (body : ChangeBody)
         → change_sealed s pairs ≡ Ok body → previous_opened body (s.epoch + 1) s.new ≡ s.old }
 {}

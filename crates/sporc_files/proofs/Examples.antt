@@ -1,12 +1,11 @@
 -- Worked examples of the definitions: names of files, which files stand, and the rows of the table of statuses in docs/MANUAL.md.
 use Rattle.std.proofs.Common.{◌≡◌, ℕ, List, [], ◌∷◌, Some, inl, inr, codes, refl}
-use Rattle.sporc_files.proofs.Common.{NamedFile, Fault, fault_among, fault_line, status_of, FileNames, file_name, names_of_documents}
+use Rattle.sporc_files.proofs.Common.{NamedFile, Fault, fault_among, fault_line, status_of, FileNames, file_name, names_of_documents, first_device}
 use Rattle.std.specs.Fmt.{digits}
 use Rattle.sporc_client.specs.declared.fault.EditFault.TheVariants as edits
 use Rattle.sporc_epoch.specs.declared.fault.HintFault.TheVariants as hints
 use Rattle.sporc_head.specs.declared.refusal.Refusal.TheVariants as refusals
 use Rattle.sporc_line.specs.declared.fault.LineOpenFault.TheVariants as opens
-use Rattle.sporc_member.specs.Device.{first_device}
 use Rattle.sporc_member.specs.declared.change.ChangeFault.TheVariants as changes
 use Rattle.sporc_files.specs.declared.fault.Fault.TheVariants as faults
 use Rattle.sporc_files.specs.declared.file.File.TheVariants as files

@@ -1,7 +1,6 @@
 -- Why a file is not read or written, case by case.
 use Rattle.std.proofs.Common.{◌≡◌, ◌≤◌, ℕ, List, Option, Result, Err, length, refl, sym, subst, arith}
-use Rattle.sporc_files.proofs.Common.{Rose, HasFile, HasNoFile, IsTooLong, NamedFile, Fault, File, FileNames, file_name, IsFileFault, IsOutsideFault}
-use Rattle.std.specs.Result.{IfErr}
+use Rattle.sporc_files.proofs.Common.{Rose, HasFile, HasNoFile, IsTooLong, NamedFile, Fault, File, FileNames, file_name, IsFileFault, IsOutsideFault, IfErr}
 use Rattle.sporc_outside.specs.declared.file_fault.TheConstants.{MAX_FILE}
 use Rattle.sporc_files.specs.declared.fault.Fault.TheVariants as faults
 

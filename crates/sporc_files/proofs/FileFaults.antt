@@ -1,8 +1,6 @@
 -- Why a file is not read, as a fault of the program.
 use Rattle.std.proofs.Common.{◌≡◌, ℕ, List, Option, refl}
-use Rattle.sporc_files.proofs.Common.{IsReadFault, NamedFile, Fault, File, fault_of_file, FileNames, file_name, IsFileFault, any_bytes}
-use Rattle.sporc_outside.specs.declared.file_fault.FileFault.{FileFault}
-use Rattle.sporc_outside.specs.declared.file_fault.FileFault.TheVariants.{Missing, Failed, TooLong, Exists, Memory}
+use Rattle.sporc_files.proofs.Common.{IsReadFault, NamedFile, Fault, File, fault_of_file, FileNames, file_name, IsFileFault, any_bytes, FileFault, Missing, Failed, TooLong, Exists, Memory}
 
 of_file : (files : Option (List NamedFile)) (before after : ℕ) (names : FileNames) (file : File) (cause : FileFault) → IsReadFault files (file_name names file) before after cause
     → IsFileFault any_bytes files before after names file (fault_of_file file cause)

@@ -1,11 +1,9 @@
 -- The name of a document's file tells which one it is.
 use Rattle.std.proofs.Common.{◌≡◌, ℕ, List, [], ◌∷◌, ◌++◌, length, drop, Option, Some, option_map, codes, refl, sym, ap, ◌∙◌, arith}
-use Rattle.sporc_files.proofs.Common.{DeviceInRange, device_text, File, FileNames, IsOfDocument, file_name, stem_of, suffix_of}
+use Rattle.sporc_files.proofs.Common.{DeviceInRange, device_text, File, FileNames, IsOfDocument, file_name, stem_of, suffix_of, append_cancel_left, drop_at, length-reverse, reverse-append}
+use Rattle.sporc_files.proofs.Common.{reverse-reverse, Device, first_device}
 use Rattle.std.specs.Prelude.{bytes_eq, reverse, if◌then◌else◌}
-use Rattle.std.proofs.lemmas.List.{append_cancel_left, drop_at, length-reverse, reverse-append, reverse-reverse}
 use Rattle.std.proofs.lemmas.Option.{same_Some}
-use Rattle.sporc_member.specs.declared.device.Device.{Device}
-use Rattle.sporc_member.specs.Device.{first_device}
 use Rattle.sporc_script.specs.Readers.{device_of}
 use Rattle.sporc_script.proofs.DeviceWords.{device_exact}
 use Rattle.sporc_files.specs.declared.file.File.TheVariants as files
@@ -69,25 +67,15 @@ told_again (files.Ring m) range =
     ∙ device_read (first_device m) (codes ".ring") (λ d. files.Ring d.member) (range, omega arith)
 told_again (files.History d) range =
     ap (λ (end : List ℕ). file_with_end end (suffix_of (files.History d))) (ends (device_text d) (codes ".history")) ∙ device_read d (codes ".history") files.History range
-told_again (files.Script n) never = absurd never
-told_again (files.GenesisOf n) never = absurd never
-told_again (files.LogOf n) never = absurd never
-told_again (files.Document n) never = absurd never
-told_again (files.TailOf n) never = absurd never
+told_again file never = absurd never
 
 stem_is : (names : FileNames) (file : File) → IsOfDocument file → stem_of names file ≡ names.document
-stem_is names files.Genesis range = refl
-stem_is names (files.Key d) range = refl
-stem_is names (files.Leaf d) range = refl
-stem_is names (files.Ring m) range = refl
-stem_is names (files.History d) range = refl
-stem_is names files.Log range = refl
-stem_is names files.Tail range = refl
 stem_is names (files.Script n) never = absurd never
 stem_is names (files.GenesisOf n) never = absurd never
 stem_is names (files.LogOf n) never = absurd never
 stem_is names (files.Document n) never = absurd never
 stem_is names (files.TailOf n) never = absurd never
+stem_is names file range = refl
 
 pub names_apart : (names : FileNames) (one other : File) → IsOfDocument one → IsOfDocument other → file_name names one ≡ file_name names other → one ≡ other
 names_apart names one other is is_other same =

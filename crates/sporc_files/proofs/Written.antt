@@ -1,15 +1,11 @@
 -- Lines that are written in parts.
 use Rattle.std.proofs.Common.{◌≡◌, ◌≢◌, ℕ, suc, ◌<◌, List, ◌∷◌, ◌++◌, codes, length, get_or, take, drop, Option, Result, Ok, Err, refl, ap, sym, ◌∙◌, subst}
-use Rattle.sporc_files.proofs.Common.{device_text, flat_map, CountsFaults, AppendsPrefix-all, AppendsPrefix-first, AppendsPrefix-then, Fault, FileNames, WritesFaultLine, fault_line}
-use Rattle.std.specs.Fmt.{decimal}
+use Rattle.sporc_files.proofs.Common.{device_text, flat_map, CountsFaults, AppendsPrefix-all, AppendsPrefix-first, AppendsPrefix-then, Fault, FileNames, WritesFaultLine, fault_line, decimal, Device}
+use Rattle.sporc_files.proofs.Common.{OnOk, OnErr, Appends, take-append-drop}
 use Rattle.std.proofs.lemmas.Bool.{ne_eqb}
-use Rattle.sporc_member.specs.declared.device.Device.{Device}
 use Rattle.sporc_member.specs.declared.device.TheConstants.{FIRST_DEVICE}
-use Rattle.std.specs.Result.{OnOk, OnErr}
-use Rattle.std.specs.Io.KnownBytes.{Appends}
 use Rattle.std.proofs.Math.Seq.{drop-cons}
 use Rattle.std.proofs.lemmas.Grind.{flat_map-append}
-use Rattle.std.proofs.lemmas.List.{take-append-drop}
 use Rattle.sporc_outside.specs.Writing.{AppendsPrefix}
 use Rattle.sporc_outside.specs.Uses.{Use}
 use Rattle.sporc_outside.specs.Streams.{StreamTold}

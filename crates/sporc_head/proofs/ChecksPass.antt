@@ -1,5 +1,5 @@
 -- Lists of checks one after the other, and the checks of an entry whoever asks.
-use Rattle.std.proofs.Common.{◌≡◌, ℕ, ◌+◌, Bool, true, false, eqb, List, [], ◌∷◌, ◌++◌, length, refl, Option, None, Some, Result, Ok, Err}
+use Rattle.std.proofs.Common.{◌≡◌, ℕ, ◌+◌, Bool, true, eqb, List, [], ◌∷◌, ◌++◌, length, refl, Option, None, Some, Result, Ok, Err}
 use Rattle.sporc_head.proofs.Common.{eq-eqb, unless, first_of, Device, member_at, key_of, Entry, Genesis, author_device, entry_of, change_of, WrongDocument, WrongPosition, Removed, roster_of}
 use Rattle.sporc_head.proofs.Common.{history_checks, author_checks, roster_checks, fault_read}
 use Rattle.std.specs.Str.{bytes_eq}
@@ -21,15 +21,11 @@ first_of-some (Some g ∷ xs) ys f h = h
 -- three checks that hold leave the rest, and where none fails they hold
 three : {F : Type 0} (a b c : Bool) (x y z : F) (rest : List (Option F)) → first_of (unless a x ∷ unless b y ∷ unless c z ∷ rest) ≡ None → (a ≡ true) × (first_of rest ≡ None)
 three true true true x y z rest h = (refl, h)
-three false b c x y z rest h = absurd cc
-three true false c x y z rest h = absurd cc
-three true true false x y z rest h = absurd cc
+three a b c x y z rest h = absurd cc
 
 three_hold : {F : Type 0} (a b c : Bool) (x y z : F) (rest : List (Option F)) → a ≡ true → b ≡ true → c ≡ true → first_of rest ≡ None → first_of (unless a x ∷ unless b y ∷ unless c z ∷ rest) ≡ None
 three_hold true true true x y z rest p q r h = h
-three_hold false b c x y z rest p q r h = absurd cc
-three_hold true false c x y z rest p q r h = absurd cc
-three_hold true true false x y z rest p q r h = absurd cc
+three_hold a b c x y z rest p q r h = absurd cc
 
 -- an entry that fails no check for a member fails none for nobody, at the next position
 pub for_nobody : (g : Genesis) (me : Option Device) (entries : List (List ℕ)) (pos : ℕ) (e : Entry) → first_of (head_checks g me entries pos e) ≡ None → first_of (head_checks g None entries (length entries + 1) e) ≡ None

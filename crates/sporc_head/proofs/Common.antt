@@ -1,5 +1,5 @@
 -- The names of this crate and of those below that many of its proofs cite, passed on from one place.
-pub use Rattle.std.proofs.lemmas.Bool.{and_parts, eq-eqb, eqb-false, eqb-true, ltb-true}
+pub use Rattle.std.proofs.lemmas.Bool.{eq-eqb, eqb-false, eqb-true, ltb-true}
 pub use Rattle.std.proofs.lemmas.List.{length-map, length-take, map-append, map_push, take_all}
 pub use Rattle.std.specs.Global.{Vec}
 pub use Rattle.std.specs.HashMap.{get}

@@ -1,80 +1,56 @@
 -- What the fields of a history keep, as it begins and with one entry more.
 use Rattle.std.proofs.Common.{◌≡◌, ℕ, ◌+◌, ◌<◌, ◌≤◌, Bool, true, false, cond, eqb, List, [], ◌∷◌, ◌++◌, length, refl, ap, sym, ◌∙◌, subst, arith, Option, None, Some, length-append}
-use Rattle.sporc_head.proofs.Common.{is_some, ◌||◌, ◌&&◌, eqb-true, eqb-false, and_parts, genesis_value, next_value, Change, Device, same_device, Roster, after_change, founded, removes, Genesis}
+use Rattle.sporc_head.proofs.Common.{is_some, ◌||◌, ◌&&◌, eqb-true, eqb-false, genesis_value, next_value, Change, Device, same_device, Roster, after_change, founded, removes, Genesis}
 use Rattle.sporc_head.proofs.Common.{genesis_bytes, IsGenesis, MAX_ENTRIES, DEVICE_NUMBERS, Tally, CommittedChange, change_in, is_by, hash_of, count_of, last_of, rank_of, tally_or_none, tally_in}
 use Rattle.sporc_head.proofs.Common.{covers, is_gone, with_removal, TablesMatch, HeadsInvariant}
 use Rattle.std.specs.List.{All}
-use Rattle.std.proofs.lemmas.List.Elements.{All-nil, All-cons, All-append}
+use Rattle.std.proofs.lemmas.List.Elements.{All-nil, All-push}
 use Rattle.std.proofs.lemmas.List.Folds.{list_any-append}
 use Rattle.sporc_hash.specs.Chain.{chain_after}
-use Rattle.sporc_member.specs.declared.change.Change.TheVariants.{Add, Remove, SetRole, AddDevice, DropDevice, Upgrade}
+use Rattle.sporc_member.specs.declared.change.Change.TheVariants.{Remove, DropDevice}
+use Rattle.sporc_member.proofs.SameDevice.{same_one}
 use Rattle.sporc_entry.specs.declared.limits.TheConstants.{MAX_ENTRY}
 use Rattle.sporc_head.specs.declared.tables.Removal.{Removal}
 use Rattle.sporc_head.proofs.Grows.{chain_more, last_push, count_push, epoch_push, roster_edit, roster_change, removes_in, removed_push}
 
 -- ---- ranks
 
--- numbers that a test tells apart differ
-apart : (m n : ℕ) → eqb m n ≡ false → m ≡ n → ⊥
-apart m n e same = eqb-false m n e same
-
 -- devices have one rank where they are the same
 pub rank_same : (a b : Device) → a.number < DEVICE_NUMBERS → b.number < DEVICE_NUMBERS → eqb (rank_of a) (rank_of b) ≡ same_device a b
 rank_same a b low high = go (eqb (rank_of a) (rank_of b)) (eqb a.member b.member) (eqb a.number b.number) refl refl refl
   where
     go : (r m n : Bool) → eqb (rank_of a) (rank_of b) ≡ r → eqb a.member b.member ≡ m → eqb a.number b.number ≡ n → r ≡ (m && n)
-    go true true true e f g = refl
-    go true true false e f g = absurd (let same = eqb-true (rank_of a) (rank_of b) e in apart a.number b.number g (omega (arith, low, high, same)))
-    go true false n e f g = absurd (let same = eqb-true (rank_of a) (rank_of b) e in apart a.member b.member f (omega (arith, low, high, same)))
-    go false true true e f g = absurd (let m = eqb-true a.member b.member f in let n = eqb-true a.number b.number g in apart (rank_of a) (rank_of b) e (omega (arith, m, n)))
-    go false true false e f g = refl
-    go false false n e f g = refl
+    go true true false e f g = absurd (let same = eqb-true (rank_of a) (rank_of b) e in eqb-false a.number b.number g (omega (arith, low, high, same)))
+    go true false n e f g = absurd (let same = eqb-true (rank_of a) (rank_of b) e in eqb-false a.member b.member f (omega (arith, low, high, same)))
+    go false true true e f g = absurd (let m = eqb-true a.member b.member f in let n = eqb-true a.number b.number g in eqb-false (rank_of a) (rank_of b) e (omega (arith, m, n)))
+    go r m n e f g = refl
 
 -- ---- the tables
 
--- one device has one count of entries
-same_counts : (a b : Device) (f : Device → ℕ) → same_device a b ≡ true → f a ≡ f b
-same_counts a b f e =
-    let p = and_parts (eqb a.member b.member) (eqb a.number b.number) e in
-    let made : ℕ → ℕ → Device = λ m n. record { member = m; number = n } in
-    ap (λ (m : ℕ). f (made m a.number)) (eqb-true a.member b.member p.0) ∙ ap (λ (n : ℕ). f (made b.member n)) (eqb-true a.number b.number p.1)
+or_none : (x : Bool) → x ≡ (x || false)
+or_none true = refl
+or_none false = refl
 
 -- those removed, with whom a change removes
 pub removals_more : (c : Change) (removals : List Removal) (d : Device) → is_gone d (with_removal c removals) ≡ (is_gone d removals || removes d c)
 removals_more c removals d = go c
   where
-    left : (x : Bool) → x ≡ (x || false)
-    left true = refl
-    left false = refl
-
-    one : (x y z : Bool) → y ≡ z → (x || (y || false)) ≡ (x || z)
-    one true y z e = refl
-    one false true z e = e
-    one false false z e = e
-
     all : (y : Bool) → (y && true) ≡ y
     all true = refl
     all false = refl
 
     go : (c : Change) → is_gone d (with_removal c removals) ≡ (is_gone d removals || removes d c)
-    go (Add member role key) = left (is_gone d removals)
     go (Remove member) =
         list_any-append (covers d) removals (record { member = member; device = None } ∷ [])
-        ∙ one (is_gone d removals) (eqb member d.member && true) (eqb member d.member) (all (eqb member d.member))
-    go (SetRole member role) = left (is_gone d removals)
-    go (AddDevice member number key) = left (is_gone d removals)
+        ∙ ap (λ (x : Bool). is_gone d removals || x) (sym (or_none (eqb member d.member && true)) ∙ all (eqb member d.member))
     go (DropDevice member number) =
         list_any-append (covers d) removals (record { member = member; device = Some number } ∷ [])
-        ∙ one (is_gone d removals) (eqb member d.member && eqb number d.number) (eqb member d.member && eqb number d.number) refl
-    go Upgrade = left (is_gone d removals)
+        ∙ ap (λ (x : Bool). is_gone d removals || x) (sym (or_none (eqb member d.member && eqb number d.number)))
+    go c = or_none (is_gone d removals)
 
 -- an edit removes none
 pub removals_left : (removals : List Removal) (d : Device) → is_gone d removals ≡ (is_gone d removals || removes_in d None)
-removals_left removals d = go (is_gone d removals)
-  where
-    go : (x : Bool) → x ≡ (x || false)
-    go true = refl
-    go false = refl
+removals_left removals d = or_none (is_gone d removals)
 
 -- the tally of a device that has one entry more, at this position
 abbrev tally_more : (ℕ → Option Tally) → Device → ℕ → Tally
@@ -96,7 +72,7 @@ tables_push tallies tallies' removals removals' entries b a o t lt by is put gon
 
     counted : (d : Device) → d.number < DEVICE_NUMBERS → (q : Bool) → same_device a d ≡ q
         → (tally_or_none (cond q (Some (tally_more tallies a (length entries + 1))) (tallies (rank_of d)))).count ≡ cond q (count_of d entries + 1) (count_of d entries)
-    counted d l true e = ap (λ (k : ℕ). k + 1) (t.count a lt ∙ same_counts a d (λ x. count_of x entries) e)
+    counted d l true e = ap (λ (k : ℕ). k + 1) (t.count a lt ∙ ap (λ (x : Device). count_of x entries) (same_one a d e))
     counted d l false e = t.count d l
 
     lasted : (d : Device) → d.number < DEVICE_NUMBERS → (q : Bool) → (tally_or_none (cond q (Some (tally_more tallies a (length entries + 1))) (tallies (rank_of d)))).last ≡ cond q (length entries + 1) (last_of d entries)
@@ -128,9 +104,6 @@ keeps_open g entries hashes roster tallies removals is e h r t = subst (λ (x : 
 
 -- ---- one entry more
 
-sized_push : (entries : List (List ℕ)) (b : List ℕ) → All (λ e. length e ≤ MAX_ENTRY) entries → length b ≤ MAX_ENTRY → All (λ e. length e ≤ MAX_ENTRY) (entries ++ b ∷ [])
-sized_push entries b all size = let P : List ℕ → Type 0 = λ e. length e ≤ MAX_ENTRY in All-append P entries (b ∷ []) all (All-cons P b [] size (All-nil P))
-
 -- the table of tallies with one entry more of a device
 abbrev IsPut : (ℕ → Option Tally) → (ℕ → Option Tally) → Device → ℕ → Type 0
 IsPut tallies tallies' a position = (q : ℕ) → tallies' q ≡ cond (eqb (rank_of a) q) (Some (tally_more tallies a position)) (tallies q)
@@ -150,7 +123,7 @@ keeps_edit g entries hashes roster barrier epoch tallies removals b h a entries'
       changes = k.changes ∙ sym (epoch_push entries b None is);
       tables = tables_push tallies tallies' removals removals entries b a None k.tables lt by is put (removals_left removals);
       room = omega (arith, room, length-append entries (b ∷ []));
-      sized = sized_push entries b k.sized size;
+      sized = All-push (λ e. length e ≤ MAX_ENTRY) entries b k.sized size;
     }))
 
 pub keeps_change : (g : Genesis) (entries hashes : List (List ℕ)) (roster : Roster) (barrier epoch : ℕ) (tallies : ℕ → Option Tally) (removals : List Removal) (b h : List ℕ) (a : Device) (s : CommittedChange) (entries' hashes' : List (List ℕ)) (roster' : Roster) (barrier' epoch' : ℕ) (tallies' : ℕ → Option Tally) (removals' : List Removal)
@@ -169,5 +142,5 @@ keeps_change g entries hashes roster barrier epoch tallies removals b h a s entr
       changes = eE ∙ ap (λ (n : ℕ). n + 1) k.changes ∙ sym (epoch_push entries b (Some s) is);
       tables = tables_push tallies tallies' removals removals' entries b a (Some s) k.tables lt by is put (λ d. ap (is_gone d) eM ∙ removals_more s.body.change removals d);
       room = omega (arith, room, length-append entries (b ∷ []));
-      sized = sized_push entries b k.sized size;
+      sized = All-push (λ e. length e ≤ MAX_ENTRY) entries b k.sized size;
     }))

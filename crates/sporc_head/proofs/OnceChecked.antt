@@ -1,10 +1,11 @@
 -- What is known of an entry that was checked.
-use Rattle.std.proofs.Common.{◌≡◌, ◌≢◌, ℕ, ◌+◌, ◌<◌, ltb, List, [], ◌∷◌, ◌++◌, length, refl, ap, sym, ◌∙◌, subst, Option, None, Some, Result, Ok, Err}
+use Rattle.std.proofs.Common.{◌≡◌, ◌≢◌, ℕ, ◌+◌, ◌<◌, ltb, List, ◌∷◌, ◌++◌, length, refl, ap, sym, ◌∙◌, subst, Option, None, Some, Result, Ok, Err}
 use Rattle.sporc_head.proofs.Common.{option_map, OnOk, IsOk, ltb-true, first_of, AnswersUnless, Change, Device, same_device, member_at, key_of, change_fault_of, Entry, ChangeBody, Genesis}
 use Rattle.sporc_head.proofs.Common.{author_device, entry_of, change_of, HistoryFull, MAX_ENTRIES, CommittedChange, member_change_of, change_in, committed_by, is_by, roster_of, place_checks}
 use Rattle.sporc_head.proofs.Common.{history_checks, author_checks, roster_checks, fault_read}
 use Rattle.sporc_member.specs.declared.change.ChangeFault.{ChangeFault}
 use Rattle.sporc_member.specs.declared.member.Member.{Member}
+use Rattle.sporc_base.proofs.ListLemmas.{both_pass}
 use Rattle.sporc_member.proofs.Checks.{passes}
 use Rattle.sporc_head.specs.declared.refusal.Refusal.{Refusal}
 use Rattle.sporc_head.specs.CheckedModel.{CheckedModel}
@@ -17,12 +18,6 @@ use Rattle.sporc_head.proofs.ChecksPass.{first_of-none, first_of-some}
 pub ok_of : {X E : Type 0} (r : Result X E) (P : Type 0) → OnOk r P → IsOk r → P
 ok_of (Ok x) P h ok = h
 ok_of (Err e) P h ok = absurd cc
-
--- no check of both lists fails
-both_pass : {F : Type 0} (xs ys : List (Option F)) → first_of (xs ++ ys) ≡ None → (first_of xs ≡ None) × (first_of ys ≡ None)
-both_pass [] ys h = (refl, h)
-both_pass (None ∷ xs) ys h = both_pass xs ys h
-both_pass (Some f ∷ xs) ys h = absurd cc
 
 accepted : (o : Option ChangeFault) (rest : List (Option Refusal)) → first_of (bad_change o ∷ rest) ≡ None → o ≡ None
 accepted None rest h = refl

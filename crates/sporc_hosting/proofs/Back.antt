@@ -1,7 +1,6 @@
 -- Tails that are given back, the last one first.
 use Rattle.std.proofs.Common.{◌≡◌, ℕ, suc, List, [], ◌∷◌, ◌++◌, length, take, refl, sym, ap, ◌∙◌, subst, append_assoc, arith}
-use Rattle.sporc_hosting.proofs.Common.{append_cancel_left, length-append, take_at, OrderModel}
-use Rattle.sporc_docs.specs.Served.{AreKept}
+use Rattle.sporc_hosting.proofs.Common.{append_cancel_left, length-append, take_at, OrderModel, kept_length, AreKept}
 
 -- ---- the last item of a list
 
@@ -41,12 +40,6 @@ module _ {T : Type 0} (keeps : T → List (List ℕ) → Type 0) where
           by (t ∷ ts) parts size =
               same_front new front tail t (sym popped ∙ rest (front ++ t ∷ []) ts (parts ∙ sym (append_assoc front (t ∷ []) ts)) (omega (arith, size)))
 
-      as_many_kept : (mine : List T) (os : List OrderModel) → AreKept keeps mine os → length mine ≡ length os
-      as_many_kept [] [] kept = refl
-      as_many_kept [] (o ∷ os) kept = absurd kept
-      as_many_kept (t ∷ ts) [] kept = absurd kept
-      as_many_kept (t ∷ ts) (o ∷ os) kept = ap suc (as_many_kept ts os kept.1)
-
       -- the last one keeps the entries of the first order
       pub last_keeps : (tail : T) → mid ≡ new ++ tail ∷ [] → KeepLast tails orders → ∥ keeps tail order.entries ∥₁
       last_keeps tail popped (front, mine, parts, kept) = by mine parts (subst (λ (os : List OrderModel). AreKept keeps mine os) is kept)
@@ -55,7 +48,7 @@ module _ {T : Type 0} (keeps : T → List (List ℕ) → Type 0) where
           by [] parts kept = absurd kept
           by (t ∷ ts) parts kept =
               let same : tail ≡ t =
-              same_last new front tail t (sym popped ∙ rest (front ++ t ∷ []) ts (parts ∙ sym (append_assoc front (t ∷ []) ts)) (as_many_kept ts more kept.1)) in
+              same_last new front tail t (sym popped ∙ rest (front ++ t ∷ []) ts (parts ∙ sym (append_assoc front (t ∷ []) ts)) (kept_length keeps ts more kept.1)) in
               subst (λ (u : T). ∥ keeps u order.entries ∥₁) (sym same) kept.0
 
       -- there is one
@@ -65,6 +58,6 @@ module _ {T : Type 0} (keeps : T → List (List ℕ) → Type 0) where
           by : (mine : List T) → tails ≡ front ++ mine → AreKept keeps mine (order ∷ more) → ⊥
           by [] parts kept = kept
           by (t ∷ ts) parts kept =
-              let mid_is : mid ≡ front ++ t ∷ [] = rest (front ++ t ∷ []) ts (parts ∙ sym (append_assoc front (t ∷ []) ts)) (as_many_kept ts more kept.1) in
+              let mid_is : mid ≡ front ++ t ∷ [] = rest (front ++ t ∷ []) ts (parts ∙ sym (append_assoc front (t ∷ []) ts)) (kept_length keeps ts more kept.1) in
               let size : length mid ≡ length (front ++ t ∷ []) = ap (λ (l : List T). length l) mid_is in
               omega (arith, none, size, length-append front (t ∷ []))

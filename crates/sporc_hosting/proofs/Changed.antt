@@ -1,9 +1,7 @@
 -- Which files changed: the tails of documents.
 use Rattle.std.proofs.Common.{◌≡◌, ℕ, List, [], ◌∷◌, ◌++◌, length, Option, Some, None, Result, Ok, Err, refl, sym, ap, ◌∙◌, subst}
 use Rattle.sporc_hosting.proofs.Common.{OnErr, OnOk, option_map, NamedFile, OrderModel, Both, Fault, FileNames, file_name, names_of_document, KeepsTail, TakesTail, changes_back, made_other, put_other}
-use Rattle.sporc_hosting.proofs.Common.{GivesAllBack, ChangesTails, IsNoTail, OpenLogModel, with_tail_made, with_tails_made}
-use Rattle.sporc_outside.specs.Files.{ChangesFile, TakesFile, made_in}
-use Rattle.sporc_outside.specs.Uses.{Use}
+use Rattle.sporc_hosting.proofs.Common.{GivesAllBack, ChangesTails, IsNoTail, OpenLogModel, with_tail_made, with_tails_made, ChangesFile, TakesFile, made_in, Use}
 use Rattle.sporc_outside.specs.Folders.{FolderTold}
 use Rattle.sporc_files.specs.declared.fault.Fault.TheVariants as faults
 use Rattle.sporc_files.specs.declared.file.File.TheVariants as files
@@ -123,13 +121,12 @@ pub back_changes : (names : List (List ℕ)) (logs : List OpenLogModel) (orders 
     → Both (λ name log. log.name ≡ file_name (names_of_document name) files.Tail) names logs
     → GivesAllBack logs orders (Err fault) a b given → ChangesTails names a.files b.files
 back_changes [] [] [] fault a b given named (same, is) = tails_same [] a.files b.files (ap (λ (t : FolderTold). t.files) same)
-back_changes [] [] (o ∷ os) fault a b given named gives = absurd gives
 back_changes [] (l ∷ ls) os fault a b given named gives = absurd named
 back_changes (n ∷ ns) [] os fault a b given named gives = absurd named
-back_changes (n ∷ ns) (l ∷ ls) [] fault a b given named gives = absurd gives
 back_changes (n ∷ ns) (l ∷ ls) (o ∷ os) fault a b given (named, more) (mid, others, one, rest, gives, is) =
     let changed = kept_changes l.name (record { before = mid; after = b }) l.logged o.genesis.document o.entries one gives in
     tails_then (n ∷ ns) a.files mid.files b.files
     (tails_among ns (n ∷ ns) a.files mid.files (λ other apart. apart.1) (back_changes ns ls os fault a mid others more rest))
     (tails_among (n ∷ []) (n ∷ ns) mid.files b.files (λ other apart. (apart.0, tt))
     (one_changes n mid.files b.files (subst (λ (m : List ℕ). ChangesFile mid.files b.files m) named changed)))
+back_changes names logs orders fault a b given named gives = absurd gives

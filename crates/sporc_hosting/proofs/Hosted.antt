@@ -1,10 +1,9 @@
 -- What is open as a server of several documents begins, and which files it asked for.
 use Rattle.std.proofs.Common.{◌≡◌, ◌≤◌, inl, inr, ℕ, List, [], ◌∷◌, length, Option, Result, Err, refl, ◌∙◌, subst, arith}
 use Rattle.sporc_hosting.proofs.Common.{Rose, NamedFile, OrderModel, Both, Fault, file_name, names_of_document, AsksOnly, AsksOnly-among, AsksOnly-trans, AnswersUnlessOutside, HasLogged, ServedFiles}
-use Rattle.sporc_hosting.proofs.Common.{LogTailModel, AreOpen, OpenLogModel, OpensMore, files_of_all, files_of_one, logs_of}
+use Rattle.sporc_hosting.proofs.Common.{LogTailModel, AreOpen, OpenLogModel, OpensMore, files_of_all, files_of_one, logs_of, AppendTold}
 use Rattle.std.specs.List.{Contains}
 use Rattle.std.proofs.lemmas.List.Elements.{Contains-append_cases, Contains-append_left, Contains-append_right}
-use Rattle.sporc_outside.specs.AppendFile.{AppendTold}
 use Rattle.sporc_files.specs.declared.fault.Fault.TheVariants as faults
 use Rattle.sporc_files.specs.declared.file.File.TheVariants as files
 use Rattle.sporc_hosting.proofs.Saved.{as_many}

@@ -1,17 +1,15 @@
 -- What is found in the files of a document among several.
 use Rattle.std.proofs.Common.{◌≡◌, ℕ, ◌≤◌, Bool, true, false, List, [], ◌∷◌, ◌++◌, length, Option, None, Result, Ok, Err, refl, sym, ap, ◌∙◌, subst}
 use Rattle.sporc_hosting.proofs.Common.{Rose, NamedFile, OrderModel, Fault, AnswersUnlessOutside, fault_among, FileNames, file_name, FindsOrderBehind, ServedFiles, log_in, logged, order_behind}
-use Rattle.sporc_hosting.proofs.Common.{has_logged, FindsHeld, FindsUnlessHeld, added, is_held, opened_in, order_unless_held, unless_held}
+use Rattle.sporc_hosting.proofs.Common.{has_logged, FindsHeld, FindsUnlessHeld, added, is_held, opened_in, order_unless_held, unless_held, ◌>>=◌, fault_as, fails_first, tells_behind, tells_later}
+use Rattle.sporc_hosting.proofs.Common.{fails, is_there, says, there}
 use Rattle.std.specs.Str.{bytes_eq}
-use Rattle.sporc_bytes.specs.Fields.{◌>>=◌, fault_as}
 use Rattle.sporc_entry.specs.declared.genesis.Genesis.{Genesis}
 use Rattle.sporc_docs.specs.Lists.{place_of}
 use Rattle.sporc_files.specs.declared.fault.Fault.TheVariants as faults
 use Rattle.sporc_files.specs.declared.file.File.TheVariants as files
 use Rattle.sporc_files.specs.Reading.{IsFileFault, SaysFile, genesis_file}
 use Rattle.sporc_commands.specs.Contents.{AnswersOfFile, genesis_in}
-use Rattle.sporc_files.proofs.Answering.{fails_first, tells_behind, tells_later}
-use Rattle.sporc_commands.proofs.ReadFiles.{fails, is_there, says, there}
 
 -- ---- whether a document is held
 
@@ -36,7 +34,6 @@ module _ (orders : List OrderModel) (document : List ℕ) where
 other_view : {X Y Z : Type 0} (one : X → Z) (other : Y → Z) (P : Type 0) (fault : Fault) (r : Result Z Fault) → AnswersUnlessOutside one P (Err fault) r
     → AnswersUnlessOutside other P (Err fault) r
 other_view one other P faults.Memory r told = tt
-other_view one other P faults.Outside r told = told
 other_view one other P fault r told = told
 
 -- a fault of it is one among several
@@ -44,9 +41,6 @@ pub among_tells : {X : Type 0} (view : X → OrderModel) (P : Type 0) (number : 
     → AnswersUnlessOutside (λ (o : OrderModel). o) P (Err (fault_among number fault)) (fault_as (fault_among number) r)
 among_tells view P number faults.Memory r told = tt
 among_tells view P number faults.Outside r told = told
-among_tells view P number (faults.Missing file) r told = ap (fault_as (fault_among number)) told
-among_tells view P number (faults.TooLong file) r told = ap (fault_as (fault_among number)) told
-among_tells view P number (faults.Malformed file at) r told = ap (fault_as (fault_among number)) told
 among_tells view P number fault r told = ap (fault_as (fault_among number)) told
 
 module _ (told : Option (List NamedFile)) (name : List ℕ) (c0 c1 number : ℕ) (g : Genesis) where

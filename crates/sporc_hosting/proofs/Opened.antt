@@ -1,14 +1,11 @@
 -- Which documents are open, behind those that were.
 use Rattle.std.proofs.Common.{◌≡◌, ℕ, ◌+◌, ◌≤◌, List, [], ◌∷◌, ◌++◌, length, Option, Result, Ok, Err, refl, sym, ap, ◌∙◌, subst, append-nil, append_assoc}
-use Rattle.sporc_hosting.proofs.Common.{OnErr, OnOk, length-append, Rose, NamedFile, OrderModel, Both, Fault, AnswersUnlessOutside, fault_among, FileNames, file_name, names_of_document}
-use Rattle.sporc_hosting.proofs.Common.{AreServedFiles, HasLogged, ServedFiles, KeepsBehind, LogTailModel, AreFilesOfAll, AreOpen, AreOpenTo, FindsUnlessHeld, OpenLogModel, OpensMore, OpensOne, added}
-use Rattle.sporc_hosting.proofs.Common.{opened_in, opened_to, orders_in, with_document, with_tail_made}
-use Rattle.sporc_bytes.specs.Fields.{◌>>=◌, fault_as}
-use Rattle.sporc_outside.specs.AppendFile.{AppendTold}
+use Rattle.sporc_hosting.proofs.Common.{OnErr, OnOk, length-append, Rose, NamedFile, OrderModel, Fault, AnswersUnlessOutside, fault_among, FileNames, file_name, names_of_document, AreServedFiles}
+use Rattle.sporc_hosting.proofs.Common.{HasLogged, ServedFiles, KeepsBehind, LogTailModel, AreFilesOfAll, AreOpen, AreOpenTo, FindsUnlessHeld, OpenLogModel, OpensMore, OpensOne, added, opened_in}
+use Rattle.sporc_hosting.proofs.Common.{opened_to, orders_in, with_document, with_tail_made, both_more, AppendTold, ◌>>=◌, fault_as, fails_first, tells_alone, tells_behind, tells_later, is_there}
+use Rattle.sporc_hosting.proofs.Common.{there}
 use Rattle.sporc_files.specs.declared.fault.Fault.TheVariants as faults
 use Rattle.sporc_files.specs.declared.file.File.TheVariants as files
-use Rattle.sporc_files.proofs.Answering.{fails_first, tells_alone, tells_behind, tells_later}
-use Rattle.sporc_commands.proofs.ReadFiles.{is_there, there}
 use Rattle.sporc_hosting.proofs.Loaded.{among_tells}
 
 -- ---- files that were not read
@@ -36,13 +33,6 @@ are_there told [] = tt
 are_there told (n ∷ ns) = (is_content told n, are_there (with_tail_made n told) ns)
 
 -- ---- one document more
-
--- pairs of the items of two lists, with one pair more
-both_more : {A B : Type 0} (P : A → B → Type 0) (xs : List A) (ys : List B) (x : A) (y : B) → Both P xs ys → P x y → Both P (xs ++ x ∷ []) (ys ++ y ∷ [])
-both_more P [] [] x y both one = (one, tt)
-both_more P [] (z ∷ ys) x y both one = absurd both
-both_more P (z ∷ xs) [] x y both one = absurd both
-both_more P (z ∷ xs) (w ∷ ys) x y both one = (both.0, both_more P xs ys x y both.1 one)
 
 module _ {D : Type 0} (file_told : D → AppendTold) where
   pub one_more : (names : List (List ℕ)) (contents : List ServedFiles) (orders : List OrderModel) (tails : List (LogTailModel D)) (logs : List OpenLogModel) (name : List ℕ)

@@ -1,14 +1,8 @@
 -- Logs that are saved one after another.
-use Rattle.std.proofs.Common.{◌≡◌, ℕ, List, [], ◌∷◌, length, Option, refl, sym, subst, suc, ap, arith}
-use Rattle.sporc_hosting.proofs.Common.{Both, file_name, names_of_document, AsksOnly, asks_then, logs_of}
+use Rattle.std.proofs.Common.{◌≡◌, ℕ, List, [], ◌∷◌, length, Option, sym, subst, suc, ap, arith}
+use Rattle.sporc_hosting.proofs.Common.{file_name, names_of_document, AsksOnly, asks_then, logs_of}
+pub use Rattle.sporc_docs.proofs.Opening.{both_length as as_many}
 use Rattle.sporc_files.specs.declared.file.File.TheVariants as files
-
--- as many of both
-pub as_many : {A B : Type 0} (P : A → B → Type 0) (xs : List A) (ys : List B) → Both P xs ys → length xs ≡ length ys
-as_many P [] [] both = refl
-as_many P [] (y ∷ ys) both = absurd both
-as_many P (x ∷ xs) [] both = absurd both
-as_many P (x ∷ xs) (y ∷ ys) both = ap suc (as_many P xs ys both.1)
 
 -- of two lists as long as each other, what is left of both behind their first items
 pub as_many_left : {A B : Type 0} (xs xs' : List A) (ys ys' : List B) (x : A) (y : B) → xs ≡ x ∷ xs' → ys ≡ y ∷ ys' → length xs ≡ length ys → length xs' ≡ length ys'

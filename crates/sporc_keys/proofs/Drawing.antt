@@ -1,9 +1,7 @@
 -- Keys that are drawn one word after another.
 use Rattle.std.proofs.Common.{◌≡◌, ℕ, suc, ◌+◌, ◌-◌, ◌<◌, ◌≤◌, List, [], ◌∷◌, ◌++◌, length, get_or, take, drop, Option, Some, None, Result, Ok, Err, refl, sym, ap, subst, ◌∙◌, append_assoc, add-one, arith, drop-cons, map}
-use Rattle.sporc_keys.proofs.Common.{append-nil, drop_all, length-append, length-drop, length-map, length-take, map-append, map_more, take_all, SharedKey, SharesMore, numbers_in, pairs_of}
-use Rattle.sporc_base.proofs.ListLemmas.{all_append}
-use Rattle.sporc_outside.specs.Told.{AppendsItem, AppendsItems}
-use Rattle.sporc_keys.specs.Drawn.{DrawsWords, DrawsWordsUpTo}
+use Rattle.sporc_keys.proofs.Common.{append-nil, drop_all, length-append, length-drop, length-map, length-take, map-append, map_more, take_all, SharedKey, SharesMore, numbers_in, pairs_of, all_append}
+use Rattle.sporc_keys.proofs.Common.{AppendsItem, AppendsItems, DrawsWords, DrawsWordsUpTo}
 use Rattle.sporc_keys.specs.Founding.{row}
 
 grows_then : (a b c : Option (List (List ℕ))) (xs ys : List (List ℕ)) → AppendsItems a b xs → AppendsItems b c ys → AppendsItems a c (xs ++ ys)
@@ -18,8 +16,7 @@ grows_nothing (Some given) = sym (append-nil given)
 
 grows_one : (a b : Option (List (List ℕ))) (word : List ℕ) → AppendsItem a b word → AppendsItems a b (word ∷ [])
 grows_one None b word p = tt
-grows_one (Some given) None word p = p
-grows_one (Some given) (Some more) word p = p
+grows_one (Some given) b word p = p
 
 -- what was made shows no fault
 pub made_not_failed : {A E P : Type 0} {x : A} {e : E} → ◌≡◌ {A = Result A E} (Ok x) (Err e) → P

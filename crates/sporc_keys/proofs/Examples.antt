@@ -1,9 +1,6 @@
 -- Worked examples of the definitions.
 use Rattle.std.proofs.Common.{◌≡◌, ℕ, ◌+◌, List, [], ◌∷◌, ◌++◌, length, Some, None, refl}
-use Rattle.sporc_keys.proofs.Common.{codes, replicate, Device, first_device, epoch_key_of, in_order, pair_keys_of, pairs_of, shared_keys, KeyFile, place_of_other}
-use Rattle.lms_ots.specs.declared.ots_type.OtsType.TheVariants.{W4}
-use Rattle.lms_tree.specs.declared.lms_type.LmsType.TheVariants.{H5}
-use Rattle.sporc_member.specs.declared.limits.TheConstants.{MAX_MEMBERS}
+use Rattle.sporc_keys.proofs.Common.{codes, replicate, Device, first_device, epoch_key_of, in_order, pair_keys_of, pairs_of, shared_keys, KeyFile, place_of_other, W4, H5, MAX_MEMBERS}
 use Rattle.sporc_keys.specs.declared.named.Named.TheVariants as named
 use Rattle.sporc_keys.specs.Founding.{row}
 use Rattle.sporc_keys.specs.KeyFile.{key_file_bytes}

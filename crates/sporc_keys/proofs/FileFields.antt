@@ -1,12 +1,10 @@
 -- A field of a file that is read is spelled by the bytes that it took, and a spelled field is read again.
-use Rattle.std.proofs.Common.{◌≡◌, ℕ, ◌+◌, ◌^◌, Bool, true, false, cond, List, [], ◌∷◌, ◌++◌, length, inl, inr, Some, None, Result, Ok, refl, sym, subst, arith}
+use Rattle.std.proofs.Common.{◌≡◌, ℕ, ◌+◌, ◌^◌, Bool, true, false, cond, List, [], ◌∷◌, ◌++◌, length, inl, inr, Some, Result, Ok, refl, sym, subst, arith}
 use Rattle.sporc_keys.proofs.Common.{bytes_eq, find, ◌==◌, w32, to_be_bytes, eqb-true, ots_code_of, height_of, lms_code_of, IsBytes, Reading, ◌>>=◌, bytes_at, number_at, only_if, present, end_at}
-use Rattle.sporc_keys.proofs.Common.{bind_ok, ok_is, only_if_ok, Takes, wide32, bytes_takes, bytes_again, number_takes, u32_again, end_takes, present_ok, whole}
-use Rattle.std.proofs.lemmas.Slice.Eq.{bytes_eq-Decides}
+use Rattle.sporc_keys.proofs.Common.{bind_ok, ok_is, only_if_ok, Takes, wide32, bytes_takes, bytes_again, number_takes, u32_again, end_takes, present_ok, whole, bytes_eq-Decides, W4, W8, H5, H10, H15}
+use Rattle.sporc_keys.proofs.Common.{AllByRecursion, found_passes}
 use Rattle.lms_ots.specs.declared.ots_type.OtsType.{OtsType}
-use Rattle.lms_ots.specs.declared.ots_type.OtsType.TheVariants.{W1, W2, W4, W8}
 use Rattle.lms_tree.specs.declared.lms_type.LmsType.{LmsType}
-use Rattle.lms_tree.specs.declared.lms_type.LmsType.TheVariants.{H5, H10, H15, H20, H25}
 use Rattle.lms_leaf.specs.LeafFile.{IsLeafHeight}
 use Rattle.sporc_keys.specs.Fields.{format_at}
 use Rattle.sporc_keys.specs.KeyFile.{IsKeyWidth, lms_type_at, ots_type_at}
@@ -30,28 +28,23 @@ format_again format at rest len = rw (bytes_again 4 at format rest len, (bytes_e
 
 -- ---- types
 
-lms_found : (code : ℕ) (lms : LmsType) → find (λ t. lms_code_of t == code) (H5 ∷ H10 ∷ H15 ∷ []) ≡ Some lms → (lms_code_of lms ≡ code) × IsLeafHeight (height_of lms)
-lms_found code lms = go (5 == code) (6 == code) (7 == code) refl refl refl
+found_in : {X : Type 0} (P : X → Type 0) (test : X → Bool) (xs : List X) (x : X) → AllByRecursion P xs → find test xs ≡ Some x → P x
+found_in P test [] x all e = absurd cc
+found_in P test (y ∷ ys) x all e = go (test y) (found_in P test ys x all.1) e
   where
-    Found : LmsType → Type 0
-    Found t = (lms_code_of t ≡ code) × IsLeafHeight (height_of t)
+    go : (b : Bool) → (find test ys ≡ Some x → P x) → cond b (Some y) (find test ys) ≡ Some x → P x
+    go true later e = let same : y ≡ x = cc in subst P same all.0
+    go false later e = later e
 
-    go : (a b c : Bool) → (5 == code) ≡ a → (6 == code) ≡ b → (7 == code) ≡ c → cond a (Some H5) (cond b (Some H10) (cond c (Some H15) None)) ≡ Some lms → Found lms
-    go true b c ea eb ec e = let same : H5 ≡ lms = cc in subst Found same (eqb-true _ _ ea, inl refl)
-    go false true c ea eb ec e = let same : H10 ≡ lms = cc in subst Found same (eqb-true _ _ eb, inr (inl refl))
-    go false false true ea eb ec e = let same : H15 ≡ lms = cc in subst Found same (eqb-true _ _ ec, inr (inr refl))
-    go false false false ea eb ec e = absurd cc
+lms_found : (code : ℕ) (lms : LmsType) → find (λ t. lms_code_of t == code) (H5 ∷ H10 ∷ H15 ∷ []) ≡ Some lms → (lms_code_of lms ≡ code) × IsLeafHeight (height_of lms)
+lms_found code lms e =
+    let known = found_in (λ t. IsLeafHeight (height_of t)) (λ t. lms_code_of t == code) (H5 ∷ H10 ∷ H15 ∷ []) lms (inl refl, (inr (inl refl), (inr (inr refl), tt))) e in
+    (eqb-true _ _ (found_passes (λ t. lms_code_of t == code) (H5 ∷ H10 ∷ H15 ∷ []) lms e), known)
 
 ots_found : (code : ℕ) (ots : OtsType) → find (λ t. ots_code_of t == code) (W4 ∷ W8 ∷ []) ≡ Some ots → (ots_code_of ots ≡ code) × IsKeyWidth ots
-ots_found code ots = go (3 == code) (4 == code) refl refl
-  where
-    Found : OtsType → Type 0
-    Found t = (ots_code_of t ≡ code) × IsKeyWidth t
-
-    go : (a b : Bool) → (3 == code) ≡ a → (4 == code) ≡ b → cond a (Some W4) (cond b (Some W8) None) ≡ Some ots → Found ots
-    go true b ea eb e = let same : W4 ≡ ots = cc in subst Found same (eqb-true _ _ ea, inl refl)
-    go false true ea eb e = let same : W8 ≡ ots = cc in subst Found same (eqb-true _ _ eb, inr refl)
-    go false false ea eb e = absurd cc
+ots_found code ots e =
+    let known = found_in IsKeyWidth (λ t. ots_code_of t == code) (W4 ∷ W8 ∷ []) ots (inl refl, (inr refl, tt)) e in
+    (eqb-true _ _ (found_passes (λ t. ots_code_of t == code) (W4 ∷ W8 ∷ []) ots e), known)
 
 pub lms_takes : (r : Reading) (x : LmsType × Reading) → IsBytes r.rest → lms_type_at r ≡ Ok x → Takes r (to_be_bytes w32 (lms_code_of x.0)) x.1 × IsLeafHeight (height_of x.0)
 unfolding lms_type_at
@@ -81,22 +74,17 @@ unfolding lms_type_at
 lms_again H5 at rest is = rw (u32_again 5 at rest (omega arith)) refl
 lms_again H10 at rest is = rw (u32_again 6 at rest (omega arith)) refl
 lms_again H15 at rest is = rw (u32_again 7 at rest (omega arith)) refl
-lms_again H20 at rest (inl e) = absurd (omega (arith, e))
-lms_again H20 at rest (inr (inl e)) = absurd (omega (arith, e))
-lms_again H20 at rest (inr (inr e)) = absurd (omega (arith, e))
-lms_again H25 at rest (inl e) = absurd (omega (arith, e))
-lms_again H25 at rest (inr (inl e)) = absurd (omega (arith, e))
-lms_again H25 at rest (inr (inr e)) = absurd (omega (arith, e))
+lms_again lms at rest (inl e) = absurd (omega (arith, e))
+lms_again lms at rest (inr (inl e)) = absurd (omega (arith, e))
+lms_again lms at rest (inr (inr e)) = absurd (omega (arith, e))
 
 pub ots_again : (ots : OtsType) (at : ℕ) (rest : List ℕ) → IsKeyWidth ots
     → ots_type_at (record { rest = to_be_bytes w32 (ots_code_of ots) ++ rest; at = at }) ≡ Ok (ots, record { rest = rest; at = at + 4 })
 unfolding ots_type_at
 ots_again W4 at rest is = rw (u32_again 3 at rest (omega arith)) refl
 ots_again W8 at rest is = rw (u32_again 4 at rest (omega arith)) refl
-ots_again W1 at rest (inl e) = absurd cc
-ots_again W1 at rest (inr e) = absurd cc
-ots_again W2 at rest (inl e) = absurd cc
-ots_again W2 at rest (inr e) = absurd cc
+ots_again ots at rest (inl e) = absurd cc
+ots_again ots at rest (inr e) = absurd cc
 
 -- ---- all of some bytes
 

@@ -2,21 +2,18 @@
 use Rattle.std.proofs.Common.{◌≡◌, ℕ, ◌+◌, ◌^◌, ◌<◌, ◌≤◌, Bool, true, false, cond, eqb, List, [], ◌∷◌, length, Option, Some, None, refl, sym, ap, ap₂, subst, ◌∙◌, arith, map}
 use Rattle.sporc_keys.proofs.Common.{take, IfSome, ◌||◌, AllByRecursion, cons_option, list_any, zip, IsStrictlyIncreasing, nat_tests, length-map, length-take, IsMember, Named, SharedKey, PairKey}
 use Rattle.sporc_keys.proofs.Common.{RingFile, IsKnownKey, SharesMore, numbers_in, epoch_key_of, founders_in, genesis_of, in_order, number_of, numbers_of, pair_keys_of, pairs_of, ring_of, shared_by}
-use Rattle.sporc_keys.proofs.Common.{shared_keys, words_for, IsPairKey, IsRingFile, members_of, Ascends, ascends_below, ascends_increasing}
-use Rattle.sporc_base.proofs.ListLemmas.{all_append}
+use Rattle.sporc_keys.proofs.Common.{shared_keys, words_for, IsPairKey, IsRingFile, members_of, Ascends, ascends_below, ascends_increasing, all_append, MAX_MEMBERS, AppendsItem, DrawsWords}
+use Rattle.sporc_keys.proofs.Common.{DrawsWordsUpTo}
 use Rattle.sha2.proofs.Facts256.{length-sha256}
 use Rattle.sporc_hash.specs.Chain.{commitment_string}
 use Rattle.sporc_member.specs.declared.founder.Founder.{Founder}
-use Rattle.sporc_member.specs.declared.limits.TheConstants.{MAX_MEMBERS}
 use Rattle.sporc_member.specs.Role.{is_admin}
 use Rattle.sporc_member.specs.Roster.{founder_numbers}
 use Rattle.sporc_entry.specs.Genesis.{IsFounder, IsGenesis, bad_key, founders_fault}
 use Rattle.sporc_entry.specs.declared.genesis.Genesis.{Genesis}
-use Rattle.sporc_outside.specs.Told.{AppendsItem}
 use Rattle.sporc_keys.specs.declared.founding.Founding.{Founding}
 use Rattle.sporc_keys.specs.declared.named.Named.TheVariants as named
 use Rattle.sporc_keys.specs.Founding.{CanFound, IsFounding, found_of, is_first_admin, row}
-use Rattle.sporc_keys.specs.Drawn.{DrawsWords, DrawsWordsUpTo}
 use Rattle.sporc_keys.proofs.Drawing.{draws_then, draws_two}
 use Rattle.sporc_keys.proofs.Naming.{ordered_all, ordered_any, ordered_ascends, ordered_length}
 use Rattle.sporc_keys.proofs.Sharing.{is_among, made_again, named_members}
@@ -102,9 +99,8 @@ pairs_small [] all = tt
 pairs_small (n ∷ ns) all = all_append IsSmallPair (row n (n ∷ ns)) (pairs_of ns) (row_small n (n ∷ ns) all.0.1 all) (pairs_small ns all.1)
 
 are_shared : (ps : List (ℕ × ℕ)) (ws : List (List ℕ)) → AllByRecursion IsSmallPair ps → AllByRecursion (λ word. length word ≡ 32) ws → AllByRecursion IsShared (map shared_by (zip ps ws))
-are_shared [] ws small sized = tt
-are_shared (p ∷ ps) [] small sized = tt
 are_shared (p ∷ ps) (w ∷ ws) small sized = (record { first = small.0.0; second = small.0.1; key = sized.0 }, are_shared ps ws small.1 sized.1)
+are_shared ps ws small sized = tt
 
 are_pair_keys : (m : ℕ) (shared : List SharedKey) → AllByRecursion IsShared shared → AllByRecursion IsPairKey (pair_keys_of m shared)
 are_pair_keys m [] all = tt

@@ -2,9 +2,8 @@
 use Rattle.std.proofs.Common.{◌≡◌, ℕ, ◌+◌, ◌^◌, ◌<◌, Bool, true, false, cond, leb, List, [], ◌∷◌, ◌++◌, length, Ok, refl, sym, ap, ap₂, subst, ◌∙◌, arith}
 use Rattle.sporc_keys.proofs.Common.{◌==◌, ◌&&◌, codes, Width, w8, w16, w32, to_be_bytes, eqb-true, append-nil, ots_code_of, lms_code_of, IsBytes, Reading, ◌>>=◌, bytes_at, number_at, only_if, IsWide}
 use Rattle.sporc_keys.proofs.Common.{bind_ok, ok_is, only_if_ok, wide8, wide16, bytes_takes, bytes_again, number_takes, within_takes, u16_within_again, byte_takes, byte_again, Leaves, Device, KeyFile}
-use Rattle.sporc_keys.proofs.Common.{IsKeyFile, device_number_bytes, format_of, key_file_of}
+use Rattle.sporc_keys.proofs.Common.{IsKeyFile, device_number_bytes, format_of, key_file_of, FIRST_DEVICE}
 use Rattle.sporc_bytes.specs.Fields.{number_within}
-use Rattle.sporc_member.specs.declared.device.TheConstants.{FIRST_DEVICE}
 use Rattle.sporc_keys.specs.KeyFile.{device_number_at, key_file_at, key_file_bytes}
 use Rattle.sporc_keys.proofs.FileFields.{format_takes, format_again, lms_takes, lms_again, ots_takes, ots_again, whole_takes}
 

@@ -2,9 +2,8 @@
 use Rattle.std.proofs.Common.{◌≡◌, ℕ, ◌+◌, ◌^◌, ◌<◌, Bool, true, false, cond, leb, List, ◌∷◌, ◌++◌, length, Ok, Err, refl, sym, ap, subst, ◌∙◌, arith}
 use Rattle.sporc_keys.proofs.Common.{◌==◌, ◌&&◌, bytes_eq, codes, Width, w8, w16, w32, to_be_bytes, and_parts, eq-eqb, eqb-true, leb-true, true≢false, ots_code_of, lms_code_of, IsWide, wide8, wide16}
 use Rattle.sporc_keys.proofs.Common.{bytes_again, number_again, u16_within_again, byte_is, Device, same_device, KeyFile, IsKeyFile, device_number_bytes, format_of, key_file_of, place_of_other}
-use Rattle.std.proofs.lemmas.Slice.Eq.{bytes_eq-Decides}
+use Rattle.sporc_keys.proofs.Common.{bytes_eq-Decides, FIRST_DEVICE}
 use Rattle.sporc_bytes.specs.Fields.{number_within}
-use Rattle.sporc_member.specs.declared.device.TheConstants.{FIRST_DEVICE}
 use Rattle.sporc_keys.specs.Fields.{format_at}
 use Rattle.sporc_keys.specs.KeyFile.{device_number_at, key_file_at, key_file_bytes}
 use Rattle.sporc_keys.proofs.FileFields.{format_again}

@@ -1,13 +1,12 @@
 -- A ring file that is read is spelled so, and one that is spelled so is read again.
 use Rattle.std.proofs.Common.{◌≡◌, ℕ, ◌+◌, ◌^◌, ◌<◌, ◌≤◌, Bool, true, false, cond, eqb, List, [], ◌∷◌, ◌++◌, length, Option, Some, None, Result, Ok, Err, refl, sym, ap, subst, ◌∙◌, append_assoc, arith, lit<}
-use Rattle.sporc_keys.proofs.Common.{IfOk, IfSome, codes, ◌==◌, flat_map, AllByRecursion, IsStrictlyIncreasing, w8, w16, to_be_bytes, eqb-true, nat_tests, append-nil, IsBytes, Reading, ◌>>=◌, fault_as}
-use Rattle.sporc_keys.proofs.Common.{bytes_at, number_within, bind_ok, fault_as_ok, ok_is, Takes, Takes-then, wide16, bytes_takes, bytes_again, number_takes, u16_again, within_takes, byte_takes}
-use Rattle.sporc_keys.proofs.Common.{u16_within_again, byte_again, increasing_from_zero, Leaves, PairKey, RingFile, whole, IsPairKey, IsRingFile, members_of, pair_bytes}
-use Rattle.sporc_base.specs.Outcome.{GivesUnless}
+use Rattle.sporc_keys.proofs.Common.{IfOk, IfSome, codes, ◌==◌, flat_map, AllByRecursion, IsStrictlyIncreasing, w8, w16, to_be_bytes, eqb-true, nat_tests, append-nil, IsBytes, Reading, ◌>>=◌}
+use Rattle.sporc_keys.proofs.Common.{fault_as, bytes_at, number_within, bind_ok, fault_as_ok, ok_is, Takes, Takes-then, wide16, bytes_takes, bytes_again, number_takes, u16_again, within_takes}
+use Rattle.sporc_keys.proofs.Common.{byte_takes, u16_within_again, byte_again, increasing_from_zero, Leaves, PairKey, RingFile, whole, IsPairKey, IsRingFile, members_of, pair_bytes, GivesUnless}
+use Rattle.sporc_keys.proofs.Common.{Malformed, Memory}
 use Rattle.sporc_bytes.proofs.ListLaws.{AreReadFrom, IsReadFrom, ReadsAgain, ascending_again, ascending_take}
 use Rattle.sporc_entry.specs.declared.limits.TheConstants.{HIGHEST_MEMBER}
 use Rattle.sporc_keys.specs.declared.fault.RingFileFault.{RingFileFault}
-use Rattle.sporc_keys.specs.declared.fault.RingFileFault.TheVariants.{Malformed, Memory}
 use Rattle.sporc_keys.specs.RingFile.{epoch_key_at, epoch_key_bytes, pair_at, pairs_at, ring_file_at, ring_file_bytes, ring_file_in, ring_file_of_member}
 use Rattle.sporc_keys.proofs.FileFields.{format_takes, format_again, whole_takes}
 

@@ -1,8 +1,7 @@
 -- The keys that two share.
 use Rattle.std.proofs.Common.{◌≡◌, ℕ, zero, suc, ◌+◌, ◌<◌, ◌≤◌, Bool, true, false, cond, eqb, List, [], ◌∷◌, ◌++◌, length, Option, Some, None, refl, sym, ap, ap₂, ◌∙◌, arith, map}
-use Rattle.sporc_keys.proofs.Common.{◌||◌, Contains, filter_map, find, option_map, cons_option, list_any, zip, IsStrictlyIncreasing, nat_tests, append-nil, SharedKey, PairKey, numbers_in, pair_keys_of}
-use Rattle.sporc_keys.proofs.Common.{pairs_of, shared_by, shared_keys, members_of, Ascends, increasing_from_zero}
-use Rattle.std.proofs.lemmas.List.Elements.{filter_map-append}
+use Rattle.sporc_keys.proofs.Common.{◌||◌, Contains, filter_map, find, option_map, cons_option, list_any, zip, IsStrictlyIncreasing, nat_tests, append-nil, SharedKey, PairKey, numbers_in}
+use Rattle.sporc_keys.proofs.Common.{pair_keys_of, pairs_of, shared_by, shared_keys, members_of, Ascends, increasing_from_zero, filter_map-append}
 use Rattle.sporc_keys.specs.Founding.{key_with, row}
 
 -- ---- both have it
@@ -41,10 +40,10 @@ agree : (x y one other : ℕ) (key : List ℕ) (l r : Option (List ℕ)) → l �
 agree x y one other key l r h true true true true ea eb ec ed = refl
 agree x y one other key l r h true false true true ea eb ec ed = absurd (grind (arith, nat_tests))
 agree x y one other key l r h true true true false ea eb ec ed = absurd (grind (arith, nat_tests))
-agree x y one other key l r h true false true false ea eb ec ed = h
 agree x y one other key l r h true b false true ea eb ec ed = refl
-agree x y one other key l r h true b false false ea eb ec ed = h
 agree x y one other key l r h false true true d ea eb ec ed = refl
+agree x y one other key l r h true false true false ea eb ec ed = h
+agree x y one other key l r h true b false false ea eb ec ed = h
 agree x y one other key l r h false true false true ea eb ec ed = h
 agree x y one other key l r h false true false false ea eb ec ed = h
 agree x y one other key l r h false false true d ea eb ec ed = h

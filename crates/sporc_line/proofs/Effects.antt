@@ -1,21 +1,14 @@
 -- What an entry that passed the head's checks does, and its first fault of the checks that need keys.
 use Rattle.std.proofs.Common.{◌≡◌, ℕ, ◌+◌, ◌≤◌, Bool, true, false, List, [], ◌∷◌, ◌++◌, length, take, drop, refl, ap, sym, ◌∙◌, subst, arith, Option, None, Some}
-use Rattle.sporc_line.proofs.Common.{is_some, nat_lt, nat_le, ◌==◌, leb-true, eqb-true, eq-eqb, unless, first_of, Mark, base_len, inserted_len, keep_marks, later_over, Device, member_at, key_of_device}
-use Rattle.sporc_line.proofs.Common.{passes, Entry, ChangeBody, Genesis, MAX_EDIT_BODY, author_device, entry_of, change_of, Refusal, BadPayload, WrongLength, change_in, changes, epoch_of, roster_of}
-use Rattle.sporc_line.proofs.Common.{barrier_of, last_of, count_of, hash_of, place_checks, history_checks, author_checks, roster_checks, fault_read, change_in_read, Kit, key_after, epoch_key}
-use Rattle.sporc_line.proofs.Common.{key_by_wraps, marks_in, edit_marks, forms_of, text_of, is_over, edit_checks, new_key_checks, key_checks_of, first_fault, inserted_len-keep_marks}
-use Rattle.std.specs.Str.{bytes_eq}
+use Rattle.sporc_line.proofs.Common.{is_some, leb-true, eqb-true, eq-eqb, unless, first_of, Mark, base_len, inserted_len, keep_marks, later_over, Device, passes, Entry, ChangeBody, Genesis}
+use Rattle.sporc_line.proofs.Common.{MAX_EDIT_BODY, entry_of, change_of, Refusal, BadPayload, WrongLength, change_in, changes, epoch_of, roster_of, roster_checks, fault_read, change_in_read, Kit}
+use Rattle.sporc_line.proofs.Common.{key_after, epoch_key, key_by_wraps, marks_in, edit_marks, forms_of, text_of, is_over, edit_checks, new_key_checks, key_checks_of, first_fault}
+use Rattle.sporc_line.proofs.Common.{inserted_len-keep_marks, stream_of, CheckedModel, Effect, IsEffect}
 use Rattle.sporc_entry.specs.declared.header.Header.{Header}
-use Rattle.sporc_entry.specs.Version.{version_of}
-use Rattle.sporc_epoch.specs.Streams.{stream_of}
-use Rattle.sporc_head.specs.CheckedModel.{CheckedModel}
 use Rattle.sporc_head.specs.IsChecked.{IsChecked}
-use Rattle.sporc_head.specs.declared.limits.TheConstants.{MAX_ENTRIES}
 use Rattle.sporc_head.specs.HeadChecks.{head_checks, head_fault}
-use Rattle.sporc_line.specs.declared.effect.Effect.{Effect}
 use Rattle.sporc_line.specs.LineChecks.{key_checks}
-use Rattle.sporc_line.specs.Prepared.{IsEffect}
-use Rattle.sporc_line.proofs.Passes.{both_pass}
+use Rattle.sporc_line.proofs.Passes.{pass_from}
 use Rattle.sporc_line.proofs.SameKeys.{committed}
 use Rattle.sporc_line.proofs.FormLengths.{change_form, edit_form, inserted_len-over}
 use Rattle.sporc_line.proofs.NextEntry.{started_by_wraps, edit_key, key_after_change, fault_at_keys}
@@ -24,15 +17,7 @@ use Rattle.sporc_line.proofs.ReadLengths.{body_within, marks_within}
 -- ---- what the head's checks say
 
 pub record HeadPassed (g : Genesis) (A : List (List ℕ)) (e : Entry) : Type 0 where
-  pub room : nat_lt (length A) MAX_ENTRIES ≡ true
-  pub version : e.header.version ≡ version_of (roster_of g A).upgraded
-  pub member : is_some (member_at (roster_of g A) e.header.author) ≡ true
-  pub device : is_some (key_of_device (roster_of g A) (author_device e.header)) ≡ true
   pub base : e.header.base ≤ length A
-  pub barrier : nat_le (barrier_of A) e.header.base ≡ true
-  pub history : bytes_eq e.header.base_hash (hash_of g (take e.header.base A)) ≡ true
-  pub number : (e.header.number == count_of (author_device e.header) A + 1) ≡ true
-  pub own : nat_le (last_of (author_device e.header) A) e.header.base ≡ true
   pub epoch : e.header.epoch ≡ epoch_of A
   pub roster : first_of (roster_checks (roster_of g A) (change_of e)) ≡ None
 
@@ -43,35 +28,9 @@ none_fails g A c k = sym (ap (fault_read (head_checks g None A (length A + 1))) 
 pub head_passed : (g : Genesis) (A : List (List ℕ)) (c : CheckedModel) → IsChecked g A c → HeadPassed g A c.entry
 unfolding head_checks
 head_passed g A c k =
-    let e = c.entry in
-    let rosters = roster_checks (roster_of g A) (change_of e) in
-    let authors = author_checks (member_at (roster_of g A) e.header.author) (key_of_device (roster_of g A) (author_device e.header)) e in
-    let histories = history_checks g A e.header in
-    let a = both_pass (place_checks g None A (length A + 1) e.header) (histories ++ (authors ++ rosters)) (none_fails g A c k) in
-    let b = both_pass histories (authors ++ rosters) a.1 in
-    let c5 = passes _ _ _ b.0 in
-    let c6 = passes _ _ _ c5.1 in
-    let c7 = passes _ _ _ c6.1 in
-    let c8 = passes _ _ _ c7.1 in
-    let c9 = passes _ _ _ c8.1 in
-    let c10 = passes _ _ _ c9.1 in
-    let c11 = passes _ _ _ c10.1 in
-    let c12 = passes _ _ _ c11.1 in
-    let c13 = passes _ _ _ c12.1 in
-    let c14 = passes _ _ _ c13.1 in
-    record {
-      room = c5.0;
-      version = eqb-true _ _ c6.0;
-      member = c7.0;
-      device = c8.0;
-      base = leb-true _ _ c9.0;
-      barrier = c10.0;
-      history = c11.0;
-      number = c12.0;
-      own = c13.0;
-      epoch = eqb-true _ _ c14.0;
-      roster = (both_pass authors rosters b.1).1;
-    }
+    let checks = head_checks g None A (length A + 1) c.entry in
+    let at : (i : ℕ) → first_of (drop i checks) ≡ None = λ i. pass_from checks i (none_fails g A c k) in
+    record { base = leb-true _ _ (passes _ _ _ (at 7)).0; epoch = eqb-true _ _ (passes _ _ _ (at 12)).0; roster = at 16 }
 
 -- ---- an edit
 

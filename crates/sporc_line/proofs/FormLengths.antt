@@ -3,11 +3,10 @@ use Rattle.std.proofs.Common.{◌≡◌, ℕ, suc, zero, ◌+◌, ◌<◌, ◌�
 use Rattle.sporc_line.proofs.Common.{take-append-le, take-append-drop, take_all, length-map, eqb-true, cases_lt, first_of, Mark, Keep, Remove, Insert, base_len, out_len, inserted_len, apply}
 use Rattle.sporc_line.proofs.Common.{keep_marks, base_len-keep_marks, later_over, reached, Follow, all_inserted, passes, Entry, ChangeBody, Genesis, author_device, entry_of, change_of, WrongLength}
 use Rattle.sporc_line.proofs.Common.{Kit, epoch_key, Operation, edit_marks, operation_read, operations, form_of, forms_of, next_form, text_after, text_of, is_over, edit_checks, key_checks_of, Good}
-use Rattle.sporc_hash.proofs.Lists.{from_end}
+use Rattle.sporc_line.proofs.Common.{from_end, Follow-take, reached-append}
 use Rattle.sporc_delta.specs.Transforms.{later}
 use Rattle.sporc_xform.proofs.LengthLemmas.{base_len-later, inserted_len-later, out_len-le}
 use Rattle.sporc_suffix.proofs.Passing.{Follow-append, Follow-drop}
-use Rattle.sporc_suffix.proofs.Following.{Follow-take, reached-append}
 use Rattle.sporc_line.specs.Operations.{edited, what_of, operation_in}
 use Rattle.sporc_line.specs.Document.{form_of_what, forms_from}
 use Rattle.sporc_line.specs.LineChecks.{key_checks}
@@ -20,10 +19,9 @@ use Rattle.sporc_line.proofs.MoreForms.{forms_push}
 pub length-apply : (ms : List Mark) (s : List ℕ) → base_len ms ≡ length s → length (apply ms s) ≡ out_len ms
 length-apply [] s h = refl
 length-apply (Insert c ∷ ms) s h = ap suc (length-apply ms s h)
-length-apply (Keep ∷ ms) [] h = absurd (omega arith)
 length-apply (Keep ∷ ms) (c ∷ s) h = ap suc (length-apply ms s (omega arith))
-length-apply (Remove ∷ ms) [] h = absurd (omega arith)
 length-apply (Remove ∷ ms) (c ∷ s) h = length-apply ms s (omega arith)
+length-apply ms [] h = absurd (omega arith)
 
 pub text_reached : (base : ℕ) (forms : List (List Mark)) (s : List ℕ) → Follow base forms → base ≡ length s → length (fold (λ (text : List ℕ) (form : List Mark). apply form text) s forms) ≡ reached base forms
 text_reached base [] s h is = sym is

@@ -1,22 +1,16 @@
 -- What holds of a line's fields.
-use Rattle.std.proofs.Common.{◌≡◌, ℕ, suc, zero, ◌+◌, ◌^◌, ◌<◌, ◌≤◌, List, [], ◌∷◌, ◌++◌, length, take, drop, ◌-◌, refl, ap, sym, ◌∙◌, subst, arith, Option, None, Some, length-append}
+use Rattle.std.proofs.Common.{◌≡◌, ℕ, zero, suc, ◌+◌, ◌^◌, ◌<◌, ◌≤◌, List, [], ◌∷◌, ◌++◌, length, take, drop, ◌-◌, refl, ap, sym, ◌∙◌, subst, arith, Option, None, Some, length-append}
 use Rattle.sporc_line.proofs.Common.{is_some, slice_get, get, Mark, base_len, inserted_len, apply, reached, Follow, all_inserted, Genesis, MAX_EDIT_BODY, Kit, epoch_key, forms_of, next_form, text_of}
-use Rattle.sporc_line.proofs.Common.{LineModel, LineInvariant, first_fault, Good, Meets}
-use Rattle.sporc_hash.specs.Chain.{commitment_of}
+use Rattle.sporc_line.proofs.Common.{LineModel, LineInvariant, first_fault, Good, Meets, commitment_of, Follow-at, all_inserted-append, all_inserted-drop, CheckedModel, MAX_COMMITTED_LEN, prepared_of}
+use Rattle.sporc_line.proofs.Common.{Effect, PreparedModel, IsEffect, IsPrepared}
 use Rattle.sporc_delta.specs.declared.limits.TheConstants.{MAX_TEXT_LEN}
 use Rattle.sporc_suffix.specs.Runs.{IsReadyAt, ReadyModel}
-use Rattle.sporc_suffix.proofs.Following.{Follow-at, all_inserted-append, all_inserted-drop}
-use Rattle.sporc_head.specs.CheckedModel.{CheckedModel}
 use Rattle.sporc_text.specs.ReadyTextModel.{rewritten}
-use Rattle.sporc_line.specs.declared.limits.TheConstants.{MAX_COMMITTED_LEN}
 use Rattle.sporc_line.specs.Keys.{key_after}
 use Rattle.sporc_line.specs.Document.{forms_from}
 use Rattle.sporc_line.specs.declared.line.Line.TheInside as line
 use Rattle.sporc_line.specs.declared.prepared.Prepared.TheInside as prepared
 use Rattle.sporc_line.specs.LineFields.{model_of, invariant_of}
-use Rattle.sporc_line.specs.PreparedFields.{prepared_of}
-use Rattle.sporc_line.specs.declared.effect.Effect.{Effect}
-use Rattle.sporc_line.specs.Prepared.{PreparedModel, IsEffect, IsPrepared}
 use Rattle.sporc_line.proofs.Goods.{good_none, good_take, good_push}
 use Rattle.sporc_line.proofs.MoreForms.{forms_push, text_push}
 use Rattle.sporc_line.proofs.FormLengths.{length-text, reached-le, length-forms, forms_take, text_at, forms_follow, edit_follows, next_form_base}
@@ -45,11 +39,7 @@ line_empty g kit key holds meets = record {
 pub line_opens : (genesis g : Genesis) (kit : Kit) (A : List (List ℕ)) (key : List ℕ) (base : ℕ) (forms : List (List Mark)) (text : List ℕ) → get kit.ring 0 ≡ Some key → commitment_of g.document 0 key ≡ g.commitment
     → genesis ≡ g → A ≡ [] → base ≡ 0 → forms ≡ [] → text ≡ [] → LineInvariant genesis kit A (Some key) base forms text
 line_opens genesis g kit A key base forms text holds meets is a b f t =
-    subst (λ (x : Genesis). LineInvariant x kit A (Some key) base forms text) (sym is)
-    (subst (λ (x : List (List ℕ)). LineInvariant g kit x (Some key) base forms text) (sym a)
-    (subst (λ (x : ℕ). LineInvariant g kit [] (Some key) x forms text) (sym b)
-    (subst (λ (x : List (List Mark)). LineInvariant g kit [] (Some key) 0 x text) (sym f)
-    (subst (λ (x : List ℕ). LineInvariant g kit [] (Some key) 0 [] x) (sym t) (line_empty g kit key holds meets)))))
+    rw (is, a, b, f, t) (line_empty g kit key holds meets)
 
 -- the key of epoch 0 of a member whose history is good
 pub opens_with : (g : Genesis) (kit : Kit) (A : List (List ℕ)) (k : Option (List ℕ)) → Good g kit A → k ≡ get kit.ring 0 → Meets g 0 k g.commitment
@@ -59,9 +49,9 @@ opens_with g kit A k good is = subst (λ k. Meets g 0 k g.commitment) (sym is) g
 -- ---- lengths
 
 all_inserted-take : (forms : List (List Mark)) (i : ℕ) → all_inserted (take i forms) ≤ all_inserted forms
+all_inserted-take (f ∷ fs) (suc i) = omega (arith, all_inserted-take fs i)
 all_inserted-take forms zero = omega arith
 all_inserted-take [] (suc i) = omega arith
-all_inserted-take (f ∷ fs) (suc i) = omega (arith, all_inserted-take fs i)
 
 module _ {g : Genesis} {kit : Kit} {A : List (List ℕ)} {key : Option (List ℕ)} {base : ℕ} {forms : List (List Mark)} {text : List ℕ} (k : LineInvariant g kit A key base forms text) where
   -- each entry has its form
@@ -162,12 +152,7 @@ pub line_pushed : (g g' : Genesis) (kit : Kit) (A A' : List (List ℕ)) (key key
     → LineInvariant g kit A key base forms text → IsPrepared g kit A p → g' ≡ g → A' ≡ A ++ p.checked.bytes ∷ [] → key' ≡ p.key → base' ≡ base → forms' ≡ forms ++ p.form ∷ [] → text' ≡ rewritten p.text text
     → LineInvariant g' kit A' key' base' forms' text'
 line_pushed g g' kit A A' key key' base base' forms forms' text text' p k q is a e b f t =
-    subst (λ (x : Genesis). LineInvariant x kit A' key' base' forms' text') (sym is)
-    (subst (λ (x : List (List ℕ)). LineInvariant g kit x key' base' forms' text') (sym a)
-    (subst (λ (x : Option (List ℕ)). LineInvariant g kit (A ++ p.checked.bytes ∷ []) x base' forms' text') (sym e)
-    (subst (λ (x : ℕ). LineInvariant g kit (A ++ p.checked.bytes ∷ []) p.key x forms' text') (sym b)
-    (subst (λ (x : List (List Mark)). LineInvariant g kit (A ++ p.checked.bytes ∷ []) p.key base x text') (sym f)
-    (subst (λ (x : List ℕ). LineInvariant g kit (A ++ p.checked.bytes ∷ []) p.key base (forms ++ p.form ∷ []) x) (sym t) (line_push g kit A key base forms text p k q))))))
+    rw (is, a, e, b, f, t) (line_push g kit A key base forms text p k q)
 
 -- ---- facts of a model are facts of the fields
 

@@ -22,10 +22,10 @@ slice_get_before (x ∷ xs) ys (suc i) h = slice_get_before xs ys i (omega arith
 
 -- the element at a place of the list's first n
 pub slice_get-take : {X : Type 0} (xs : List X) (n i : ℕ) (z : X) → slice_get (take n xs) i ≡ Some z → (i < n) × (slice_get xs i ≡ Some z)
-slice_get-take xs zero i z h = absurd cc
-slice_get-take [] (suc n) i z h = absurd cc
 slice_get-take (x ∷ xs) (suc n) zero z h = (omega arith, h)
 slice_get-take (x ∷ xs) (suc n) (suc i) z h = let p = slice_get-take xs n i z h in (omega (arith, p.0), p.1)
+slice_get-take xs zero i z h = absurd cc
+slice_get-take [] (suc n) i z h = absurd cc
 
 -- one element more
 pub take_slice_get_more : {X : Type 0} (xs : List X) (i : ℕ) (z : X) → slice_get xs i ≡ Some z → take (suc i) xs ≡ take i xs ++ z ∷ []

@@ -1,9 +1,8 @@
 -- The keys, operations, forms and text of one entry more.
 use Rattle.std.proofs.Common.{◌≡◌, ℕ, suc, zero, ◌+◌, ◌≤◌, List, [], ◌∷◌, ◌++◌, length, take, drop, map, refl, ap, sym, ◌∙◌, arith, Option, Ok, length-append}
 use Rattle.sporc_line.proofs.Common.{slice_get, map-append, take-append-le, take-append-drop, Mark, apply, Entry, Genesis, entry_of, CommittedChange, change_in, changes, epoch_of, Kit, key_started}
-use Rattle.sporc_line.proofs.Common.{epoch_key, Operation, operation_read, operations, form_of, forms_of, next_form, text_after, text_of, Good}
+use Rattle.sporc_line.proofs.Common.{epoch_key, Operation, operation_read, operations, form_of, forms_of, next_form, text_after, text_of, Good, filter_map-append}
 use Rattle.std.proofs.lemmas.List.Sums.{fold-append}
-use Rattle.std.proofs.lemmas.List.Elements.{filter_map-append}
 use Rattle.sporc_line.specs.Keys.{key_after}
 use Rattle.sporc_line.specs.Operations.{operation_in, operation_of}
 use Rattle.sporc_line.specs.Document.{forms_from}

@@ -2,13 +2,12 @@
 use Rattle.std.proofs.Common.{◌≡◌, ℕ, suc, ◌+◌, ◌≤◌, Bool, true, false, cond, List, [], ◌∷◌, ◌++◌, length, map, refl, ap, sym, ◌∙◌, subst, arith, Option, None, Some, Result, Ok, Err, length-append}
 use Rattle.sporc_line.proofs.Common.{is_some, not, ◌||◌, find, ◌==◌, list_any, slice_get, get, append-nil, take_all, bytes_eq-Decides, unless, first_of, Device, Roster, removes, member_at, numbers_of}
 use Rattle.sporc_line.proofs.Common.{after_change, roster_after, passes, Entry, ChangeBody, Genesis, entry_of, change_of, Refusal, WrongWraps, CommittedChange, change_in, changes, epoch_of, roster_of}
-use Rattle.sporc_line.proofs.Common.{is_removed, roster_checks, fault_read, changes_push, removed_push, removes_in, change_in_read, roster_change, Kit, epoch_key, key_by_wraps, key_checks, line_checks}
+use Rattle.sporc_line.proofs.Common.{is_removed, roster_checks, fault_read, changes_push, removed_push, removes_in, change_in_read, roster_change, Kit, epoch_key, key_by_wraps, key_checks}
+use Rattle.sporc_line.proofs.Common.{line_checks, stream_of, first_of-none, first_of-some}
 use Rattle.sporc_member.specs.declared.member.Member.{Member}
 use Rattle.sporc_entry.specs.declared.wrap.Wrap.{Wrap}
-use Rattle.sporc_epoch.specs.Streams.{stream_of}
 use Rattle.sporc_epoch.specs.Wraps.{wrap_opened}
 use Rattle.sporc_head.specs.HeadChecks.{names, head_checks, head_fault}
-use Rattle.sporc_head.proofs.ChecksPass.{first_of-none, first_of-some}
 use Rattle.sporc_line.specs.Keys.{key_started, key_after}
 use Rattle.sporc_line.specs.LineChecks.{first_fault}
 use Rattle.sporc_line.proofs.Lists.{slice_get_last}

@@ -1,20 +1,20 @@
 -- What holds of an entry that fails no check.
-use Rattle.std.proofs.Common.{◌≡◌, ℕ, ◌+◌, ◌<◌, ◌≤◌, true, false, List, [], ◌∷◌, ◌++◌, length, take, refl, ap, ◌∙◌, Option, None, Some, Result, Ok, Err}
+use Rattle.std.proofs.Common.{◌≡◌, ℕ, zero, suc, ◌+◌, ◌<◌, ◌≤◌, true, false, List, [], ◌∷◌, ◌++◌, length, take, drop, refl, ap, ◌∙◌, Option, None, Some, Result, Ok, Err}
 use Rattle.sporc_line.proofs.Common.{is_some, ltb-true, leb-true, eqb-true, not-true, lt-ltb, le-leb, eq-eqb, not_from_false, bytes_eq-Decides, first_of, member_at, key_of, passes, holds, Entry}
 use Rattle.sporc_line.proofs.Common.{Genesis, author_device, entry_of, change_of, signed_string, WrongDocument, WrongPosition, Removed, HistoryFull, WrongVersion, UnknownAuthor, UnknownDevice}
 use Rattle.sporc_line.proofs.Common.{BaseAhead, BeforeBarrier, WrongHistory, WrongNumber, BehindOwn, WrongEpoch, NoRight, LeafMismatch, BadSignature, epoch_of, roster_of, is_removed, barrier_of}
-use Rattle.sporc_line.proofs.Common.{last_of, count_of, hash_of, place_checks, history_checks, author_checks, roster_checks, fault_read, Kit, key_checks, line_checks}
-use Rattle.sporc_entry.specs.Version.{version_of}
-use Rattle.sporc_head.specs.declared.limits.TheConstants.{MAX_ENTRIES}
+use Rattle.sporc_line.proofs.Common.{last_of, count_of, hash_of, place_checks, history_checks, author_checks, roster_checks, fault_read, Kit, key_checks, line_checks, version_of, MAX_ENTRIES}
+use Rattle.sporc_line.proofs.Common.{first_of-none}
+use Rattle.sporc_base.proofs.ListLemmas.{both_pass}
 use Rattle.sporc_head.specs.HeadChecks.{head_checks, allows_member, names_leaf, verifies_device}
-use Rattle.sporc_head.proofs.ChecksPass.{first_of-none}
 use Rattle.sporc_line.specs.LineChecks.{first_fault}
 
--- no check of both lists fails
-pub both_pass : {F : Type 0} (xs ys : List (Option F)) → first_of (xs ++ ys) ≡ None → (first_of xs ≡ None) × (first_of ys ≡ None)
-both_pass [] ys h = (refl, h)
-both_pass (None ∷ xs) ys h = both_pass xs ys h
-both_pass (Some f ∷ xs) ys h = absurd cc
+-- of checks that all hold, those from a place on
+pub pass_from : {F : Type 0} (xs : List (Option F)) (i : ℕ) → first_of xs ≡ None → first_of (drop i xs) ≡ None
+pass_from xs zero h = h
+pass_from [] (suc i) h = refl
+pass_from (None ∷ xs) (suc i) h = pass_from xs i h
+pass_from (Some f ∷ xs) (suc i) h = absurd cc
 
 pub pass_both : {F : Type 0} (xs ys : List (Option F)) → first_of xs ≡ None → first_of ys ≡ None → first_of (xs ++ ys) ≡ None
 pass_both xs ys h k = first_of-none xs ys h ∙ k
@@ -43,48 +43,27 @@ pub record Passes (g : Genesis) (kit : Kit) (entries : List (List ℕ)) (pos : �
 all_passed : (g : Genesis) (kit : Kit) (entries : List (List ℕ)) (position : ℕ) (e : Entry) → first_of (line_checks g kit entries position e) ≡ None → Passes g kit entries position e
 unfolding head_checks
 all_passed g kit A pos e h =
-    let rosters = roster_checks (roster_of g A) (change_of e) in
-    let authors = author_checks (member_at (roster_of g A) e.header.author) (key_of (roster_of g A) (author_device e.header)) e in
-    let histories = history_checks g A e.header in
-    let all = both_pass (head_checks g (Some kit.me) A pos e) (key_checks g kit A e) h in
-    let a = both_pass (place_checks g (Some kit.me) A pos e.header) (histories ++ (authors ++ rosters)) all.0 in
-    let b = both_pass histories (authors ++ rosters) a.1 in
-    let c = both_pass authors rosters b.1 in
-    let c2 = passes _ _ _ a.0 in
-    let c3 = passes _ _ _ c2.1 in
-    let c4 = passes _ _ _ c3.1 in
-    let c5 = passes _ _ _ b.0 in
-    let c6 = passes _ _ _ c5.1 in
-    let c7 = passes _ _ _ c6.1 in
-    let c8 = passes _ _ _ c7.1 in
-    let c9 = passes _ _ _ c8.1 in
-    let c10 = passes _ _ _ c9.1 in
-    let c11 = passes _ _ _ c10.1 in
-    let c12 = passes _ _ _ c11.1 in
-    let c13 = passes _ _ _ c12.1 in
-    let c14 = passes _ _ _ c13.1 in
-    let c15 = passes _ _ _ c.0 in
-    let c16 = passes _ _ _ c15.1 in
-    let c17 = passes _ _ _ c16.1 in
+    let at : (i : ℕ) → first_of (drop i (line_checks g kit A pos e)) ≡ None = λ i. pass_from (line_checks g kit A pos e) i h in
+    let last = both_pass (roster_checks (roster_of g A) (change_of e)) (key_checks g kit A e) (at 16) in
     record {
-      document = (bytes_eq-Decides _ _).0 c2.0;
-      position = eqb-true _ _ c3.0;
-      not_removed = not-true _ c4.0;
-      room = ltb-true _ _ c5.0;
-      version = eqb-true _ _ c6.0;
-      member = c7.0;
-      device = c8.0;
-      base = leb-true _ _ c9.0;
-      barrier = leb-true _ _ c10.0;
-      history = (bytes_eq-Decides _ _).0 c11.0;
-      number = eqb-true _ _ c12.0;
-      own = leb-true _ _ c13.0;
-      epoch = eqb-true _ _ c14.0;
-      right = c15.0;
-      leaf = c16.0;
-      signature = c17.0;
-      roster = c.1;
-      keys = all.1;
+      document = (bytes_eq-Decides _ _).0 (passes _ _ _ (at 0)).0;
+      position = eqb-true _ _ (passes _ _ _ (at 1)).0;
+      not_removed = not-true _ (passes _ _ _ (at 2)).0;
+      room = ltb-true _ _ (passes _ _ _ (at 3)).0;
+      version = eqb-true _ _ (passes _ _ _ (at 4)).0;
+      member = (passes _ _ _ (at 5)).0;
+      device = (passes _ _ _ (at 6)).0;
+      base = leb-true _ _ (passes _ _ _ (at 7)).0;
+      barrier = leb-true _ _ (passes _ _ _ (at 8)).0;
+      history = (bytes_eq-Decides _ _).0 (passes _ _ _ (at 9)).0;
+      number = eqb-true _ _ (passes _ _ _ (at 10)).0;
+      own = leb-true _ _ (passes _ _ _ (at 11)).0;
+      epoch = eqb-true _ _ (passes _ _ _ (at 12)).0;
+      right = (passes _ _ _ (at 13)).0;
+      leaf = (passes _ _ _ (at 14)).0;
+      signature = (passes _ _ _ (at 15)).0;
+      roster = last.0;
+      keys = last.1;
     }
 
 -- an entry with no first fault passes

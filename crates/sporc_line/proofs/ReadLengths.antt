@@ -1,15 +1,11 @@
 -- The sizes of what is read: a body is within its limit, and a delta inserts no more characters than its bytes are many.
 use Rattle.std.proofs.Common.{◌≡◌, ℕ, zero, suc, ◌+◌, ◌≤◌, Bool, true, false, cond, List, [], ◌∷◌, length, take, Option, Some, None, Result, Ok, Err, refl, ap, sym, ◌∙◌, subst, arith}
 use Rattle.sporc_line.proofs.Common.{nat_lt, nat_le, ◌==◌, ltb-false, leb-true, length-take-le, Mark, inserted_len, inserted_len-append, inserted_len-remove_marks, inserted_len-insert_marks}
-use Rattle.sporc_line.proofs.Common.{inserted_len-keep_marks, Entry, MAX_CHANGE_BODY, MAX_EDIT_BODY, MAX_SIGNATURE, header_at, body_limit, body_read, marks_in}
-use Rattle.std.specs.Int.{w32}
-use Rattle.std.specs.Result.{result_ok}
+use Rattle.sporc_line.proofs.Common.{inserted_len-keep_marks, Entry, MAX_CHANGE_BODY, MAX_EDIT_BODY, MAX_SIGNATURE, header_at, body_limit, body_read, marks_in, w32, result_ok, mask_of}
+use Rattle.sporc_line.proofs.Common.{length-mask_from, DeltaFault}
 use Rattle.std.proofs.lemmas.Str.{IsUtf8-from_is_utf8}
 use Rattle.sporc_bytes.specs.Fields.{Reading, ◌>>=◌, bytes_at, number_at, only_if, counted_at, end_at, past}
 use Rattle.sporc_bytes.proofs.Fields.{bind_ok, bytes_len, only_if_ok}
-use Rattle.sporc_cipher.specs.Mask.{mask_of}
-use Rattle.sporc_cipher.proofs.Stream.{length-mask_from}
-use Rattle.sporc_delta.specs.declared.fault.DeltaFault.{DeltaFault}
 use Rattle.sporc_delta.specs.declared.fault.DeltaFault.TheVariants as faults
 use Rattle.sporc_delta.specs.declared.part.Kind.{Kind}
 use Rattle.sporc_delta.specs.declared.part.Kind.TheVariants as kinds

@@ -3,12 +3,8 @@ use Rattle.std.proofs.Common.{◌≡◌, ℕ, suc, zero, ◌+◌, ◌<◌, ◌�
 use Rattle.sporc_line.proofs.Common.{is_some, ◌||◌, Contains, slice_get, append_cancel_left, append-nil, and_parts, or_parts, cases_lt, bytes_eq-Decides, first_of, Device, removes, passes, Entry}
 use Rattle.sporc_line.proofs.Common.{ChangeBody, Genesis, entry_of, change_of, NoKey, WrongKey, CommittedChange, change_in, changes, epoch_of, is_removed, changes_push, removed_push, removes_in}
 use Rattle.sporc_line.proofs.Common.{change_in_read, Kit, key_after, epoch_key, Operation, operation_in, operations, forms_from, text_after, text_of, is_new_key, new_key_checks, key_checks_of, Good}
-use Rattle.sporc_line.proofs.Common.{Meets}
-use Rattle.std.specs.Int.{w32, to_be_bytes}
-use Rattle.std.proofs.lemmas.List.Elements.{Contains-append_left, Contains-append_right}
-use Rattle.sporc_hash.specs.Chain.{commitment_of, commitment_string}
+use Rattle.sporc_line.proofs.Common.{Meets, w32, to_be_bytes, Contains-append_left, Contains-append_right, commitment_of, commitment_string, from_end, Contains-first}
 use Rattle.sporc_hash.specs.Strings.{chain_strings, key_string, key_strings, CollisionFree}
-use Rattle.sporc_hash.proofs.Lists.{from_end, Contains-first}
 use Rattle.sporc_entry.specs.Genesis.{genesis_bytes}
 use Rattle.sporc_line.specs.LineChecks.{key_checks}
 use Rattle.sporc_line.specs.LineStrings.{line_strings}
@@ -48,9 +44,8 @@ new_key document me epoch c old key kept h =
     record { bytes = k.0; is = k.1; new = kept_or (removes me c.change) (is_new_key document epoch c old key) kept b.0 }
 
 meets_new : (g : Genesis) (epoch : ℕ) (c : ChangeBody) (old key : Option (List ℕ)) → is_new_key g.document epoch c old key ≡ true → Meets g epoch key c.commitment
-meets_new g epoch c None key h = absurd cc
-meets_new g epoch c (Some old) None h = absurd cc
 meets_new g epoch c (Some old) (Some key) h = (bytes_eq-Decides (commitment_of g.document epoch key) c.commitment).0 (and_parts _ _ h).0
+meets_new g epoch c old key h = absurd cc
 
 -- the change under the header of its entry
 abbrev pub committed : Entry → ChangeBody → CommittedChange

@@ -1,7 +1,8 @@
 -- Live devices are of members and, up to the Upgrade, their first ones, through each change.
 use Rattle.std.proofs.Common.{◌≡◌, ℕ, Bool, true, false, cond, eqb, not, List, [], ◌∷◌, Some, None, is_some, refl, ap, sym, ◌∙◌, map, filter}
-use Rattle.sporc_member.proofs.Common.{◌||◌, ◌&&◌, find, option_map, insert, list_any, eqb-true, or_parts, and_parts, AddDevice, NotUpgraded, NotMember, Device, LiveDevice, Founder, Member}
-use Rattle.sporc_member.proofs.Common.{first_device, same_device, device_place, insert_device, place_among, Roster, device_by, founder_numbers, numbers_of, member_at, change_fault_of, LiveInvariant}
+use Rattle.sporc_member.proofs.Common.{◌||◌, ◌&&◌, false_from_ne_true, find, option_map, insert, list_any, eqb-true, or_parts, and_parts, AddDevice, NotUpgraded, NotMember, Device, LiveDevice}
+use Rattle.sporc_member.proofs.Common.{Founder, Member, first_device, same_device, device_place, insert_device, place_among, Roster, device_by, founder_numbers, numbers_of, member_at, change_fault_of}
+use Rattle.sporc_member.proofs.Common.{LiveInvariant}
 use Rattle.std.proofs.lemmas.Map.Views.{any-filter_same}
 use Rattle.sporc_member.proofs.Checks.{passes}
 use Rattle.sporc_member.proofs.Keeping.{any_inserted, any_filtered}
@@ -144,10 +145,6 @@ none_of n (d ∷ ds) h =
 
 pub no_devices : (ms : List Member) (ns : List ℕ) (ds : List LiveDevice) (upgraded : Bool) (n : ℕ) → LiveInvariant ns ds upgraded → ns ≡ numbers_of ms
     → is_some (find (λ m. eqb m.member n) ms) ≡ false → map (λ d. d.device.number) (filter (λ d. eqb d.device.member n) ds) ≡ []
-no_devices ms ns ds upgraded n k same h = ap (map (λ d. d.device.number)) (none_of n ds (go (has_of n ds) refl))
-  where
-    go : (b : Bool) → has_of n ds ≡ b → b ≡ false
-    go false e = refl
-    go true e =
-        let some : is_some (find (λ m. eqb m.member n) ms) ≡ true = sym (some_number n ms) ∙ ap (list_any (λ m. eqb m n)) (sym same) ∙ k.belong n e in
-        absurd (let both : true ≡ false = sym some ∙ h in cc)
+no_devices ms ns ds upgraded n k same h = ap (map (λ d. d.device.number)) (none_of n ds (false_from_ne_true (has_of n ds) (λ e.
+    let some : is_some (find (λ m. eqb m.member n) ms) ≡ true = sym (some_number n ms) ∙ ap (list_any (λ m. eqb m n)) (sym same) ∙ k.belong n e in
+    let both : true ≡ false = sym some ∙ h in cc)))

@@ -1,7 +1,7 @@
 -- The names of this crate and of those below that many of its proofs cite, passed on from one place.
-pub use Rattle.std.proofs.lemmas.Bool.{and_from, and_parts, eq-eqb, eqb-false, eqb-true, leb-false, leb-true, ltb-false, ltb-true, or_parts}
+pub use Rattle.std.proofs.lemmas.Bool.{and_from, and_parts, eq-eqb, eqb-false, eqb-true, false_from_ne_true, leb-false, leb-true, ltb-false, ltb-true, or_parts}
 pub use Rattle.std.proofs.lemmas.Fn.{filter_same}
-pub use Rattle.std.proofs.lemmas.List.{length-map, map-append, take-append-drop}
+pub use Rattle.std.proofs.lemmas.List.{drop-map, length-map, map-append, take-append-drop, take-map}
 pub use Rattle.std.specs.List.{insert, list_any}
 pub use Rattle.std.specs.Prelude.{find, fold, map, option_map, vec_capacity, ◌&&◌, ◌||◌}
 pub use Rattle.sporc_member.specs.Device.{device_place, first_device, insert_device, is_before, place_from, same_device}

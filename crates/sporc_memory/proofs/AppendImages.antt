@@ -1,14 +1,10 @@
 -- What a crash of a file in memory that is appended to may leave, over one call.
 use Rattle.std.proofs.Common.{◌≡◌, ◌⊎◌, ℕ, inl, inr, Bool, true, false, List, [], ◌∷◌, ◌++◌, length, take, Some, refl, ap, sym, subst, ◌∙◌, arith, append-nil}
-use Rattle.std.specs.Prelude.{Result, Ok, Err, OnOk, OnErr}
-use Rattle.std.proofs.lemmas.List.{take_all}
+use Rattle.sporc_memory.proofs.Common.{Result, Ok, Err, OnOk, OnErr, take_all, CallsModel, IsSame, CrashStep, AppendCall, AppendState, IsImage}
 use Rattle.sporc_outside.specs.AppendFile.{GrowsBy, MayBeCut}
-use Rattle.sporc_memory.specs.CallsModel.{CallsModel}
-use Rattle.sporc_outside.specs.LeafDisk.{IsSame, CrashStep}
-use Rattle.sporc_memory.specs.declared.append_call.AppendCall.{AppendCall}
 use Rattle.sporc_memory.specs.declared.append_call.AppendRequest.{AppendRequest}
 use Rattle.sporc_memory.specs.declared.append_call.AppendRequest.TheVariants.{Read, Append, Cut, Sync}
-use Rattle.sporc_memory.specs.MemoryAppendFile.{AppendState, IsImage, IsWrite, LogsCall, MemoryAppendFileModel, after_call, after_request, bytes_of, images_of, state_after}
+use Rattle.sporc_memory.specs.MemoryAppendFile.{IsWrite, LogsCall, MemoryAppendFileModel, after_call, after_request, bytes_of, images_of, state_after}
 use Rattle.sporc_memory.proofs.LoggedImages.{Steps, passes_none, passes_one, fold-more}
 
 -- what a crash after the first m of these calls may leave
@@ -47,12 +43,11 @@ steps_cut s len done image (inr (inr (inl part))) = (s.bytes, inl refl, inr (unl
 steps_cut s len done image (inr (inr (inr others))) = (image, inr others, inl refl)
 
 pub steps_same : (s : AppendState) (request : AppendRequest) → (IsWrite request → ⊥) → StepsAt s request IsSame
-steps_same s Read quiet done image h = (image, h, refl)
 steps_same s Sync quiet true image (inl is) = (image, inl is, refl)
 steps_same s Sync quiet true image (inr none) = absurd none
-steps_same s Sync quiet false image h = (image, h, refl)
 steps_same s (Append more) quiet done image h = absurd (quiet _)
 steps_same s (Cut len) quiet done image h = absurd (quiet _)
+steps_same s request quiet _ image h = (image, h, refl)
 
 -- ---- the call in the log
 
@@ -61,20 +56,14 @@ passes_logged : (old : MemoryAppendFileModel) (name first : List ℕ) (log new :
     → new ≡ log ++ call_of request done ∷ [] → ((image : List ℕ) → step image image) → StepsAt (state_after first log) request step
     → CrashStep (length old.log) (length new) (images_of old) (images_in first new) step
 passes_logged old name first log new calls request done step is more stays steps =
-    let P : MemoryAppendFileModel → List AppendCall → Type 0 = λ f l. CrashStep (length f.log) (length l) (images_of f) (images_in first l) step in
-    subst (λ (f : MemoryAppendFileModel). P f new) is
-    (subst (P (record { name = name; first = first; log = log; calls = calls })) (sym more)
-    (passes_one after_call IsImage (record { bytes = first; unsynced = [] }) log (call_of request done) step stays (steps done)))
+    rw (← is, more) (passes_one after_call IsImage (record { bytes = first; unsynced = [] }) log (call_of request done) step stays (steps done))
 
 pub passes_unlogged : (old : MemoryAppendFileModel) (name first : List ℕ) (log new : List AppendCall) (calls : CallsModel)
     (step : List ℕ → List ℕ → Type 0) → ◌≡◌ {A = MemoryAppendFileModel} (record { name = name; first = first; log = log; calls = calls }) old
     → new ≡ log → ((image : List ℕ) → step image image)
     → CrashStep (length old.log) (length new) (images_of old) (images_in first new) step
 passes_unlogged old name first log new calls step is same stays =
-    let P : MemoryAppendFileModel → List AppendCall → Type 0 = λ f l. CrashStep (length f.log) (length l) (images_of f) (images_in first l) step in
-    subst (λ (f : MemoryAppendFileModel). P f new) is
-    (subst (P (record { name = name; first = first; log = log; calls = calls })) (sym same)
-    (passes_none after_call IsImage (record { bytes = first; unsynced = [] }) log step stays))
+    rw (← is, same) (passes_none after_call IsImage (record { bytes = first; unsynced = [] }) log step stays)
 
 pub images_logged : {T E : Type 0} (old : MemoryAppendFileModel) (name first : List ℕ) (log new : List AppendCall) (calls : CallsModel)
     (request : AppendRequest) (r : Result T E) (step : List ℕ → List ℕ → Type 0)
@@ -120,9 +109,7 @@ bytes_done first log new request more =
 
 bytes_left : (s : AppendState) (request : AppendRequest) → (after_request s false request).bytes ≡ s.bytes
 bytes_left s Read = refl
-bytes_left s Sync = refl
-bytes_left s (Append more) = refl
-bytes_left s (Cut len) = refl
+bytes_left s _ = refl
 
 -- a call that failed, in the log or missing there
 abbrev pub IsFailedCall : List AppendCall → List AppendCall → AppendRequest → Type 0
@@ -137,10 +124,9 @@ bytes_failed first log new request (inl more) =
 bytes_failed first log new request (inr same) = ap (λ (l : List AppendCall). (state_after first l).bytes) same
 
 bytes_quiet : (s : AppendState) (request : AppendRequest) → (IsWrite request → ⊥) → (after_request s true request).bytes ≡ s.bytes
-bytes_quiet s Read quiet = refl
-bytes_quiet s Sync quiet = refl
 bytes_quiet s (Append more) quiet = absurd (quiet _)
 bytes_quiet s (Cut len) quiet = absurd (quiet _)
+bytes_quiet s request quiet = refl
 
 pub same_bytes : {T E : Type 0} (first : List ℕ) (log new : List AppendCall) (request : AppendRequest) (r : Result T E) → (IsWrite request → ⊥)
     → LogsCall log new request r → (state_after first new).bytes ≡ (state_after first log).bytes

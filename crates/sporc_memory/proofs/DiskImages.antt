@@ -1,15 +1,11 @@
 -- What a crash of a disk in memory may leave, over one call.
 use Rattle.std.proofs.Common.{◌≡◌, ℕ, ◌+◌, ◌-◌, ◌<◌, ◌≤◌, ◌⊎◌, inl, inr, Bool, true, false, Ok, Err, List, [], ◌∷◌, ◌++◌, length, take, drop, slice_index, Some, refl, ap, sym, subst, ◌∙◌, arith, length-drop, length-take-le, get_or-take}
-use Rattle.std.specs.Prelude.{Result, OnOk}
-use Rattle.std.proofs.Math.Seq.{get_or-drop}
-use Rattle.sporc_memory.specs.CallsModel.{CallsModel}
-use Rattle.std.proofs.lemmas.List.{take_all, ext_get_or}
+use Rattle.sporc_memory.proofs.Common.{Result, OnOk, get_or-drop, CallsModel, take_all, ext_get_or, DiskCall, overwrite, IsSame, IsSameOutside, CrashStep, DiskState, state_after, MemoryDiskModel}
+use Rattle.sporc_memory.proofs.Common.{after_call, IsUnsynced, bytes_of}
 use Rattle.std.proofs.lemmas.Bool.{cases_lt}
-use Rattle.sporc_memory.specs.declared.disk_call.DiskCall.{DiskCall}
 use Rattle.sporc_memory.specs.declared.disk_call.DiskRequest.{DiskRequest}
-use Rattle.sporc_memory.specs.declared.disk_call.DiskRequest.TheVariants.{Len, Read, Write, Sync}
-use Rattle.sporc_outside.specs.LeafDisk.{overwrite, IsSame, IsSameOutside, CrashStep}
-use Rattle.sporc_memory.specs.MemoryDisk.{DiskState, state_after, MemoryDiskModel, after_call, after_request, IsUnsynced, IsImage, IsWrite, LogsCall, bytes_of, images_of}
+use Rattle.sporc_memory.specs.declared.disk_call.DiskRequest.TheVariants.{Write, Sync}
+use Rattle.sporc_memory.specs.MemoryDisk.{after_request, IsImage, IsWrite, LogsCall, images_of}
 use Rattle.sporc_memory.proofs.LoggedImages.{Steps, fold-more, passes_none, passes_one}
 use Rattle.sporc_outside.proofs.Overwrites.{length-overwrite, slice_index-overwrite_outside, slice_index-overwrite_inside}
 
@@ -30,19 +26,14 @@ pub passes_unlogged : (old : MemoryDiskModel) (first : List ℕ) (log new : List
     → ◌≡◌ {A = MemoryDiskModel} (record { first = first; log = log; calls = calls }) old → new ≡ log
     → ((image : List ℕ) → step image image) → CrashStep (length old.log) (length new) (images_of old) (images_in first new) step
 passes_unlogged old first log new calls step is same stays =
-    let P : MemoryDiskModel → List DiskCall → Type 0 = λ d l. CrashStep (length d.log) (length l) (images_of d) (images_in first l) step in
-    subst (λ (d : MemoryDiskModel). P d new) is
-    (subst (P (record { first = first; log = log; calls = calls })) (sym same) (passes_none after_call IsImage (record { bytes = first; unsynced = [] }) log step stays))
+    rw (← is, same) (passes_none after_call IsImage (record { bytes = first; unsynced = [] }) log step stays)
 
 passes_logged : (old : MemoryDiskModel) (first : List ℕ) (log new : List DiskCall) (calls : CallsModel) (call : DiskCall)
     (step : List ℕ → List ℕ → Type 0) → ◌≡◌ {A = MemoryDiskModel} (record { first = first; log = log; calls = calls }) old
     → new ≡ log ++ call ∷ [] → ((image : List ℕ) → step image image) → StepsAt (state_after first log) call step
     → CrashStep (length old.log) (length new) (images_of old) (images_in first new) step
 passes_logged old first log new calls call step is more stays steps =
-    let P : MemoryDiskModel → List DiskCall → Type 0 = λ d l. CrashStep (length d.log) (length l) (images_of d) (images_in first l) step in
-    subst (λ (d : MemoryDiskModel). P d new) is
-    (subst (P (record { first = first; log = log; calls = calls })) (sym more)
-    (passes_one after_call IsImage (record { bytes = first; unsynced = [] }) log call step stays steps))
+    rw (← is, more) (passes_one after_call IsImage (record { bytes = first; unsynced = [] }) log call step stays steps)
 
 -- after a sync an image is what a read gives
 pub synced_bytes : (bytes image : List ℕ) → IsImage (record { bytes = bytes; unsynced = [] }) image → image ≡ bytes
@@ -63,17 +54,13 @@ image_synced s image h = record { length = h.length; synced = λ i. elim (h.sync
 
 -- a call that writes nothing
 steps_same : (s : DiskState) (done : Bool) (request : DiskRequest) → (IsWrite request → ⊥) → StepsAt s (record { request = request; done = done }) IsSame
-steps_same s done Len quiet image h = (image, h, refl)
-steps_same s done (Read at len) quiet image h = (image, h, refl)
 steps_same s true Sync quiet image h = (image, image_synced s image h, refl)
-steps_same s false Sync quiet image h = (image, h, refl)
 steps_same s done (Write at bytes) quiet image h = absurd (quiet _)
+steps_same s done request quiet image h = (image, h, refl)
 
 bytes_same : (s : DiskState) (done : Bool) (request : DiskRequest) → (IsWrite request → ⊥) → (after_request s done request).bytes ≡ s.bytes
-bytes_same s done Len quiet = refl
-bytes_same s done (Read at len) quiet = refl
-bytes_same s done Sync quiet = refl
 bytes_same s done (Write at bytes) quiet = absurd (quiet _)
+bytes_same s done request quiet = refl
 
 -- in the log
 pub same_images : {T E : Type 0} (old : MemoryDiskModel) (first : List ℕ) (log new : List DiskCall) (calls : CallsModel) (request : DiskRequest)

@@ -1,12 +1,8 @@
 -- Where the file with a name stands.
 use Rattle.std.proofs.Common.{◌≡◌, ℕ, zero, suc, ◌<◌, Bool, true, false, List, [], ◌∷◌, ◌++◌, length, take, Option, Some, None, IsSome, Result, Ok, Err, OnOk, OnErr, refl, ap, sym, subst, ◌∙◌, arith, get_or, length-append}
-use Rattle.std.proofs.Math.ListN.{get_or-append}
-use Rattle.std.proofs.lemmas.List.Elements.{All-append}
+use Rattle.sporc_memory.proofs.Common.{get_or-append, All-append, All, bytes_eq, file_in, made_in, with_bytes, with_file, without_file}
 use Rattle.std.proofs.lemmas.Slice.Eq.{bytes_eq-Decides}
-use Rattle.std.specs.List.{All}
-use Rattle.std.specs.Str.{bytes_eq}
 use Rattle.sporc_outside.proofs.Files.{file_in-without, same_bytes}
-use Rattle.sporc_outside.specs.Files.{file_in, made_in, with_bytes, with_file, without_file}
 use Rattle.sporc_outside.specs.declared.named_file.NamedFile.{NamedFile}
 use Rattle.sporc_memory.specs.MemoryFolderModel.{IsPlaceOf, HasEach}
 

@@ -1,6 +1,6 @@
 -- What is left of known bytes.
 use Rattle.std.proofs.Common.{◌≡◌, ℕ, ◌+◌, ◌-◌, ◌<◌, ◌≤◌, min, List, [], ◌++◌, length, take, drop, ap, ap₂, sym, ◌∙◌, arith, length-drop}
-use Rattle.std.proofs.lemmas.List.{take_all, length-take, take-append-le, take-append-drop, drop-drop, nil_from_length}
+use Rattle.sporc_memory.proofs.Common.{take_all, length-take, take-append-le, take-append-drop, drop-drop, nil_from_length}
 
 -- what is left from a place on
 pub left-is : (bytes : List ℕ) (at : ℕ) → take (length bytes - at) (drop at bytes) ≡ drop at bytes

@@ -6,3 +6,4 @@ mod ListedItems
 mod LoggedImages
 mod Spoiling
 pub mod DiskImages
+pub mod Common

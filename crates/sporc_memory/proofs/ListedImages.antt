@@ -1,10 +1,6 @@
 -- What is listed of a file in memory that is appended to is what a crash may leave.
 use Rattle.std.proofs.Common.{◌≡◌, ◌/◌, ℕ, zero, suc, inl, inr, List, [], ◌∷◌, ◌++◌, length, map, refl, ap, ap₂, sym, subst, ◌∙◌, arith, append-nil}
-use Rattle.std.proofs.lemmas.List.{map-append}
-use Rattle.std.specs.List.{All}
-use Rattle.std.proofs.lemmas.List.{take_all}
-use Rattle.std.proofs.lemmas.List.Elements.{All-append}
-use Rattle.sporc_memory.specs.MemoryAppendFile.{AppendState, IsImage, IsLoose, Loose, listed_of, some_images, three_of}
+use Rattle.sporc_memory.proofs.Common.{map-append, All, take_all, All-append, AppendState, IsImage, IsLoose, Loose, listed_of, some_images, three_of}
 
 each_of_three : (part : Loose) (parts : List Loose) → All (IsLoose (part ∷ parts)) (three_of part)
 each_of_three part parts zero d lt = inl (0, sym (append-nil part.bytes))

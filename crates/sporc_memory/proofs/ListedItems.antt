@@ -1,10 +1,6 @@
 -- Items that are taken from a list in turn.
 use Rattle.std.proofs.Common.{◌≡◌, ℕ, suc, ◌+◌, ◌<◌, List, [], ◌∷◌, ◌++◌, length, take, drop, get_or, ap, sym, subst, ◌∙◌, arith, add-one, length-append}
-use Rattle.std.specs.Prelude.{reverse}
-use Rattle.std.proofs.Math.ListN.{get_or-append}
-use Rattle.std.proofs.Math.Seq.{take-suc, drop-cons}
-use Rattle.std.proofs.lemmas.List.{reverse-append}
-use Rattle.sporc_memory.specs.MemoryNetModel.{AreFresh, IsFresh}
+use Rattle.sporc_memory.proofs.Common.{reverse, get_or-append, take-suc, drop-cons, reverse-append, AreFresh, IsFresh}
 use Rattle.sporc_memory.specs.declared.memory_link.MemoryLink.{MemoryLink}
 
 -- one more was given, and it was the first of those that were left

@@ -1,9 +1,6 @@
 -- What a crash may leave of what a log of calls tells, over one call.
 use Rattle.std.proofs.Common.{◌≡◌, ℕ, ◌+◌, ◌≤◌, inl, inr, List, [], ◌∷◌, ◌++◌, length, take, fold, subst, sym, arith, length-append}
-use Rattle.std.proofs.lemmas.List.{take-append-le, take_all}
-use Rattle.std.proofs.lemmas.List.Sums.{fold-append}
-use Rattle.std.proofs.Math.Nat.{eq-or-lt_of_le}
-use Rattle.sporc_outside.specs.LeafDisk.{CrashStep}
+use Rattle.sporc_memory.proofs.Common.{take-append-le, take_all, fold-append, eq-or-lt_of_le, CrashStep}
 
 module _ {S C : Type 0} (after : S → C → S) (IsImage : S → List ℕ → Type 0) where
   -- what a crash after the first m of these calls may leave

@@ -1,7 +1,6 @@
 -- A loop that puts one byte at each place that is in one of some ranges.
 use Rattle.std.proofs.Common.{◌≡◌, ◌⊎◌, ℕ, ◌+◌, ◌<◌, ◌≤◌, inl, inr, List, length, slice_index, set, length-set, subst, sym, ◌∙◌, arith, get_or-set_same, get_or-set_other}
-use Rattle.std.proofs.Math.Nat.{eq-or-lt_of_le}
-use Rattle.sporc_memory.specs.MemoryDisk.{IsUnsynced}
+use Rattle.sporc_memory.proofs.Common.{eq-or-lt_of_le, IsUnsynced}
 
 -- so far, as of these bytes
 pub record SpoiltTo (ranges : List (ℕ × ℕ)) (byte : ℕ) (at : ℕ) (old image : List ℕ) : Type 0 where

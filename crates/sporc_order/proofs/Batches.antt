@@ -1,15 +1,8 @@
 -- The entries that one answer holds, taken one by one.
 use Rattle.std.proofs.Common.{◌≡◌, ℕ, zero, suc, ◌+◌, ◌-◌, ◌<◌, ◌≤◌, Bool, true, false, cond, leb, ltb, List, [], ◌∷◌, ◌++◌, length, get_or, take, drop, map, refl, ap, sym, ◌∙◌, subst, append_assoc, arith, inl, inr, min}
-use Rattle.std.specs.Prelude.{◌&&◌, ◌↔◌}
-use Rattle.std.specs.Global.{Vec}
-use Rattle.std.proofs.lemmas.Bool.{ltb-true, ltb-false, leb-true, leb-false, cases_lt}
-use Rattle.std.proofs.lemmas.List.{append-nil, take_all, drop_all, length-drop, length-map}
+use Rattle.sporc_order.proofs.Common.{◌&&◌, ◌↔◌, Vec, ltb-true, ltb-false, leb-true, leb-false, cases_lt, append-nil, take_all, drop_all, length-drop, length-map, All, MAX_ENTRY, MAX_PULLED}
+use Rattle.sporc_order.proofs.Common.{MAX_PULLED_BYTES, longest_batch, batch_after}
 use Rattle.std.proofs.lemmas.List.Elements.{All-head, All-drop}
-use Rattle.std.specs.List.{All}
-use Rattle.sporc_entry.specs.declared.limits.TheConstants.{MAX_ENTRY}
-use Rattle.sporc_wire.specs.declared.to_client.TheConstants.{MAX_PULLED}
-use Rattle.sporc_order.specs.declared.order.TheConstants.{MAX_PULLED_BYTES}
-use Rattle.sporc_order.specs.Batches.{longest_batch, batch_after}
 
 abbrev pub bytes_of : Vec ℕ → List ℕ
 bytes_of v = v.items
@@ -72,14 +65,12 @@ has_room i room len h = go (ltb i MAX_PULLED) (leb (len + 4) room) refl refl h
 -- ---- the entries after some
 
 map_take : (n : ℕ) (vs : List (Vec ℕ)) → map bytes_of (take n vs) ≡ take n (map bytes_of vs)
-map_take zero vs = refl
-map_take (suc n) [] = refl
 map_take (suc n) (v ∷ vs) = ap (λ (l : List (List ℕ)). v.items ∷ l) (map_take n vs)
+map_take n vs = refl
 
 map_drop : (n : ℕ) (vs : List (Vec ℕ)) → map bytes_of (drop n vs) ≡ drop n (map bytes_of vs)
-map_drop zero vs = refl
-map_drop (suc n) [] = refl
 map_drop (suc n) (v ∷ vs) = map_drop n vs
+map_drop n vs = refl
 
 drop_min : {X : Type 0} (L : List X) (from k : ℕ) → k ≡ min from (length L) → drop k L ≡ drop from L
 drop_min L from k e = elim (cases_lt from (length L)) [

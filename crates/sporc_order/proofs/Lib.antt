@@ -1,3 +1,4 @@
 pub mod Batches
 pub mod Longest
 pub mod Sizes
+pub mod Common

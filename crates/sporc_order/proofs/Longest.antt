@@ -1,8 +1,6 @@
 -- A batch is the longest prefix within its limits.
 use Rattle.std.proofs.Common.{◌≡◌, ℕ, zero, suc, ◌+◌, ◌-◌, ◌≤◌, Bool, true, false, cond, leb, List, [], ◌∷◌, length, take, refl, ap, arith, flat_map, length-append}
-use Rattle.std.proofs.lemmas.Bool.{leb-false}
-use Rattle.sporc_bytes.specs.Fields.{counted}
-use Rattle.sporc_order.specs.Batches.{longest_batch}
+use Rattle.sporc_order.proofs.Common.{leb-false, counted, longest_batch}
 use Rattle.sporc_order.proofs.Sizes.{counted_len}
 
 prefix_by : (t : Bool) (e : List ℕ) (more es : List (List ℕ)) → more ≡ take (length more) es → cond t (e ∷ more) [] ≡ take (length (cond t (e ∷ more) [])) (e ∷ es)
@@ -10,10 +8,9 @@ prefix_by true e more es is = ap (λ (l : List (List ℕ)). e ∷ l) is
 prefix_by false e more es is = refl
 
 pub is_prefix : (k room : ℕ) (es : List (List ℕ)) → longest_batch k room es ≡ take (length (longest_batch k room es)) es
-is_prefix zero room es = refl
-is_prefix (suc k) room [] = refl
 is_prefix (suc k) room (e ∷ es) =
     prefix_by (leb (length e + 4) room) e (longest_batch k (room - (length e + 4)) es) es (is_prefix k (room - (length e + 4)) es)
+is_prefix k room es = refl
 
 longest_by : (t : Bool) (e : List ℕ) (more : List (List ℕ)) (n room : ℕ) → leb (length e + 4) room ≡ t → length e + 4 ≤ room → n ≤ length more → suc n ≤ length (cond t (e ∷ more) [])
 longest_by true e more n room is fits le = omega (arith, le)

@@ -1,8 +1,9 @@
 -- Commands of the generated run, performed one after another.
-use Rattle.std.proofs.Common.{◌≡◌, ℕ, zero, suc, ◌+◌, ◌*◌, ◌/◌, ◌%◌, ◌<◌, ◌≤◌, Bool, true, false, cond, eqb, List, [], ◌∷◌, ◌++◌, length, map, flat_map, refl, sym, ap, subst, ◌∙◌, arith, length-append, append-nil}
-use Rattle.sporc_play.proofs.Common.{Contains, encode_utf8, encode_utf8_all, encode_ascii, length-map, map-append, fold-append, Device, first_device, Command, MAX_SCRIPT, PlayState, HasRoom}
-use Rattle.sporc_play.proofs.Common.{IsAsked, Performs, up_to, batch, batches, edits, generated_cast, gives, inserts, removes, seen_len, submits, Scene, after, after_each, edit_size, opening}
-use Rattle.sporc_play.proofs.Common.{text_size, seated, IsCast, Becomes, CanPerform, StandsFor}
+use Rattle.std.proofs.Common.{◌≡◌, ℕ, zero, suc, ◌+◌, ◌*◌, ◌/◌, ◌%◌, ◌<◌, ◌≤◌, Bool, true, false, cond, eqb, List, [], ◌∷◌, ◌++◌, length, map, flat_map, refl, sym, ap, subst, ◌∙◌, arith}
+use Rattle.std.proofs.Common.{length-append, append-nil}
+use Rattle.sporc_play.proofs.Common.{Contains, encode_utf8, encode_utf8_all, encode_ascii, length-map, map-append, fold-append, Device, first_device, Command, MAX_SCRIPT, PlayState, HasRoom, IsAsked}
+use Rattle.sporc_play.proofs.Common.{Performs, up_to, batch, batches, edits, generated_cast, gives, inserts, removes, seen_len, submits, Scene, after, after_each, edit_size, opening, text_size}
+use Rattle.sporc_play.proofs.Common.{seated, IsCast, Becomes, CanPerform, StandsFor}
 use Rattle.std.proofs.lemmas.Grind.{flat_map-append}
 use Rattle.sporc_script.specs.declared.command.Command.TheVariants as commands
 use Rattle.sporc_script.specs.declared.command.Give.{Give}
@@ -37,11 +38,10 @@ has_room n k old new commands room does few = record {
 -- ---- the members
 
 pub by_member : (P : ℕ → Type 0) → P 1 → P 2 → P 3 → (m : ℕ) → IsAsked m → P m
-by_member P one two three zero is = absurd (omega (arith, is))
 by_member P one two three (suc zero) is = one
 by_member P one two three (suc (suc zero)) is = two
 by_member P one two three (suc (suc (suc zero))) is = three
-by_member P one two three (suc (suc (suc (suc m)))) is = absurd (omega (arith, is))
+by_member P one two three m is = absurd (omega (arith, is))
 
 all_seated : (setup_of generated_cast).devices ≡ first_device 1 ∷ first_device 2 ∷ first_device 3 ∷ []
 unfolding setup_of

@@ -1,19 +1,14 @@
 -- What a state becomes by a command, and what it tells, from what the calls on its parts did.
 use Rattle.std.proofs.Common.{◌≡◌, ℕ, ◌+◌, List, ◌++◌, length, map, get_or, refl, sym, ap, ◌∙◌, subst, Option, Some, Result, Ok, Err, Vec, Global}
 use Rattle.sporc_play.proofs.Common.{slice_get, option_to_list, OnOk, MemberChange, Device, first_device, PlainClient, Setup, Join, Forgery, Rogue, Seat, PlayState, member_change, setup_of}
-use Rattle.sporc_play.proofs.Common.{seat_joined, change_events, given_by, give_line, join_line, line_by}
-use Rattle.sporc_play.proofs.Common.{entries_at, entry_at, HasSubmitted, IsRogueAt, IsSeatAt, plain_in, seat_logged, submission_line, HasSigned, forged_by, signing_line, Becomes}
-use Rattle.sporc_play.proofs.Common.{IsCastOf, AppendsLineOf}
-use Rattle.std.proofs.lemmas.Option.{same_Some, slice_get_within}
+use Rattle.sporc_play.proofs.Common.{seat_joined, change_events, given_by, give_line, join_line, line_by, entries_at, entry_at, HasSubmitted, IsRogueAt, IsSeatAt, plain_in, seat_logged}
+use Rattle.sporc_play.proofs.Common.{submission_line, HasSigned, forged_by, signing_line, Becomes, IsCastOf, AppendsLineOf, same_Some, slice_get_within, RosterEdit}
 use Rattle.sporc_script.specs.declared.command.Command.TheVariants as commands
 use Rattle.sporc_script.specs.declared.command.Give.{Give}
-use Rattle.sporc_script.specs.declared.command.RosterEdit.{RosterEdit}
-use Rattle.sporc_play.proofs.Commands.{adds_stand, client_there, give_stands, told}
-use Rattle.sporc_play.proofs.Joins.{join_stands}
-use Rattle.sporc_play.proofs.MadeEntries.{rogue_there, sign_stands, signing_told}
+use Rattle.sporc_play.proofs.Commands.{adds_stand, client_there, give_stands, told, join_stands}
+use Rattle.sporc_play.proofs.Submissions.{rogue_there, sign_stands, signing_told, submission_told, submit_stands}
 use Rattle.sporc_play.proofs.Places.{element}
 use Rattle.sporc_play.proofs.Seating.{ChangesRogue, ChangesSeat}
-use Rattle.sporc_play.proofs.Submissions.{submission_told, submit_stands}
 
 -- the bytes of the entries that a state has made
 abbrev pub entries_of : PlayState → List (List ℕ)

@@ -1,7 +1,6 @@
 -- Leaf files of which no block is taken.
 use Rattle.std.proofs.Common.{◌≡◌, ℕ, zero, suc, refl}
-use Rattle.sporc_play.proofs.Common.{replicate}
-use Rattle.lms_leaf.specs.LeafFile.{taken_blocks}
+use Rattle.sporc_play.proofs.Common.{replicate, taken_blocks}
 
 pub none_taken : (n : ℕ) → taken_blocks (replicate n 0) ≡ 0
 none_taken zero = refl

@@ -1,50 +1,77 @@
 -- Plays in which clients make all entries are closed: what is handed out was signed by a client of the play.
-use Rattle.std.proofs.Common.{◌≡◌, ℕ, zero, suc, Bool, true, false, cond, List, [], ◌∷◌, ◌++◌, length, map, refl, sym, subst, arith, Option, None, Some, Result, Ok, Err}
-use Rattle.sporc_play.proofs.Common.{Contains, if◌then◌else◌, nat_le, AllByRecursion, Contains-append_left, Contains-append_right, Device, Founder, first_device, insert_by, Keys, hints_of, HintFault}
-use Rattle.sporc_play.proofs.Common.{open_checks, LineOpenFault, first_of, get, SubmitFault, Submitted, change_fault, discard_fault, edit_fault, Logged, Change, Discard, Edit, Submit, PlainClient}
-use Rattle.sporc_play.proofs.Common.{IsTypedRun, Setup, World, Move, Give, Happen, Open, Restart, after_all, start, gives_to, happens_to, restarts_in, Mark, IsPlayScript, Command, Tree, MemberRole}
-use Rattle.sporc_play.proofs.Common.{PlayLine, first_ring, founder_of, founders_of, has_admin, member_change, openers_by, public_of, tree_of, change_events, discard_events, edit_logged, logged_unless}
-use Rattle.sporc_play.proofs.Common.{moves_from, moves_of, Effect, Scene, effect_of, adds, commands_of, delta_by, edit_events, entries_at, entry_at, if_open, joins, nothing, opening, opening_moves}
-use Rattle.sporc_play.proofs.Common.{openings, opens_unless, opens_with, restarts, seen_by, submission_in, all_append}
-use Rattle.sporc_client.specs.declared.submitted.Submitted.TheVariants as submitted
+use Rattle.std.proofs.Common.{◌≡◌, ℕ, Bool, true, false, cond, List, [], ◌∷◌, ◌++◌, length, map, refl, sym, subst, arith, Option, None, Some, Result, Ok, Err, ap, ◌∙◌, append_assoc, ◌≤◌, inr}
+use Rattle.sporc_play.proofs.Common.{Contains, if◌then◌else◌, nat_le, AllByRecursion, Contains-append_right, Device, Founder, first_device, insert_by, Keys, hints_of, HintFault, open_checks}
+use Rattle.sporc_play.proofs.Common.{LineOpenFault, first_of, get, SubmitFault, Submitted, change_fault, discard_fault, edit_fault, Logged, Change, Discard, Edit, Submit, PlainClient, IsTypedRun}
+use Rattle.sporc_play.proofs.Common.{Setup, World, Move, Give, Happen, Open, Restart, after_all, start, happens_to, Mark, IsPlayScript, Command, Tree, MemberRole, all_added, PlayLine, first_ring}
+use Rattle.sporc_play.proofs.Common.{founder_of, founders_of, has_admin, member_change, openers_by, public_of, tree_of, change_events, discard_events, edit_logged, logged_unless, moves_from, moves_of}
+use Rattle.sporc_play.proofs.Common.{Effect, Scene, effect_of, adds, commands_of, delta_by, edit_events, entries_at, entry_at, if_open, joins, nothing, opening, opening_moves, openings, opens_unless}
+use Rattle.sporc_play.proofs.Common.{opens_with, restarts, seen_by, submission_in, all_append, and_parts, InRange, declarations, may_follow, names_performers, Join, IsOneRun, Consumes, IsAtEnd, IfErr}
+use Rattle.sporc_play.proofs.Common.{OnOk, OnErr, MAX_SCRIPT, IsWriteCause, PlayOutcome, ReadsScript, ReadsWhole, Reports, ReportsPrefix, Genuine, RosterChange, PlayFault, stay_signed}
 use Rattle.sporc_client.specs.Closed.{AreClosed, HasItsKey, IsClosedMove, IsSigned}
-use Rattle.sporc_client.specs.Genuine.{Genuine}
-use Rattle.sporc_client.specs.Run.{Signing, after, signings}
+use Rattle.sporc_client.specs.Run.{after}
 use Rattle.sporc_client.proofs.ClosedRuns.{closed_runs_are_genuine}
-use Rattle.sporc_script.specs.declared.command.Command.TheVariants as commands
-use Rattle.sporc_script.specs.declared.roster_change.RosterChange.{RosterChange}
-use Rattle.sporc_script.specs.declared.roster_change.RosterChange.TheVariants as changes
 use Rattle.sporc_play.specs.Cast.{setup_of}
 use Rattle.sporc_play.specs.OwnPlays.{AreByClients, IsByClients}
 use Rattle.sporc_play.specs.Scene.{gives, submits}
+use Rattle.sporc_play.proofs.Founders.{founders, inserted}
+use Rattle.sporc_play.proofs.Places.{all_each}
+use Rattle.sporc_play.proofs.Seating.{if_open_has}
+use Rattle.sporc_play.proofs.Acts.{change_acts, cut_acts, discard_acts, edit_acts, flip_acts, give_acts, no_act, restart_acts, made_has}
+use Rattle.sporc_play.proofs.FirstMoves.{first_run}
+use Rattle.sporc_play.proofs.Runs.{MayBe, one_run_of, typed_play}
+use Rattle.sporc_play.proofs.SubmitActs.{sign_acts, submit_acts}
+use Rattle.sporc_play.proofs.JoinActs.{join_acts}
+use Rattle.sporc_play.proofs.Scripts.{Follows, joiner_before, script_follows}
+use Rattle.sporc_outside.specs.Uses.{Use}
+use Rattle.sporc_outside.specs.Streams.{StreamTold}
+use Rattle.sporc_client.specs.declared.submitted.Submitted.TheVariants as submitted
+use Rattle.sporc_script.specs.declared.command.Command.TheVariants as commands
+use Rattle.sporc_script.specs.declared.roster_change.RosterChange.TheVariants as changes
 use Rattle.sporc_play.specs.Scene as scenes
-use Rattle.sporc_play.proofs.Founders.{all_added, founders, inserted}
-use Rattle.sporc_play.proofs.OneRun.{typed_run}
-use Rattle.sporc_play.proofs.Places.{at_place, all_each}
-use Rattle.sporc_play.proofs.Moved.{if_open_has}
+use Rattle.sporc_play.specs.declared.fault.PlayFault.TheVariants as faults
+
+-- ---- a script's play is one run
+
+-- ---- all commands
+
+command_acts : (script : List PlayLine) (c : Command) → InRange c → ((j : Join) → c ≡ commands.Join j → Contains (setup_of script).devices j.device) → MayBe (setup_of script) (λ scene. c)
+command_acts script (commands.Edit e) fits among = edit_acts (setup_of script) e fits.2
+command_acts script (commands.Change e) fits among = change_acts script e fits.1
+command_acts script (commands.Discard who) fits among = discard_acts (setup_of script) who
+command_acts script (commands.Submit who) fits among = submit_acts script who
+command_acts script (commands.Give g) fits among = give_acts (setup_of script) g
+command_acts script (commands.Restart r) fits among = restart_acts (setup_of script) r
+command_acts script (commands.Join j) fits among = join_acts (setup_of script) j (among j refl)
+command_acts script (commands.Flip f) fits among = flip_acts (setup_of script) f
+command_acts script (commands.Cut n) fits among = cut_acts (setup_of script) n
+command_acts script (commands.Sign f) fits among = sign_acts script f fits
+command_acts script c fits among = λ moves scene come. no_act (setup_of script) scene
+
+-- one whom a line lets join has a device that may open
+joiner_there : (before lines : List PlayLine) (c : Command) → may_follow (declarations before) c ≡ true → (j : Join) → c ≡ commands.Join j → Contains (setup_of (before ++ lines)).devices j.device
+unfolding setup_of
+joiner_there before lines c may j is =
+    let here : may_follow (declarations before) (commands.Join j) ≡ true = ap (may_follow (declarations before)) (sym is) ∙ may in
+    joiner_before before lines j.device (and_parts (declarations before).has_admin (names_performers (declarations before) (commands.Join j)) here).1
+
+all_act : (script before lines : List PlayLine) → before ++ lines ≡ script → Follows before lines → AllByRecursion (MayBe (setup_of script)) (commands_of lines)
+all_act script before [] whole all = tt
+all_act script before (l ∷ ls) whole all = (
+  command_acts script l.command all.1 (λ j is. subst (λ (s : List PlayLine). Contains (setup_of s).devices j.device) whole (joiner_there before (l ∷ ls) l.command all.0 j is)),
+  all_act script (before ++ l ∷ []) ls (append_assoc before (l ∷ []) ls ∙ whole) all.2,
+)
+
+pub typed_run : (text : List ℕ) (script : List PlayLine) → IsPlayScript text script → has_admin script ≡ true → IsTypedRun (setup_of script) (moves_of script (commands_of script))
+typed_run text script is founded =
+    let all = script_follows text script is in typed_play script (commands_of script) (first_run script all founded) (all_act script [] script refl all)
+
+pub one_run : (text : List ℕ) (script : List PlayLine) → IsPlayScript text script → has_admin script ≡ true → IsOneRun script (commands_of script)
+one_run text script is founded = one_run_of script (commands_of script) (typed_run text script is founded)
 
 -- ---- what was signed stays signed
 
-more_signed : (w v : World) (bytes : List ℕ) → ((x : Signing) → Contains w.signed x → Contains v.signed x) → IsSigned w bytes → IsSigned v bytes
-more_signed w v bytes keeps (x, there, entry) = (x, keeps x there, entry)
-
 stays_signed : (s : Setup) (w : World) (move : Move) (bytes : List ℕ) → IsSigned w bytes → IsSigned (after s w move) bytes
-stays_signed s w (Open who ring) bytes is = is
-stays_signed s w (Happen who event) bytes is = go (w.clients who)
-  where
-    go : (o : Option PlainClient) → IsSigned (happens_to w who event o) bytes
-    go None = is
-    go (Some c) = more_signed w (happens_to w who event (Some c)) bytes (λ x there. Contains-append_left w.signed (signings who c event) x there) is
-stays_signed s w (Give who position entry) bytes is = go (w.clients who)
-  where
-    go : (o : Option PlainClient) → IsSigned (gives_to w who position entry o) bytes
-    go None = is
-    go (Some c) = is
-stays_signed s w (Restart who k) bytes is = go (w.clients who)
-  where
-    go : (o : Option PlainClient) → IsSigned (restarts_in w who k o) bytes
-    go None = is
-    go (Some c) = is
+stays_signed s w move bytes (x, there, entry) = (x, stay_signed s w move x there, entry)
 
 all_stay : (s : Setup) (w : World) (moves : List Move) (made : List (List ℕ)) → AllByRecursion (IsSigned w) made → AllByRecursion (IsSigned (after_all s w moves)) made
 all_stay s w [] made all = all
@@ -72,11 +99,8 @@ own_edit s scene who c seen (Some marks) = own_event s scene who (edit_fault c s
 
 own_change : (s : Setup) (scene : Scene) (who : Device) (change : RosterChange) → IsClosedMove s scene.world (Happen who (Change 0 (member_change s change)))
 own_change s scene who (changes.Add r) = λ among. refl
-own_change s scene who (changes.Remove r) = tt
-own_change s scene who (changes.SetRole r) = tt
 own_change s scene who (changes.AddDevice d) = λ among. refl
-own_change s scene who (changes.DropDevice d) = tt
-own_change s scene who changes.Upgrade = tt
+own_change s scene who change = tt
 
 signed_now : (s : Setup) (w : World) (device : Device) (c : PlainClient) (bytes : List ℕ) → w.clients device ≡ Some c → IsSigned (after s w (Happen device (Submit 0 bytes))) bytes
 signed_now s w device c bytes at = subst (λ (o : Option PlainClient). IsSigned (happens_to w device (Submit 0 bytes) o) bytes) (sym at)
@@ -85,17 +109,11 @@ signed_now s w device c bytes at = subst (λ (o : Option PlainClient). IsSigned 
 own_submission : (s : Setup) (scene : Scene) (who : Device) (c : PlainClient) (r : Result Submitted SubmitFault) → scene.world.clients who ≡ Some c → IsOwn s scene (submits who r)
 own_submission s scene who c (Ok (submitted.Entry bytes)) at = record { closed = (tt, tt); made = (signed_now s scene.world who c bytes at, tt) }
 own_submission s scene who c (Ok (submitted.Dropped fault)) at = record { closed = (tt, tt); made = tt }
-own_submission s scene who c (Ok submitted.Waiting) at = no_own s scene
-own_submission s scene who c (Ok submitted.Nothing) at = no_own s scene
-own_submission s scene who c (Err fault) at = no_own s scene
-
-found_signed : (w : World) (made : List (List ℕ)) (number : ℕ) (bytes : List ℕ) → AllByRecursion (IsSigned w) made → entry_at made number ≡ Some bytes → IsSigned w bytes
-found_signed w made zero bytes all at = absurd cc
-found_signed w made (suc n) bytes all at = at_place (IsSigned w) made n bytes all at
+own_submission s scene who c answer at = no_own s scene
 
 own_give : (s : Setup) (scene : Scene) (who : Device) (position number : ℕ) (o : Option (List ℕ)) → AllByRecursion (IsSigned scene.world) scene.made → entry_at scene.made number ≡ o → IsOwn s scene (gives who position o)
 own_give s scene who position number None all at = no_own s scene
-own_give s scene who position number (Some bytes) all at = record { closed = (found_signed scene.world scene.made number bytes all at, tt); made = tt }
+own_give s scene who position number (Some bytes) all at = record { closed = (made_has (IsSigned scene.world) scene.made number bytes all at, tt); made = tt }
 
 own_restart : (s : Setup) (scene : Scene) (who : Device) (k : ℕ) (c : PlainClient) → IsOwn s scene (restarts who k c)
 own_restart s scene who k c = go (nat_le k (length c.entries))
@@ -170,19 +188,18 @@ first_closed s script = go (has_admin script)
 
 -- ---- the founders
 
-keys_own : (script : List PlayLine) (founders : List Founder) → AllByRecursion (λ (f : Founder). f.key ≡ public_of (tree_of script) (first_device f.member)) founders → AllByRecursion (HasItsKey (setup_of script)) founders
-unfolding setup_of
-keys_own script [] all = tt
-keys_own script (f ∷ fs) all = ((λ among. all.0), keys_own script fs all.1)
-
 founders_own : (tree : Tree) (fs : List Founder) (ms : List MemberRole) → AllByRecursion (λ (f : Founder). f.key ≡ public_of tree (first_device f.member)) fs
     → AllByRecursion (λ (f : Founder). f.key ≡ public_of tree (first_device f.member)) (inserted tree fs ms)
 founders_own tree fs [] all = all
-founders_own tree fs (m ∷ ms) all = founders_own tree (insert_by (λ (f : Founder). f.member) (founder_of tree m) fs) ms (all_added (λ (f : Founder). f.key ≡ public_of tree (first_device f.member)) (founder_of tree m) fs refl all)
+founders_own tree fs (m ∷ ms) all =
+    founders_own tree (insert_by (λ (f : Founder). f.member) (founder_of tree m) fs) ms
+    (all_added (λ (f : Founder). f.key ≡ public_of tree (first_device f.member)) (λ (f : Founder). f.member) (founder_of tree m) fs refl all)
 
 founders_keys : (script : List PlayLine) → AllByRecursion (HasItsKey (setup_of script)) (setup_of script).genesis.founders
 unfolding setup_of
-founders_keys script = keys_own script (inserted (tree_of script) [] (founders script)) (founders_own (tree_of script) [] (founders script) tt)
+founders_keys script =
+    all_each (λ (f : Founder). f.key ≡ public_of (tree_of script) (first_device f.member)) (HasItsKey (setup_of script)) (inserted (tree_of script) [] (founders script)) (λ f is. λ among. is)
+    (founders_own (tree_of script) [] (founders script) tt)
 
 -- no one forges in a run of commands that make no entry but by a client's submission
 pub own_commands : (script : List PlayLine) (asked : List (Scene → Command)) → IsTypedRun (setup_of script) (moves_of script asked) → AllByRecursion AlwaysByClients asked → Genuine (setup_of script) (moves_of script asked)
@@ -195,3 +212,26 @@ own_commands script asked run by =
 
 pub own_play : (text : List ℕ) (script : List PlayLine) → IsPlayScript text script → has_admin script ≡ true → AreByClients script → Genuine (setup_of script) (moves_of script (commands_of script))
 own_play text script is founded by = own_commands script (commands_of script) (typed_run text script is founded) (lines_by_clients script by)
+
+-- ---- what a play did, from what its parts did
+
+reads_script : (source : Use StreamTold) (text : List ℕ) (script : List PlayLine) → ReadsWhole source text → IsPlayScript text script → ReadsScript source script
+reads_script source text script whole is = record { text = text; whole = whole; reads = is; one_run = one_run text script is; genuine = own_play text script is }
+
+-- a script whose report was written, or a prefix of it
+reported : {T : Type 0} (source : Use StreamTold) (out : Use StreamTold) (script : List PlayLine) (r : Result T PlayFault) → ReadsScript source script
+    → OnOk r (Reports script out.before.written out.after.written) → OnErr r (ReportsPrefix script out.before.written out.after.written)
+    → IfErr r (IsWriteCause out.before.faults out.after.faults) → PlayOutcome source out r
+reported source out script (Ok done) reads ok err cause = (script, reads, ok)
+reported source out script (Err faults.Memory) reads ok err cause = inr (script, reads, err)
+reported source out script (Err faults.WriteFault) reads ok err cause = (cause, (script, reads, err))
+reported source out script r reads ok err cause = absurd cause
+
+pub played : {T : Type 0} (source : Use StreamTold) (out : Use StreamTold) (text seen : List ℕ) (script performed : List PlayLine) (r : Result T PlayFault)
+    → Consumes source.before.left source.after.left text → IsAtEnd source.after.left → length text ≤ MAX_SCRIPT → seen ≡ text → IsPlayScript seen script → performed ≡ script
+    → OnOk r (Reports performed out.before.written out.after.written) → OnErr r (ReportsPrefix performed out.before.written out.after.written)
+    → IfErr r (IsWriteCause out.before.faults out.after.faults) → PlayOutcome source out r
+played source out text seen script performed r all ended within same is one ok err cause =
+    let whole : ReadsWhole source text = record { all = all; ended = ended; within = within } in
+    let reads = reads_script source text performed whole (subst (λ (t : List ℕ). IsPlayScript t performed) same (subst (λ (s : List PlayLine). IsPlayScript seen s) (sym one) is)) in
+    reported source out performed r reads ok err cause

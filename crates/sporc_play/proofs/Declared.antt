@@ -1,20 +1,9 @@
 -- What a line declares, and what there is then.
 use Rattle.std.proofs.Common.{◌≡◌, ℕ, List, [], ◌∷◌, ◌++◌, map, fold, refl, sym, ap, ◌∙◌, subst, append-nil, Option, None, Some}
-use Rattle.sporc_play.proofs.Common.{filter_map, AllByRecursion, cons_option, filter_map-append, fold-append, Device, Founder, first_device, insert_by, Command, Tree, MemberRole, PlayLine, Rogue, Seat}
-use Rattle.sporc_play.proofs.Common.{declared_member, device_by, founder_by, founder_of, public_of, rogue_by, unpaired_by, HasRogue, HasSat, HaveDeclared, IsFresh, IsFreshRogue, IsNamed, founders_by}
-use Rattle.sporc_play.proofs.Common.{rogue_devices, seated}
+use Rattle.sporc_play.proofs.Common.{filter_map, AllByRecursion, cons_option, filter_map-append, fold-append, Device, Founder, first_device, insert_by, Command, Tree, MemberRole, PlayLine, Rogue}
+use Rattle.sporc_play.proofs.Common.{Seat, declared_member, device_by, founder_by, founder_of, public_of, rogue_by, unpaired_by, HasRogue, HasSat, HaveDeclared, IsFresh, IsFreshRogue, IsNamed}
+use Rattle.sporc_play.proofs.Common.{all_append, map-append, founders_by, rogue_devices, seated, Pair, Cast, Declared}
 use Rattle.sporc_script.specs.declared.command.Command.TheVariants as commands
-use Rattle.sporc_script.specs.declared.command.Pair.{Pair}
-use Rattle.sporc_play.specs.declared.cast.Cast.{Cast}
-use Rattle.sporc_play.specs.declared.cast.Declared.{Declared}
-
-all_push : {X : Type 0} (P : X → Type 0) (xs : List X) (x : X) → AllByRecursion P xs → P x → AllByRecursion P (xs ++ x ∷ [])
-all_push P [] x all p = (p, tt)
-all_push P (y ∷ ys) x all p = (all.0, all_push P ys x all.1 p)
-
-map_push : {X Y : Type 0} (f : X → Y) (xs : List X) (x : X) → map f (xs ++ x ∷ []) ≡ map f xs ++ f x ∷ []
-map_push f [] x = refl
-map_push {Y = Y} f (y ∷ ys) x = ap (λ (zs : List Y). f y ∷ zs) (map_push f ys x)
 
 -- one line more: what it adds to a list that is read off the lines
 more : {Y : Type 0} (f : Command → Option Y) (lines : List PlayLine) (l : PlayLine) (c : Command) → l.command ≡ c
@@ -53,10 +42,10 @@ record Names (tree : Tree) (lines : List PlayLine) (l : PlayLine) (cast : Cast) 
 named : (tree : Tree) (lines : List PlayLine) (l : PlayLine) (c : Command) (m : ℕ) (key : List ℕ) (cast new : Cast) (seats : List Seat) (rogues : List Rogue) → HaveDeclared tree lines cast seats rogues → l.command ≡ c → declared_member c ≡ Some m
     → key ≡ public_of cast.tree (first_device m) → IsNamed m key cast new → Names tree lines l new
 named tree lines l c m key cast new seats rogues known is own key_is did = record {
-  declared = ap (map (λ (d : Declared). d.member)) did.declared ∙ map_push (λ (d : Declared). d.member) cast.declared.items (record { member = m; key = key })
+  declared = ap (map (λ (d : Declared). d.member)) did.declared ∙ map-append (λ (d : Declared). d.member) cast.declared.items (record { member = m; key = key } ∷ [])
       ∙ push_more declared_member lines l c (map (λ (d : Declared). d.member) cast.declared.items) m is own known.declared;
   keys = subst (AllByRecursion (λ (d : Declared). d.key ≡ public_of tree (first_device d.member))) (sym did.declared)
-      (all_push (λ (d : Declared). d.key ≡ public_of tree (first_device d.member)) cast.declared.items (record { member = m; key = key }) known.keys (key_is ∙ ap (λ (t : Tree). public_of t (first_device m)) known.tree_is));
+      (all_append (λ (d : Declared). d.key ≡ public_of tree (first_device d.member)) cast.declared.items (record { member = m; key = key } ∷ []) known.keys (key_is ∙ ap (λ (t : Tree). public_of t (first_device m)) known.tree_is, tt));
 }
 
 pub member_declared : (tree : Tree) (lines : List PlayLine) (l : PlayLine) (m : MemberRole) (cast mid new : Cast) (seats seats' : List Seat) (rogues : List Rogue) (key : List ℕ) → HaveDeclared tree lines cast seats rogues → l.command ≡ commands.Member m
@@ -72,8 +61,8 @@ member_declared tree lines l m cast mid new seats seats' rogues key known is key
       founders = founders ∙ ap (insert_by (λ (f : Founder). f.member) (record { member = m.member; role = m.role; key = key })) (did.founders ∙ known.founders)
           ∙ ap (λ (k : List ℕ). insert_by (λ (f : Founder). f.member) (record { member = m.member; role = m.role; key = k }) (founders_by tree lines)) (key_is ∙ ap (λ (t : Tree). public_of t (first_device m.member)) known.tree_is)
           ∙ sym (founders_more tree lines l m (ap founder_by is));
-      fresh = subst (AllByRecursion (IsFresh tree)) (sym sat.pushed) (all_push (IsFresh tree) seats sat.seat known.fresh (subst (λ (t : Tree). IsFresh t sat.seat) known.tree_is sat.fresh));
-      seated_are = ap seated sat.pushed ∙ map_push (λ (x : Seat). x.device) seats sat.seat ∙ ap (λ (d : Device). seated seats ++ d ∷ []) sat.own ∙ push_more device_by lines l (commands.Member m) (seated seats) (first_device m.member) is refl known.seated_are;
+      fresh = subst (AllByRecursion (IsFresh tree)) (sym sat.pushed) (all_append (IsFresh tree) seats (sat.seat ∷ []) known.fresh (subst (λ (t : Tree). IsFresh t sat.seat) known.tree_is sat.fresh, tt));
+      seated_are = ap seated sat.pushed ∙ map-append (λ (x : Seat). x.device) seats (sat.seat ∷ []) ∙ ap (λ (d : Device). seated seats ++ d ∷ []) sat.own ∙ push_more device_by lines l (commands.Member m) (seated seats) (first_device m.member) is refl known.seated_are;
       fresh_rogues = known.fresh_rogues;
       rogues_are = same_more rogue_by lines l (commands.Member m) (rogue_devices rogues) is refl known.rogues_are;
     }
@@ -93,8 +82,8 @@ rogue_declared tree lines l m cast mid new seats rogues rogues' key known is key
           ∙ sym (founders_more tree lines l m (ap founder_by is));
       fresh = known.fresh;
       seated_are = same_more device_by lines l (commands.Rogue m) (seated seats) is refl known.seated_are;
-      fresh_rogues = subst (AllByRecursion (IsFreshRogue tree)) (sym sat.pushed) (all_push (IsFreshRogue tree) rogues sat.rogue known.fresh_rogues (subst (λ (t : Tree). IsFreshRogue t sat.rogue) known.tree_is sat.fresh));
-      rogues_are = ap rogue_devices sat.pushed ∙ map_push (λ (x : Rogue). x.device) rogues sat.rogue ∙ ap (λ (d : Device). rogue_devices rogues ++ d ∷ []) sat.own
+      fresh_rogues = subst (AllByRecursion (IsFreshRogue tree)) (sym sat.pushed) (all_append (IsFreshRogue tree) rogues (sat.rogue ∷ []) known.fresh_rogues (subst (λ (t : Tree). IsFreshRogue t sat.rogue) known.tree_is sat.fresh, tt));
+      rogues_are = ap rogue_devices sat.pushed ∙ map-append (λ (x : Rogue). x.device) rogues (sat.rogue ∷ []) ∙ ap (λ (d : Device). rogue_devices rogues ++ d ∷ []) sat.own
           ∙ push_more rogue_by lines l (commands.Rogue m) (rogue_devices rogues) (first_device m.member) is refl known.rogues_are;
     }
 
@@ -108,8 +97,8 @@ joiner_declared tree lines l m cast new seats seats' rogues key known is key_is 
       keys = names.keys;
       unpaired = same_more unpaired_by lines l (commands.Joiner m) new.unpaired.items is refl (did.unpaired ∙ known.unpaired);
       founders = did.founders ∙ known.founders ∙ sym (founders_same tree lines l (ap founder_by is));
-      fresh = subst (AllByRecursion (IsFresh tree)) (sym sat.pushed) (all_push (IsFresh tree) seats sat.seat known.fresh (subst (λ (t : Tree). IsFresh t sat.seat) known.tree_is sat.fresh));
-      seated_are = ap seated sat.pushed ∙ map_push (λ (x : Seat). x.device) seats sat.seat ∙ ap (λ (d : Device). seated seats ++ d ∷ []) sat.own ∙ push_more device_by lines l (commands.Joiner m) (seated seats) (first_device m) is refl known.seated_are;
+      fresh = subst (AllByRecursion (IsFresh tree)) (sym sat.pushed) (all_append (IsFresh tree) seats (sat.seat ∷ []) known.fresh (subst (λ (t : Tree). IsFresh t sat.seat) known.tree_is sat.fresh, tt));
+      seated_are = ap seated sat.pushed ∙ map-append (λ (x : Seat). x.device) seats (sat.seat ∷ []) ∙ ap (λ (d : Device). seated seats ++ d ∷ []) sat.own ∙ push_more device_by lines l (commands.Joiner m) (seated seats) (first_device m) is refl known.seated_are;
       fresh_rogues = known.fresh_rogues;
       rogues_are = same_more rogue_by lines l (commands.Joiner m) (rogue_devices rogues) is refl known.rogues_are;
     }
@@ -136,8 +125,8 @@ device_declared tree lines l who cast seats seats' rogues known is sat = record 
   keys = known.keys;
   unpaired = same_more unpaired_by lines l (commands.Device who) cast.unpaired.items is refl known.unpaired;
   founders = known.founders ∙ sym (founders_same tree lines l (ap founder_by is));
-  fresh = subst (AllByRecursion (IsFresh tree)) (sym sat.pushed) (all_push (IsFresh tree) seats sat.seat known.fresh (subst (λ (t : Tree). IsFresh t sat.seat) known.tree_is sat.fresh));
-  seated_are = ap seated sat.pushed ∙ map_push (λ (x : Seat). x.device) seats sat.seat ∙ ap (λ (d : Device). seated seats ++ d ∷ []) sat.own ∙ push_more device_by lines l (commands.Device who) (seated seats) who is refl known.seated_are;
+  fresh = subst (AllByRecursion (IsFresh tree)) (sym sat.pushed) (all_append (IsFresh tree) seats (sat.seat ∷ []) known.fresh (subst (λ (t : Tree). IsFresh t sat.seat) known.tree_is sat.fresh, tt));
+  seated_are = ap seated sat.pushed ∙ map-append (λ (x : Seat). x.device) seats (sat.seat ∷ []) ∙ ap (λ (d : Device). seated seats ++ d ∷ []) sat.own ∙ push_more device_by lines l (commands.Device who) (seated seats) who is refl known.seated_are;
   fresh_rogues = known.fresh_rogues;
   rogues_are = same_more rogue_by lines l (commands.Device who) (rogue_devices rogues) is refl known.rogues_are;
 }

@@ -1,15 +1,15 @@
 -- The moves by which the founders open their clients are a run.
 use Rattle.std.proofs.Common.{◌≡◌, ℕ, suc, ◌^◌, ◌<◌, Bool, true, cond, eqb, List, [], ◌∷◌, ◌++◌, length, map, refl, sym, ap, ◌∙◌, subst, arith, Option, Some, inl, inr}
 use Rattle.sporc_play.proofs.Common.{Contains, IsSomeAnd, filter_map, if◌then◌else◌, nat_cmp_total, unsigned_tied, empty, get, get-insert, AllByRecursion, nat_cmp, eq_by_cmp, length-sha256}
-use Rattle.sporc_play.proofs.Common.{commitment_of, Keys, Setup, Move, World, IsRun, Open, start, AreEpochKeys, IsTypedMove, IsTypedRun, Device, Founder, first_device, InRange, Command}
-use Rattle.sporc_play.proofs.Common.{PlayLine, device_by, first_ring, founders_of, has_admin, opener_by, openers_by, first_key, opening_moves, openings}
+use Rattle.sporc_play.proofs.Common.{commitment_of, Keys, Setup, Move, World, IsRun, Open, start, AreEpochKeys, IsTypedMove, IsTypedRun, Device, Founder, first_device, InRange, Command, PlayLine}
+use Rattle.sporc_play.proofs.Common.{device_by, first_ring, founders_of, has_admin, opener_by, openers_by, first_key, opening_moves, openings}
 use Rattle.sporc_client.specs.Run.{after}
 use Rattle.sporc_client.specs.WellFormed.{IsWellFormed}
 use Rattle.sporc_script.specs.declared.command.Command.TheVariants as commands
 use Rattle.sporc_play.specs.Cast.{setup_of}
 use Rattle.sporc_play.proofs.Founders.{lines_declared}
 use Rattle.sporc_play.proofs.Openings.{opener_device}
-use Rattle.sporc_play.proofs.OwnKeys.{half_len}
+use Rattle.sporc_play.proofs.MadeBytes.{half_len}
 use Rattle.sporc_play.proofs.Places.{among_cases, among_here, among_more, all_mapped}
 use Rattle.sporc_play.proofs.Scripts.{Follows}
 use Rattle.sporc_play.proofs.Runs.{first_ring_has}

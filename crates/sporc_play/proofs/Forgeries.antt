@@ -1,150 +1,86 @@
 -- What a rogue's entry holds, and how long it is.
-use Rattle.std.proofs.Common.{◌≡◌, ℕ, ◌+◌, ◌*◌, ◌<◌, ◌≤◌, ◌^◌, Bool, true, false, cond, eqb, ltb, not, List, [], ◌∷◌, ◌++◌, length, leb, take, drop, map, filter, fold, flat_map, Option, Some, None, refl, ap, sym, ◌∙◌, arith, length-append}
-use Rattle.sporc_play.proofs.Common.{le-leb, Result, Ok, Err, is_none, option_map, length-map, w16, to_be_bytes, AllByRecursion, cons_option, nat_cmp, eq_by_cmp, nat_cmp_total, unsigned_tied, empty}
-use Rattle.sporc_play.proofs.Common.{get, get-insert, length-sha256, LeafFault, LmsPrivate, height_of, mask_of, MAX_MEMBERS, MemberChange, first_device, role_code_of, Roster, after_change}
-use Rattle.sporc_play.proofs.Common.{change_fault_of, numbers_of, ChangeBody, Entry, Genesis, Header, Wrap, change_bytes, wrap_bytes, entry_bytes, signed_string, IsGenesis, fits_version}
-use Rattle.sporc_play.proofs.Common.{Keys, previous_stream, count_of, epoch_of, hash_of, roster_of, Good, Kit, PlainClient, Setup, Forgery, Suffix, pair_key, random_of}
-use Rattle.sporc_play.proofs.Common.{IsSmallBody, base_by, derived_pairs, device_in, epoch_by, first_flipped, forged_body, forged_change, forged_header, forged_sealing, key_there, kind_of, number_by}
-use Rattle.sporc_play.proofs.Common.{sealed_for, spoiled, unsigned_by, value_at, version_by, wrap_flipped, leaf_after, IsTrue, AreDrawn}
-use Rattle.std.proofs.lemmas.List.Concat.{flat_map-cons}
-use Rattle.std.proofs.lemmas.Bool.Decides.{nat_tests}
+use Rattle.std.proofs.Common.{◌≡◌, ℕ, ◌+◌, ◌<◌, ◌≤◌, ◌^◌, Bool, true, false, cond, eqb, ltb, not, List, [], ◌∷◌, length, leb, take, drop, map, filter, fold, Option, Some, None, refl, ap, sym, subst}
+use Rattle.std.proofs.Common.{◌∙◌, arith, eq-eqb, option_map, Result}
+use Rattle.sporc_play.proofs.Common.{le-leb, Ok, Err, is_none, length-map, nat_cmp, eq_by_cmp, nat_cmp_total, unsigned_tied, empty, get, get-insert, length-sha256, LeafFault, LmsPrivate, height_of}
+use Rattle.sporc_play.proofs.Common.{mask_of, MAX_MEMBERS, MemberChange, first_device, Roster, after_change, change_fault_of, numbers_of, ChangeBody, Entry, Genesis, Header, Wrap, entry_bytes}
+use Rattle.sporc_play.proofs.Common.{signed_string, IsGenesis, fits_version, Keys, previous_stream, count_of, epoch_of, hash_of, roster_of, Good, Kit, PlainClient, Setup, Forgery, Suffix, pair_key}
+use Rattle.sporc_play.proofs.Common.{random_of, IsSmallBody, base_by, derived_pairs, device_in, epoch_by, first_flipped, forged_body, forged_change, forged_header, forged_sealing, key_there, kind_of}
+use Rattle.sporc_play.proofs.Common.{number_by, sealed_for, spoiled, unsigned_by, value_at, version_by, wrap_flipped, leaf_after, IsTrue, AreDrawn, nat_tests, length-mask_from, ChangeFault, NoPairKey}
+use Rattle.sporc_play.proofs.Common.{length-filter, count_by-le-length, LeavesModel, all_filter, all_map, lt-ltb, is_some, sign_line, signed_line, change_body_bytes, ⊤}
+use Rattle.sha2.specs.Sha256.{sha256}
 use Rattle.lms_leaf.specs.declared.faults.LeafFault.TheVariants.{Exhausted}
 use Rattle.lms_tree.specs.Signatures.{lms_signature_of}
-use Rattle.sporc_cipher.proofs.Stream.{length-mask_from}
-use Rattle.sporc_member.specs.declared.change.Change.TheVariants as changes
-use Rattle.sporc_member.specs.declared.change.ChangeFault.{ChangeFault}
-use Rattle.sporc_entry.specs.ChangeBody.{change_body_bytes}
-use Rattle.sporc_epoch.specs.declared.fault.SealFault.TheVariants.{NoPairKey}
-use Rattle.sporc_epoch.specs.Sealing.{Sealing, body_sealed, change_sealed, least_of, least_unpaired, wraps_sealed}
-use Rattle.sporc_epoch.proofs.SpelledBodies.{wraps_few}
+use Rattle.sporc_entry.proofs.BodyLengths.{length-body}
+use Rattle.sporc_epoch.specs.Sealing.{Sealing, body_sealed, change_sealed, least_of, least_unpaired}
+use Rattle.sporc_epoch.proofs.SpelledBodies.{wraps_each, wraps_few}
 use Rattle.sporc_client.proofs.SubmitRosters.{IsFew, all_paired, few_after, few_members, few_numbers, sealed_same}
+use Rattle.sporc_play.specs.Forged.{BodyWith, forged_entry, leaf_by, signed_by, unless_refused, with_derived, IsSmallChange}
 use Rattle.sporc_script.specs.declared.sign.Suffix.TheVariants as suffixes
-use Rattle.sporc_play.specs.Forged.{IsSmallChange, forged_entry, leaf_by, signed_by, unless_refused, with_derived}
-use Rattle.std.proofs.lemmas.List.Sums.{length-filter, count_by-le-length}
-use Rattle.lms_leaf.specs.Leaves.{LeavesModel}
 
 -- ---- a flipped byte
 
 length-first_flipped : (bytes : List ℕ) → length (first_flipped bytes) ≡ length bytes
 length-first_flipped bytes = grind arith
 
--- ---- a spoiled body is small
+-- ---- a spoiled body
 
-abbrev IsWhole : Wrap → Type 0
-IsWhole w = length w.sealed ≡ 32
+abbrev HasSealed : (List ℕ → Type 0) → Wrap → Type 0
+HasSealed Sealed w = Sealed w.sealed
 
-whole_flipped : (member : ℕ) (ws : List Wrap) → AllByRecursion IsWhole ws → AllByRecursion IsWhole (map (wrap_flipped member) ws)
-whole_flipped member [] all = tt
-whole_flipped member (w ∷ ws) all = (go (eqb w.member member), whole_flipped member ws all.1)
+sealed_flipped : (Sealed : List ℕ → Type 0) → ((bytes : List ℕ) → Sealed bytes → Sealed (first_flipped bytes)) → (member : ℕ) (w : Wrap) → Sealed w.sealed → Sealed (wrap_flipped member w).sealed
+sealed_flipped Sealed flips member w is = go (eqb w.member member)
   where
-    go : (b : Bool) → IsWhole (cond b (record { member = w.member; sealed = first_flipped w.sealed }) w)
-    go true = length-first_flipped w.sealed ∙ all.0
-    go false = all.0
+    go : (b : Bool) → Sealed (cond b (record { member = w.member; sealed = first_flipped w.sealed }) w).sealed
+    go true = flips w.sealed is
+    go false = is
 
-whole_others : (p : Wrap → Bool) (ws : List Wrap) → AllByRecursion IsWhole ws → AllByRecursion IsWhole (filter p ws)
-whole_others p [] all = tt
-whole_others p (w ∷ ws) all = go (p w) (whole_others p ws all.1)
-  where
-    go : (b : Bool) → AllByRecursion IsWhole (filter p ws) → AllByRecursion IsWhole (cond b (w ∷ filter p ws) (filter p ws))
-    go true h = (all.0, h)
-    go false h = h
+-- what holds of all that a body seals, and of bytes with a bit changed, holds of all that a spoiled one seals
+pub spoiled_parts : (Sealed : List ℕ → Type 0) → ((bytes : List ℕ) → Sealed bytes → Sealed (first_flipped bytes)) → (suffix : Option Suffix) (body : ChangeBody)
+    → BodyWith Sealed body → BodyWith Sealed (spoiled suffix body)
+spoiled_parts Sealed flips (Some (suffixes.Wrap member)) body is =
+    record { commitment = is.commitment; previous = is.previous; wraps = all_map (HasSealed Sealed) (HasSealed Sealed) (wrap_flipped member) (sealed_flipped Sealed flips member) body.wraps is.wraps }
+spoiled_parts Sealed flips (Some (suffixes.Drop member)) body is =
+    record { commitment = is.commitment; previous = is.previous; wraps = all_filter (HasSealed Sealed) (λ (w : Wrap). not (eqb w.member member)) body.wraps is.wraps }
+spoiled_parts Sealed flips (Some suffixes.Commit) body is = record { commitment = flips body.commitment is.commitment; previous = is.previous; wraps = is.wraps }
+spoiled_parts Sealed flips (Some suffixes.Previous) body is = record { commitment = is.commitment; previous = flips body.previous is.previous; wraps = is.wraps }
+spoiled_parts Sealed flips suffix body is = is
+
+-- it has the same change, and no more wraps
+pub spoiled_same : (suffix : Option Suffix) (body : ChangeBody) → ((spoiled suffix body).change ≡ body.change) × (length (spoiled suffix body).wraps ≤ length body.wraps)
+spoiled_same (Some (suffixes.Wrap member)) body = (refl, omega (arith, length-map body.wraps (wrap_flipped member)))
+spoiled_same (Some (suffixes.Drop member)) body =
+    (refl, omega (arith, length-filter (λ (w : Wrap). not (eqb w.member member)) body.wraps, count_by-le-length (λ (w : Wrap). not (eqb w.member member)) body.wraps))
+spoiled_same (Some suffixes.Commit) body = (refl, omega arith)
+spoiled_same (Some suffixes.Previous) body = (refl, omega arith)
+spoiled_same suffix body = (refl, omega arith)
+
+-- ---- a small body
+
+abbrev Has32 : List ℕ → Type 0
+Has32 bytes = length bytes ≡ 32
 
 pub spoiled_small : (suffix : Option Suffix) (body : ChangeBody) → IsSmallBody body → IsSmallBody (spoiled suffix body)
-spoiled_small None body is = is
-spoiled_small (Some (suffixes.Number k)) body is = is
-spoiled_small (Some (suffixes.Base k)) body is = is
-spoiled_small (Some (suffixes.Epoch k)) body is = is
-spoiled_small (Some (suffixes.Leaf k)) body is = is
-spoiled_small (Some (suffixes.Wrap member)) body is = record {
-  change = is.change;
-  commitment = is.commitment;
-  previous = is.previous;
-  wraps = whole_flipped member body.wraps is.wraps;
-  few = omega (arith, length-map body.wraps (wrap_flipped member), is.few);
-}
-spoiled_small (Some (suffixes.Drop member)) body is = record {
-  change = is.change;
-  commitment = is.commitment;
-  previous = is.previous;
-  wraps = whole_others (λ (w : Wrap). not (eqb w.member member)) body.wraps is.wraps;
-  few = omega (arith, length-filter (λ (w : Wrap). not (eqb w.member member)) body.wraps, count_by-le-length (λ (w : Wrap). not (eqb w.member member)) body.wraps, is.few);
-}
-spoiled_small (Some (suffixes.Version k)) body is = is
-spoiled_small (Some (suffixes.Device number)) body is = is
-spoiled_small (Some suffixes.Commit) body is = record {
-  change = is.change;
-  commitment = length-first_flipped body.commitment ∙ is.commitment;
-  previous = is.previous;
-  wraps = is.wraps;
-  few = is.few;
-}
-spoiled_small (Some suffixes.Previous) body is = record {
-  change = is.change;
-  commitment = is.commitment;
-  previous = length-first_flipped body.previous ∙ is.previous;
-  wraps = is.wraps;
-  few = is.few;
-}
-
--- ---- its bytes
-
-length-change : (c : MemberChange) (rest : List ℕ) → IsSmallChange c → length (change_bytes c rest) ≤ 60 + length rest
-length-change (changes.Add member role key) rest is =
-    omega (arith, is, length-append (to_be_bytes w16 member) (role_code_of role ∷ key ++ rest), length-append key rest)
-length-change (changes.Remove member) rest is = omega (arith, length-append (to_be_bytes w16 member) rest)
-length-change (changes.SetRole member role) rest is = omega (arith, length-append (to_be_bytes w16 member) (role_code_of role ∷ rest))
-length-change (changes.AddDevice member device key) rest is =
-    omega (arith, is, length-append (to_be_bytes w16 member) (device ∷ key ++ rest), length-append key rest)
-length-change (changes.DropDevice member device) rest is = omega (arith, length-append (to_be_bytes w16 member) (device ∷ rest))
-length-change changes.Upgrade rest is = omega arith
-
-length-wraps : (ws : List Wrap) → AllByRecursion IsWhole ws → length (flat_map wrap_bytes ws) ≡ 34 * length ws
-length-wraps [] all = refl
-length-wraps (w ∷ ws) all =
-    omega (
-      arith,
-      ap length (flat_map-cons wrap_bytes w ws),
-      length-append (wrap_bytes w) (flat_map wrap_bytes ws),
-      length-append (to_be_bytes w16 w.member) w.sealed,
-      all.0,
-      length-wraps ws all.1,
-    )
+spoiled_small suffix body is =
+    let (same, fewer) = spoiled_same suffix body in
+    record {
+      change = subst IsSmallChange (sym same) is.change;
+      parts = spoiled_parts Has32 (λ bytes whole. length-first_flipped bytes ∙ whole) suffix body is.parts;
+      few = omega (arith, fewer, is.few);
+    }
 
 pub small_bytes : (b : ChangeBody) → IsSmallBody b → length (change_body_bytes b) < 2 ^ 32
-unfolding change_body_bytes
-small_bytes b is =
-    let counted = to_be_bytes w16 (length b.wraps) ++ flat_map wrap_bytes b.wraps in
-    omega (
-      arith,
-      length-change b.change (b.commitment ++ (b.previous ++ counted)) is.change,
-      length-append b.commitment (b.previous ++ counted),
-      length-append b.previous counted,
-      length-append (to_be_bytes w16 (length b.wraps)) (flat_map wrap_bytes b.wraps),
-      length-wraps b.wraps is.wraps,
-      is.commitment,
-      is.previous,
-      is.few,
-    )
+small_bytes b is = omega (arith, length-body (λ member. ⊤) (λ device. ⊤) (HasSealed Has32) b is.change is.parts.commitment is.parts.previous (λ w whole. whole) is.parts.wraps is.few)
 
--- ---- a sealed body is small
+-- ---- a sealed body
 
-one_whole : (stream : ℕ) (key : List ℕ) (member : ℕ) (pair : Option (List ℕ)) (rest : List Wrap) → length key ≡ 32 → AllByRecursion IsWhole rest
-    → AllByRecursion IsWhole (cons_option (option_map (λ (p : List ℕ). let w : Wrap = record { member = member; sealed = mask_of p stream key } in w) pair) rest)
-one_whole stream key member None rest size others = others
-one_whole stream key member (Some p) rest size others = (length-mask_from p stream 0 key ∙ size, others)
-
-all_whole : (stream : ℕ) (key : List ℕ) (pairs : Keys) (members : List ℕ) → length key ≡ 32 → AllByRecursion IsWhole (wraps_sealed stream key pairs members)
-all_whole stream key pairs [] size = tt
-all_whole stream key pairs (m ∷ ms) size = one_whole stream key m (get pairs m) (wraps_sealed stream key pairs ms) size (all_whole stream key pairs ms size)
-
-pub sealed_small : (s : Sealing) (pairs : Keys) → IsSmallChange s.change → length s.old ≡ 32 → length s.new ≡ 32 → length s.members ≤ MAX_MEMBERS → IsSmallBody (body_sealed s pairs)
+-- what holds of the keys that are sealed, of digests and of what is masked holds of all that a body seals
+pub sealed_parts : (Sealed : List ℕ → Type 0) → ((key : List ℕ) (stream : ℕ) (bytes : List ℕ) → Sealed bytes → Sealed (mask_of key stream bytes)) → ((bytes : List ℕ) → Sealed (sha256 bytes))
+    → (s : Sealing) (pairs : Keys) → Sealed s.old → Sealed s.new → BodyWith Sealed (body_sealed s pairs)
 unfolding body_sealed
-sealed_small s pairs change old new few = record {
-  change = change;
-  commitment = length-sha256 _;
-  previous = length-mask_from s.new (previous_stream (s.epoch + 1)) 0 s.old ∙ old;
-  wraps = all_whole s.stream s.new pairs s.members new;
-  few = omega (arith, wraps_few s.stream s.new pairs s.members, few);
+sealed_parts Sealed masks hashes s pairs old new = record {
+  commitment = hashes _;
+  previous = masks s.new (previous_stream (s.epoch + 1)) s.old old;
+  wraps = wraps_each (HasSealed Sealed) s.stream s.new pairs s.members (λ k d l pair. masks pair s.stream s.new new);
 }
 
 -- ---- a rogue has a key with each member
@@ -161,12 +97,9 @@ kept : (rogue m : ℕ) (ms : List ℕ) (keys : Keys) → is_none (get keys m) �
 kept rogue m [] keys h = h
 kept rogue m (n ∷ ms) keys h = kept rogue m ms (with_derived rogue keys n) (still rogue n m keys h)
 
-same_number : (m : ℕ) → eqb m m ≡ true
-same_number m = grind (arith, nat_tests)
-
 put : (rogue m : ℕ) (keys : Keys) → is_none (get (with_derived rogue keys m) m) ≡ false
 put rogue m keys =
-    let same : eq_by_cmp nat_cmp m m ≡ true = unsigned_tied m m ∙ same_number m in
+    let same : eq_by_cmp nat_cmp m m ≡ true = unsigned_tied m m ∙ eq-eqb m m refl in
     ap is_none (get-insert nat_cmp_total keys m (pair_key rogue m) m) ∙ ap (λ b. is_none (cond b (Some (pair_key rogue m)) (get keys m))) same
 
 none_left : (rogue : ℕ) (ms : List ℕ) (keys : Keys) → filter (λ m. is_none (get (fold (with_derived rogue) keys ms) m)) ms ≡ []
@@ -214,8 +147,15 @@ forged_paired s pairs author member p is = all_paired s pairs (derived_pairs aut
 
 pub forged_small : (c : PlainClient) (h : Header) (change : MemberChange) (new : List ℕ) → IsSmallChange change → length (key_there c) ≡ 32 → length new ≡ 32
     → length (sealed_for (roster_of c.opening.genesis c.entries) change) ≤ MAX_MEMBERS → IsSmallBody (forged_change c h change new)
-forged_small c h change new small old whole few =
-    sealed_small (forged_sealing c h change new) (derived_pairs h.author (sealed_for (roster_of c.opening.genesis c.entries) change)) small old whole few
+unfolding body_sealed
+forged_small c h change new typed old whole few =
+    let s = forged_sealing c h change new in
+    let pairs = derived_pairs h.author s.members in
+    record {
+      change = typed;
+      parts = sealed_parts Has32 (λ key stream bytes is. length-mask_from key stream 0 bytes ∙ is) length-sha256 s pairs old whole;
+      few = omega (arith, wraps_few s.stream new pairs s.members, few);
+    }
 
 -- ---- the header
 
@@ -258,15 +198,12 @@ forged_none s c f t fault drawn is = rw is refl
 
 -- ---- its leaf
 
-below : (n count : ℕ) → n < count → ltb n count ≡ true
-below n count low = grind (arith, nat_tests)
-
 not_below : (n count : ℕ) → n ≡ count → ltb n count ≡ false
 not_below n count same = grind (arith, nat_tests)
 
 pub leaf_drawn : (key : LmsPrivate) (n leaf count : ℕ) → leaf ≡ n → leaf < count → count ≡ 2 ^ height_of key.lms → leaf_after key n ≡ Ok leaf
 leaf_drawn key n leaf count is low all =
-    let yes : ltb n (2 ^ height_of key.lms) ≡ true = below n (2 ^ height_of key.lms) (omega (arith, is, low, all)) in
+    let yes : ltb n (2 ^ height_of key.lms) ≡ true = lt-ltb n (2 ^ height_of key.lms) (omega (arith, is, low, all)) in
     ap (λ (b : Bool). cond b (Ok n) (Err (Exhausted n))) yes ∙ ap Ok (sym is)
 
 pub leaf_none : (key : LmsPrivate) (n count : ℕ) → n ≡ count → count ≡ 2 ^ height_of key.lms → leaf_after key n ≡ Err (Exhausted n)
@@ -282,3 +219,16 @@ pub drawn_more : {D : Type 0} (key : LmsPrivate) (old new : LeavesModel D) (coun
     → (IsTrue new.faulty → ⊥) → AreDrawn key (old.next + count) new
 drawn_more key old new count was next within same works =
     record { next = next; within = omega (arith, within, was.count); count = same ∙ was.count; works = not_faulty new.faulty works }
+
+-- ---- the line of a rogue that was to sign
+
+signed_by_leaf : (s : Setup) (c : PlainClient) (f : Forgery) (t next : ℕ) (leaf : Result ℕ LeafFault) → signed_line (first_device f.member) next (is_some (forged_entry s c f t leaf)) ≡ sign_line (first_device f.member) next leaf
+unfolding forged_entry
+signed_by_leaf s c f t next leaf = grind arith
+
+some_items : {V : Type 0} (items : V → List ℕ) (made : Option V) → is_some made ≡ is_some (option_map items made)
+some_items items made = grind arith
+
+pub signing_is : {V : Type 0} (items : V → List ℕ) (s : Setup) (c : PlainClient) (f : Forgery) (t next : ℕ) (leaf : Result ℕ LeafFault) (made : Option V) → option_map items made ≡ forged_entry s c f t leaf
+    → signed_line (first_device f.member) next (is_some made) ≡ sign_line (first_device f.member) next leaf
+signing_is items s c f t next leaf made is = ap (signed_line (first_device f.member) next) (some_items items made ∙ ap is_some is) ∙ signed_by_leaf s c f t next leaf

@@ -1,9 +1,9 @@
 -- Entries by their numbers.
-use Rattle.std.proofs.Common.{◌≡◌, ℕ, zero, suc, ◌+◌, ◌-◌, ◌<◌, List, [], ◌∷◌, ◌++◌, length, get_or, map, drop, drop-cons, add-one, append_assoc, Some, Option, Vec, Global, refl, ap, sym, subst, arith, ◌∙◌, option_map}
-use Rattle.sporc_play.proofs.Common.{false, is_some, None, Result, Ok, Err, slice_get, entries_found, entries_at, entry_at, with_entry}
+use Rattle.std.proofs.Common.{◌≡◌, ℕ, zero, suc, ◌+◌, ◌-◌, ◌<◌, List, [], ◌∷◌, ◌++◌, length, get_or, map, drop, drop-cons, add-one, append_assoc, Some, Option, Vec, Global, refl, ap, sym, subst}
+use Rattle.std.proofs.Common.{arith, ◌∙◌, option_map}
+use Rattle.sporc_play.proofs.Common.{false, is_some, None, Result, Ok, Err, slice_get, entries_found, entries_at, entry_at, with_entry, slice_get_read, slice_get-map}
 use Rattle.sporc_play.specs.declared.made.Found.{Found}
 use Rattle.sporc_play.specs.declared.made.Found.TheVariants.{Entries}
-use Rattle.std.proofs.lemmas.Option.{slice_get_read, slice_get-map}
 
 abbrev bytes_of : Vec ℕ Global → List ℕ
 bytes_of v = v.items

@@ -1,19 +1,59 @@
 -- The generated run is a run of its three members' clients.
-use Rattle.std.proofs.Common.{◌≡◌, ℕ, zero, suc, ◌+◌, ◌*◌, ◌/◌, ◌%◌, ◌^◌, ◌<◌, ◌≤◌, ◌==◌, ◌&&◌, Bool, true, false, List, [], ◌∷◌, ◌++◌, map, ap, arith, None, refl}
-use Rattle.sporc_play.proofs.Common.{flat_map, if◌then◌else◌, AllByRecursion, all_scalars, mod_below, all_append, first_device, IsTypedRun, TextEditInRange, up_to, batch}
-use Rattle.sporc_play.proofs.Common.{batches, edits, generated_cast, generated_commands, generated_edit, gives, inserts, removes, seen_len, submits, IsOneRun, moves_of, Scene, Command}
+use Rattle.std.proofs.Common.{◌≡◌, ℕ, zero, suc, ◌+◌, ◌*◌, ◌/◌, ◌%◌, ◌^◌, ◌<◌, ◌≤◌, ◌==◌, ◌&&◌, Bool, true, false, List, [], ◌∷◌, ◌++◌, map, ap, arith, None, refl, Option, cond, Result, Ok, Err}
+use Rattle.std.proofs.Common.{append_assoc}
+use Rattle.sporc_play.proofs.Common.{all_map, flat_map, if◌then◌else◌, AllByRecursion, all_scalars, mod_below, all_append, first_device, IsTypedRun, TextEditInRange, up_to, batch, batches, edits}
+use Rattle.sporc_play.proofs.Common.{generated_cast, generated_commands, generated_edit, gives, inserts, removes, seen_len, submits, IsOneRun, moves_of, Scene, Command, IsSome, PlayState, AreOpen}
+use Rattle.sporc_play.proofs.Common.{IsAsked, generated_scene, opening, AreDeclared, StandsFor, PlainClient, Setup, World, Move, after_move, after_all, Device, effect_of, after, after_each, Genuine}
+use Rattle.sporc_play.proofs.Common.{with_client, OnOk, is_ok}
 use Rattle.std.proofs.Math.Nat.{mod-le}
 use Rattle.std.proofs.Math.Utf8.{low_scalar}
 use Rattle.sporc_script.specs.declared.limits.TheConstants.{MAX_GENERATED}
 use Rattle.sporc_play.specs.Cast.{setup_of}
 use Rattle.sporc_play.proofs.Acts.{edit_acts, give_acts}
 use Rattle.sporc_play.proofs.FirstMoves.{first_run}
-use Rattle.sporc_play.proofs.Generating.{generated_follows}
 use Rattle.sporc_play.proofs.Runs.{MayBe, one_run_of, typed_play}
 use Rattle.sporc_play.proofs.SubmitActs.{submit_acts}
-use Rattle.sporc_client.specs.Genuine.{Genuine}
 use Rattle.sporc_play.proofs.ClosedPlays.{AlwaysByClients, own_commands}
 use Rattle.sporc_play.proofs.Places.{all_mapped}
+use Rattle.sporc_play.proofs.Scripts.{Follows}
+use Rattle.sporc_play.proofs.Founders.{lines_declared}
+use Rattle.sporc_play.proofs.Batched.{by_member}
+
+-- ---- a client that is open stays open
+
+put_open : (clients : Device → Option PlainClient) (who m : Device) (c : PlainClient) → IsSome (clients m) → IsSome (with_client clients who c m)
+put_open clients who m c is = grind arith
+
+open_after : (s : Setup) (w : World) (move : Move) (device : Device) → IsSome (w.clients device) → IsSome ((after_move s w move).clients device)
+open_after s w move device is = grind (arith, put_open)
+
+pub open_moves : (s : Setup) (w : World) (moves : List Move) (who : Device) → IsSome (w.clients who) → IsSome ((after_all s w moves).clients who)
+open_moves s w [] who is = is
+open_moves s w (move ∷ moves) who is = open_moves s (after_move s w move) moves who (open_after s w move who is)
+
+pub open_each : (s : Setup) (scene : Scene) (commands : List (Scene → Command)) (who : Device) → IsSome (scene.world.clients who) → IsSome ((after_each s scene commands).world.clients who)
+open_each s scene [] who is = is
+open_each s scene (c ∷ cs) who is = open_each s (after s scene (c scene)) cs who (open_moves s scene.world (effect_of s scene (c scene)).moves who is)
+
+-- ---- what the generated run declares, and whose clients are open in it
+
+pub generated_follows : Follows [] generated_cast
+generated_follows = (refl, tt, (refl, (omega arith, omega arith), (refl, (omega arith, omega arith), (refl, (omega arith, omega arith), tt))))
+
+pub generated_declared : AreDeclared generated_cast
+generated_declared = lines_declared generated_cast generated_follows
+
+-- all three open their clients, and keep them
+opened_there : (m : ℕ) → IsAsked m → IsSome ((opening generated_cast).world.clients (first_device m))
+unfolding setup_of
+opened_there m is = by_member (λ (n : ℕ). IsSome ((opening generated_cast).world.clients (first_device n))) refl refl refl m is
+
+pub generated_open : (n : ℕ) (state : PlayState) → StandsFor generated_cast (generated_scene n) state → AreOpen state
+generated_open n state stands = record {
+  scene = generated_scene n;
+  stands = stands;
+  open_clients = λ m is. open_each (setup_of generated_cast) (opening generated_cast) (generated_commands n) (first_device m) (opened_there m is);
+}
 
 -- ---- its edits are typed
 
@@ -35,10 +75,6 @@ edit_fits j author scene room small = go (j % 5 == 0)
 
 -- ---- its commands
 
-mapped : {X Y : Type 0} (P : Y → Type 0) (f : X → Y) (xs : List X) → AllByRecursion (λ (x : X). P (f x)) xs → AllByRecursion P (map f xs)
-mapped P f [] all = tt
-mapped P f (x ∷ xs) all = (all.0, mapped P f xs all.1)
-
 flat : {X Y : Type 0} (P : Y → Type 0) (f : X → List Y) (xs : List X) → ((x : X) → AllByRecursion P (f x)) → AllByRecursion P (flat_map f xs)
 flat P f [] each = tt
 flat P f (x ∷ xs) each = all_append P (f x) (flat_map f xs) (each x) (flat P f xs each)
@@ -55,7 +91,7 @@ module _ (P : (Scene → Command) → Type 0) (edit : (j a : ℕ) → j ≤ 3001
       let third : done / 3 ≤ done = mul_div done in
       all_append P (map (edits j) (up_to authors) ++ map submits (up_to authors)) _
       (all_append P (map (edits j) (up_to authors)) _
-      (mapped P (edits j) (up_to authors) (to (λ a. P (edits j a)) authors (λ a at. edit j a (omega (arith, low, third)) (omega (arith, at, few)))))
+      (all_map (λ (a : ℕ). P (edits j a)) P (edits j) (λ a is. is) (up_to authors) (to (λ a. P (edits j a)) authors (λ a at. edit j a (omega (arith, low, third)) (omega (arith, at, few)))))
       (all_mapped P submits (up_to authors) submit))
       (flat P (λ a. map (gives (done + a)) (up_to 3)) (up_to authors) (λ a. all_mapped P (gives (done + a)) (up_to 3) (give (done + a))))
     where
@@ -95,3 +131,13 @@ generated_one n low = one_run_of generated_cast (generated_commands n) (generate
 pub generated_genuine : (n : ℕ) → n ≤ MAX_GENERATED → Genuine (setup_of generated_cast) (moves_of generated_cast (generated_commands n))
 generated_genuine n low =
     own_commands generated_cast (generated_commands n) (generated_typed n low) (commands_all AlwaysByClients (λ j a early few scene. tt) (λ a scene. tt) (λ k m scene. tt) n low)
+
+-- ---- the summary of the generated run
+
+regrouped : (old a b c d e w f h n : List ℕ) → ((old ++ (a ++ (b ++ (c ++ (d ++ (e ++ (w ++ f))))))) ++ h) ++ n ≡ old ++ (a ++ (b ++ (c ++ (d ++ (e ++ (w ++ (f ++ (h ++ n))))))))
+regrouped old a b c d e w f h n = simp append_assoc
+
+pub summary_told : {T E : Type 0} (r : Result T E) (old first second new a b c d e w f h n : List ℕ) → first ≡ old ++ (a ++ (b ++ (c ++ (d ++ (e ++ (w ++ f)))))) → second ≡ first ++ h
+    → new ≡ cond (is_ok r) (second ++ n) second → OnOk r (new ≡ old ++ (a ++ (b ++ (c ++ (d ++ (e ++ (w ++ (f ++ (h ++ n)))))))))
+summary_told (Ok x) old first second new a b c d e w f h n start hash end = rw (end, hash, start) (regrouped old a b c d e w f h n)
+summary_told (Err x) old first second new a b c d e w f h n start hash end = tt

@@ -1,8 +1,9 @@
 -- The keys of epochs that are read off a history of bytes are bytes.
 use Rattle.std.proofs.Common.{◌≡◌, ℕ, zero, suc, Bool, true, false, cond, List, [], ◌∷◌, ◌++◌, length, map, take, refl, sym, subst, Option, None, Some, Result, Ok, Err, IfSome}
-use Rattle.sporc_play.proofs.Common.{◌==◌, flat_map, is_some, option_and_then, slice_get, unwrap_or, get, w16, w32, to_be_bytes, AllByRecursion, cons_option, eqb-true, IsBytes, MemberChange, Add}
-use Rattle.sporc_play.proofs.Common.{Remove, SetRole, AddDevice, DropDevice, Upgrade, role_code_of, ChangeBody, Entry, Genesis, Header, Wrap, change_bytes, wrap_bytes, Keys, stream_of}
-use Rattle.sporc_play.proofs.Common.{CommittedChange, change_read, changes, committed_by, epoch_of, Kit, current_key, PlainClient, mask_of, line_of}
+use Rattle.sporc_play.proofs.Common.{◌==◌, flat_map, is_some, option_and_then, slice_get, unwrap_or, get, w16, w32, to_be_bytes, AllByRecursion, eqb-true, IsBytes, MemberChange, Add, SetRole}
+use Rattle.sporc_play.proofs.Common.{AddDevice, DropDevice, Upgrade, role_code_of, ChangeBody, Entry, Genesis, Header, Wrap, change_bytes, wrap_bytes, Keys, stream_of, CommittedChange, all_filter_map}
+use Rattle.sporc_play.proofs.Common.{change_read, changes, committed_by, epoch_of, Kit, current_key, PlainClient, mask_of, line_of, change_read_of, found_typed, typed_at, BodyWith}
+use Rattle.sporc_member.specs.declared.change.Change.TheVariants.{Remove}
 use Rattle.sporc_member.specs.Roster.{member_at, removes, roster_after}
 use Rattle.sporc_entry.specs.ChangeBody.{change_body_bytes}
 use Rattle.sporc_entry.specs.Entry.{IsEntry, change_of, entry_bytes, entry_of, header_bytes}
@@ -10,10 +11,7 @@ use Rattle.sporc_entry.proofs.EntryLaws.{entry_takes}
 use Rattle.sporc_epoch.specs.Wraps.{opened_under, wrap_for, wrap_opened}
 use Rattle.sporc_head.specs.History.{change_in}
 use Rattle.sporc_line.specs.Keys.{key_after, key_started}
-use Rattle.sporc_client.proofs.SameSpelling.{change_read_of}
-use Rattle.sporc_client.proofs.TypedHistories.{found_typed, typed_at}
-use Rattle.sporc_play.proofs.ByteClients.{AreByteKeys}
-use Rattle.sporc_play.proofs.ByteFacts.{AreBytes, are_bytes, bytes_mask}
+use Rattle.sporc_play.proofs.ByteClients.{AreByteKeys, AreBytes, are_bytes, bytes_mask}
 use Rattle.sporc_entry.proofs.Written.{header_bytes-append}
 
 -- ---- parts of strings of bytes
@@ -59,41 +57,38 @@ sealed_in (w ∷ ws) all =
 
 -- ---- changes
 
--- what a change seals
-pub record IsByteBody (body : ChangeBody) : Type 0 where
-  pub previous : AreBytes body.previous
-  pub wraps : AllByRecursion (λ w. AreBytes w.sealed) body.wraps
-
-body_parts : (body : ChangeBody) → AreBytes (change_body_bytes body) → IsByteBody body
+body_parts : (body : ChangeBody) → AreBytes (change_body_bytes body) → BodyWith AreBytes body
 unfolding change_body_bytes
 body_parts body all =
     let wraps = flat_map wrap_bytes body.wraps in
     let counted = to_be_bytes w16 (length body.wraps) ++ wraps in
     let previous = body.previous ++ counted in
-    let rest : AreBytes previous = behind body.commitment previous (after_change body.change (body.commitment ++ previous) all) in
+    let sealed : AreBytes (body.commitment ++ previous) = after_change body.change (body.commitment ++ previous) all in
+    let rest : AreBytes previous = behind body.commitment previous sealed in
     record {
+      commitment = front body.commitment previous sealed;
       previous = front body.previous counted rest;
       wraps = sealed_in body.wraps (behind (to_be_bytes w16 (length body.wraps)) wraps (behind body.previous counted rest));
     }
 
 abbrev pub IsByteCommitted : CommittedChange → Type 0
-IsByteCommitted c = IsByteBody c.body
+IsByteCommitted c = BodyWith AreBytes c.body
 
-body_bytes : (e : Entry) → IsEntry e → AreBytes e.body → IfSome (change_of e) IsByteBody
+body_bytes : (e : Entry) → IsEntry e → AreBytes e.body → IfSome (change_of e) (BodyWith AreBytes)
 unfolding change_of
 body_bytes e is all = go (e.header.kind == 2) refl
   where
-    go : (two : Bool) → (e.header.kind == 2) ≡ two → IfSome (change_of e) IsByteBody
+    go : (two : Bool) → (e.header.kind == 2) ≡ two → IfSome (change_of e) (BodyWith AreBytes)
     go true k =
         let read = change_read_of e is (eqb-true e.header.kind 2 k) in
-        subst (λ (o : Option ChangeBody). IfSome o IsByteBody) (sym read.read) (body_parts read.body (subst AreBytes read.bytes all))
+        subst (λ (o : Option ChangeBody). IfSome o (BodyWith AreBytes)) (sym read.read) (body_parts read.body (subst AreBytes read.bytes all))
     go false k = rw k tt
 
 change_bytes_in : (bytes : List ℕ) → IsBytes bytes → AreBytes bytes → IfSome (change_in bytes) IsByteCommitted
 unfolding change_in
 change_bytes_in bytes typed all = go (entry_of bytes) refl
   where
-    of_body : (e : Entry) (o : Option ChangeBody) → IfSome o IsByteBody → IfSome (committed_by e o) IsByteCommitted
+    of_body : (e : Entry) (o : Option ChangeBody) → IfSome o (BodyWith AreBytes) → IfSome (committed_by e o) IsByteCommitted
     of_body e None h = tt
     of_body e (Some body) h = h
 
@@ -104,12 +99,7 @@ change_bytes_in bytes typed all = go (entry_of bytes) refl
         of_body e (change_of e) (body_bytes e takes.0 (body_in e (subst AreBytes takes.1 all)))
 
 pub changes_bytes : (entries : List (List ℕ)) → AllByRecursion IsBytes entries → AllByRecursion IsByteCommitted (changes entries)
-changes_bytes [] all = tt
-changes_bytes (bytes ∷ entries) all = go (change_in bytes) (change_bytes_in bytes all.0 (are_bytes bytes all.0)) (changes_bytes entries all.1)
-  where
-    go : (o : Option CommittedChange) → IfSome o IsByteCommitted → AllByRecursion IsByteCommitted (changes entries) → AllByRecursion IsByteCommitted (cons_option o (changes entries))
-    go None here rest = rest
-    go (Some c) here rest = (here, rest)
+changes_bytes entries all = all_filter_map IsBytes IsByteCommitted change_in (λ bytes typed. change_bytes_in bytes typed (are_bytes bytes typed)) entries all
 
 -- ---- keys
 
@@ -141,13 +131,15 @@ key_bytes g kit cs (suc e) ring all = go (slice_get cs e) (typed_at IsByteCommit
     go None is = tt
     go (Some c) is = tests c (removes kit.me c.body.change) (is_some (member_at (roster_after g.founders (map (λ c. c.body.change) (take (suc e) cs))) kit.me.member)) is
 
--- the key of a client's epoch
-pub epoch_bytes : (c : PlainClient) → AreByteKeys c.opening.kit.ring → AllByRecursion IsBytes c.entries → IfSome (key_after c.opening.genesis c.opening.kit (changes c.entries) (epoch_of c.entries)) AreBytes
-epoch_bytes c ring all = key_bytes c.opening.genesis c.opening.kit (changes c.entries) (epoch_of c.entries) ring (changes_bytes c.entries all)
+-- the key of a client's epoch, or these bytes
+pub key_or : (c : PlainClient) (other : List ℕ) → AreByteKeys c.opening.kit.ring → AllByRecursion IsBytes c.entries → AreBytes other
+    → AreBytes (unwrap_or (key_after c.opening.genesis c.opening.kit (changes c.entries) (epoch_of c.entries)) other)
+key_or c other ring all is = go (key_after c.opening.genesis c.opening.kit (changes c.entries) (epoch_of c.entries))
+    (key_bytes c.opening.genesis c.opening.kit (changes c.entries) (epoch_of c.entries) ring (changes_bytes c.entries all))
+  where
+    go : (o : Option (List ℕ)) → IfSome o AreBytes → AreBytes (unwrap_or o other)
+    go None none = is
+    go (Some key) there = there
 
 pub current_bytes : (c : PlainClient) → AreByteKeys c.opening.kit.ring → AllByRecursion IsBytes c.entries → AreBytes (current_key (line_of c))
-current_bytes c ring all = go (key_after c.opening.genesis c.opening.kit (changes c.entries) (epoch_of c.entries)) (epoch_bytes c ring all)
-  where
-    go : (o : Option (List ℕ)) → IfSome o AreBytes → AreBytes (unwrap_or o [])
-    go None is = tt
-    go (Some key) is = is
+current_bytes c ring all = key_or c [] ring all tt

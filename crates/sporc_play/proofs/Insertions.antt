@@ -1,10 +1,8 @@
 -- How long the bytes of an insertion are.
 use Rattle.std.proofs.Common.{◌≡◌, ℕ, zero, suc, ◌+◌, ◌-◌, ◌≤◌, List, [], ◌∷◌, ◌++◌, length, refl, ap, subst, arith, append_assoc, append-nil, length-append}
-use Rattle.sporc_play.proofs.Common.{w64, to_be_bytes, encode_utf8, encode_utf8_all, delta_bytes, parts_bytes, Mark, insertion, insert_marks, keep_marks}
-use Rattle.sporc_delta.specs.declared.part.Part.{Part}
+use Rattle.sporc_play.proofs.Common.{w64, to_be_bytes, encode_utf8, encode_utf8_all, delta_bytes, parts_bytes, Mark, insertion, insert_marks, keep_marks, Part, runs, with_mark}
 use Rattle.sporc_delta.specs.declared.part.Part.TheVariants.{Keep as KeepRun, Insert as InsertText, Remove as RemoveRun}
 use Rattle.sporc_delta.specs.Marks.{Keep, Insert}
-use Rattle.sporc_delta.specs.Parts.{runs, with_mark}
 
 abbrev size : List Part → ℕ
 size ps = length (parts_bytes ps)

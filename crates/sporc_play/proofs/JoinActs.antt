@@ -1,23 +1,19 @@
 -- A joiner's client opens with keys of epochs, one of which meets the commitment of the genesis.
 use Rattle.std.proofs.Common.{◌≡◌, ℕ, ◌+◌, Bool, true, false, cond, List, [], ◌∷◌, ◌++◌, length, map, reverse, refl, sym, ap, ◌∙◌, subst, not, Option, None, Some, Result, Ok, Err, IfOk, IfSome}
-use Rattle.sporc_play.proofs.Common.{Contains, take_while, nat_cmp_total, empty, get, insert, get-empty, get-insert, AllByRecursion, nat_cmp, eq_by_cmp, bytes_eq, map-append}
-use Rattle.sporc_play.proofs.Common.{reverse-append, IsBytes, first_of, unless, mask_of, commitment_of, Genesis, Wrap, IsWrap, HintFault, Keys, previous_stream, stream_of, CommittedChange, changes}
-use Rattle.sporc_play.proofs.Common.{LineOpenFault, Meets, open_checks, PlainClient, Setup, AreEpochKeys, Device, Join, Scene, entries_at, entry_at, joins, opens_unless, opens_with, with_entry, all_append}
+use Rattle.sporc_play.proofs.Common.{all_take, Contains, take_while, nat_cmp_total, empty, get, insert, get-empty, get-insert, AllByRecursion, nat_cmp, eq_by_cmp, bytes_eq, map-append, reverse-append}
+use Rattle.sporc_play.proofs.Common.{IsBytes, first_of, unless, mask_of, commitment_of, Genesis, Wrap, IsWrap, HintFault, Keys, previous_stream, stream_of, CommittedChange, changes, LineOpenFault}
+use Rattle.sporc_play.proofs.Common.{Meets, open_checks, PlainClient, Setup, AreEpochKeys, Device, Join, Scene, entries_at, entry_at, joins, opens_unless, opens_with, with_entry, all_append}
+use Rattle.sporc_play.proofs.Common.{length-mask_from, wrap_opened, IsTypedCommitted, changes_typed, found_typed, IfSome_then}
 use Rattle.std.proofs.lemmas.Slice.Eq.{bytes_eq-Decides}
-use Rattle.sporc_cipher.proofs.Stream.{length-mask_from}
 use Rattle.sporc_epoch.specs.declared.fault.HintFault.TheVariants.{WrongKey}
 use Rattle.sporc_epoch.specs.Hints.{hints_at, hints_of, hints_under, is_committed, is_of, joining, joins as joins_by, keys_back, ring_of, start_by, with_key, with_keys}
-use Rattle.sporc_epoch.specs.Wraps.{wrap_opened}
 use Rattle.sporc_line.specs.declared.fault.LineOpenFault.TheVariants as line_faults
-use Rattle.sporc_client.proofs.TypedHistories.{IsTypedCommitted, changes_typed, found_typed}
 use Rattle.sporc_script.specs.declared.command.Command.TheVariants as commands
-use Rattle.sporc_play.proofs.Acts.{made_bytes, no_act}
-use Rattle.sporc_play.proofs.ByteClients.{AreByteKeys}
-use Rattle.sporc_play.proofs.ByteFacts.{AreBytes, bytes_mask, is_bytes}
+use Rattle.sporc_play.proofs.Acts.{made_has, no_act, one_move}
+use Rattle.sporc_play.proofs.ByteClients.{AreByteKeys, AreBytes, bytes_mask, is_bytes}
 use Rattle.sporc_play.proofs.HistoryKeys.{IsByteCommitted, changes_bytes, opened_has}
 use Rattle.sporc_play.proofs.Runs.{MayAct, MayBe}
-use Rattle.std.proofs.lemmas.Option.{IfSome_then}
-use Rattle.sporc_play.proofs.Places.{all_take, all_each}
+use Rattle.sporc_play.proofs.Places.{all_both, all_each}
 
 -- ---- the entries that are handed over
 
@@ -27,7 +23,7 @@ given_are made (n ∷ ns) all = go (entry_at made n) refl (entries_at made ns) (
   where
     go : (o : Option (List ℕ)) → entry_at made n ≡ o → (r : Result (List (List ℕ)) ℕ) → IfOk r (AllByRecursion AreBytes) → IfOk (with_entry n o r) (AllByRecursion AreBytes)
     go None at r rest = tt
-    go (Some bytes) at (Ok entries) rest = (made_bytes made n bytes all at, rest)
+    go (Some bytes) at (Ok entries) rest = (made_has AreBytes made n bytes all at, rest)
     go (Some bytes) at (Err missing) rest = tt
 
 -- ---- keys
@@ -47,10 +43,6 @@ AreKeys keys = AllByRecursion (λ (e : ℕ × List ℕ). IsKey e.1) keys
 record IsSound (c : CommittedChange) : Type 0 where
   bytes : IsByteCommitted c
   typed : IsTypedCommitted c
-
-both : (cs : List CommittedChange) → AllByRecursion IsByteCommitted cs → AllByRecursion IsTypedCommitted cs → AllByRecursion IsSound cs
-both [] a b = tt
-both (c ∷ cs) a b = (record { bytes = a.0; typed = b.0 }, both cs a.1 b.1)
 
 reversed : (xs : List CommittedChange) → AllByRecursion IsSound xs → AllByRecursion IsSound (reverse xs)
 reversed [] all = tt
@@ -102,12 +94,9 @@ ring_are (Err fault) all = tt
 
 -- ---- hints
 
-wraps_both : (wraps : List Wrap) → AllByRecursion (λ w. AreBytes w.sealed) wraps → AllByRecursion IsWrap wraps → AllByRecursion (λ (w : Wrap). IsKey w.sealed) wraps
-wraps_both [] a b = tt
-wraps_both (w ∷ ws) a b = (record { bytes = a.0; size = b.0.sealed }, wraps_both ws a.1 b.1)
-
 opened_is : (c : CommittedChange) (author stream me : ℕ) (pairs : Keys) → IsSound c → IfSome (wrap_opened c.body author stream me pairs) IsKey
-opened_is c author stream me pairs is = opened_has IsKey masked c.body author stream me pairs (wraps_both c.body.wraps is.bytes.wraps is.typed.wraps)
+opened_is c author stream me pairs is = opened_has IsKey masked c.body author stream me pairs
+    (all_both (λ (w : Wrap). AreBytes w.sealed) IsWrap (λ (w : Wrap). IsKey w.sealed) c.body.wraps (λ w bytes is. record { bytes = bytes; size = is.sealed }) is.bytes.wraps is.typed.wraps)
 
 under_is : (c : CommittedChange) (cs : List CommittedChange) (o : Option (List ℕ)) → IsSound c → AllByRecursion IsSound cs → IfSome o IsKey → IfOk (hints_under c (map start_by cs) o) HoldsKeys
 under_is c cs None is all key = tt
@@ -122,7 +111,8 @@ unfolding hints_of
 hints_are entries me pairs all =
     let typed = all_each AreBytes IsBytes entries is_bytes all in
     let cs = changes entries in
-    let sound : AllByRecursion IsSound cs = both cs (changes_bytes entries typed) (changes_typed entries typed) in
+    let sound : AllByRecursion IsSound cs =
+    all_both IsByteCommitted IsTypedCommitted IsSound cs (λ c bytes typed. record { bytes = bytes; typed = typed }) (changes_bytes entries typed) (changes_typed entries typed) in
     let before = take_while (λ (c : CommittedChange). not (joins_by me c)) cs in
     subst (λ starts. IfOk (hints_at me pairs starts (joining me cs)) HoldsKeys) (sym (reverse_map start_by before))
     (at_is me pairs (reverse before) (joining me cs) (reversed before (all_take IsSound _ cs sound)) (found_typed IsSound (joins_by me) cs sound))
@@ -144,12 +134,7 @@ byte_keys : (ring : Keys) → HoldsKeys ring → AreByteKeys ring
 byte_keys ring holds epoch = IfSome_then (get ring epoch) (holds epoch) (λ key is. is.bytes)
 
 unless_acts : (s : Setup) (scene : Scene) (who : Device) (ring : Keys) (fault : Option LineOpenFault) → Contains s.devices who → HoldsKeys ring → first_of (open_checks s.genesis (get ring 0)) ≡ fault → MayAct s scene (opens_unless who ring fault)
-unless_acts s scene who ring None member holds none = record {
-  run = ((member, meets s.genesis (get ring 0) none), tt);
-  typed = (sizes ring holds, tt);
-  bytes = (byte_keys ring holds, tt);
-  entries = tt;
-}
+unless_acts s scene who ring None member holds none = one_move s scene _ (member, meets s.genesis (get ring 0) none) (sizes ring holds) (byte_keys ring holds)
 unless_acts s scene who ring (Some fault) member holds some = no_act s scene
 
 with_acts : (s : Setup) (scene : Scene) (who : Device) (hints : Result Keys HintFault) → Contains s.devices who → IfOk hints HoldsKeys → MayAct s scene (opens_with s who hints)

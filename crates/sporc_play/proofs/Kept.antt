@@ -1,21 +1,19 @@
 -- Entries that are made of others, and comparisons: what a state becomes, and what is told.
 use Rattle.std.proofs.Common.{◌≡◌, ℕ, ◌+◌, ◌-◌, ◌<◌, ◌≤◌, List, [], ◌∷◌, ◌++◌, length, take, set, refl, sym, ap, ◌∙◌, subst, arith, Option, None, Some, option_map}
-use Rattle.sporc_play.proofs.Common.{◌↔◌, IfSome, slice_get, MemoryDiskModel, ClientModel, state_of, Logged, journal_of, Opening, PlainClient, replay_opening, Genesis, genesis_bytes, chain, last_value}
-use Rattle.sporc_play.proofs.Common.{Device, PlayLine, Seat, PlayState, setup_of, Stands, compare_line, Compares, hashes_of, flip_line, flipped_line, line_by, not_open_line, Effect, Scene, cuts}
-use Rattle.sporc_play.proofs.Common.{entry_at, flip_byte, flipped, flips, IsSeatAt, AreOfOneDocument, HasSameMembers, Holds, IsClientOf, StandsFor, AppendsLineOf}
+use Rattle.sporc_play.proofs.Common.{◌↔◌, IfSome, slice_get, MemoryDiskModel, ClientModel, state_of, Logged, journal_of, Opening, PlainClient, replay_opening, Genesis, genesis_bytes, chain}
+use Rattle.sporc_play.proofs.Common.{last_value, Device, PlayLine, Seat, PlayState, setup_of, Stands, compare_line, Compares, hashes_of, flip_line, flipped_line, line_by, not_open_line, Effect, Scene}
+use Rattle.sporc_play.proofs.Common.{cuts, entry_at, flip_byte, flipped, flips, IsSeatAt, AreOfOneDocument, HasSameMembers, Holds, IsClientOf, StandsFor, AppendsLineOf, Flip, journal_lines}
+use Rattle.sporc_play.proofs.Common.{slice_get_past}
 use Rattle.sporc_hash.specs.Verdict.{DivergesAfter, IfForked, SameTip, TipIsIn}
 use Rattle.sporc_hash.specs.declared.verdict.Verdict.{Verdict}
 use Rattle.sporc_hash.specs.declared.verdict.Verdict.TheVariants.{ForkedAfter, Longer, Prefix, Same}
 use Rattle.sporc_hash.proofs.Prefixes.{slice_get-chain}
 use Rattle.sporc_script.specs.declared.command.Command.TheVariants as commands
-use Rattle.sporc_script.specs.declared.command.Flip.{Flip}
 use Rattle.sporc_script.specs.declared.command.DevicePair.{DevicePair}
-use Rattle.sporc_report.specs.JournalLines.{journal_lines}
 use Rattle.sporc_play.proofs.Becoming.{entries_of}
 use Rattle.sporc_play.proofs.Commands.{client_there, seat_there}
-use Rattle.sporc_play.proofs.MadeEntries.{makes}
+use Rattle.sporc_play.proofs.Submissions.{makes}
 use Rattle.sporc_play.proofs.Places.{at_place}
-use Rattle.std.proofs.lemmas.Option.{slice_get_past}
 use Rattle.sporc_play.proofs.Seating.{acted, same_for_all, stands_made}
 
 -- ---- entries that are made of others

@@ -1,11 +1,9 @@
 -- The state before the first command.
 use Rattle.std.proofs.Common.{◌≡◌, ℕ, ◌≤◌, Bool, true, false, List, [], length, map, fold, refl, sym, ap, ap₂, ◌∙◌, subst, Option, None, Some, option_map}
-use Rattle.sporc_play.proofs.Common.{if◌then◌else◌, empty, insert, list_any, take_all, All-from_recursion, SignerModel, MemoryDiskModel, Keys, ClientModel, state_of, Move, Device}
-use Rattle.sporc_play.proofs.Common.{Founder, first_device, is_admin, Tree, PlayLine, Rogue, Seat, PlayState, founders_of, genesis_by, has_admin, is_pair, private_of, public_of, tree_of, pair_key}
-use Rattle.sporc_play.proofs.Common.{HasBlank, HaveDeclared, IsFresh, IsFreshRogue, Scene, opening, openings, scene_moved, scene_opened, AreDeclared, Holds, IsCastOf, IsRogueOf, IsSeatOf, StandsFor}
-use Rattle.sporc_script.specs.declared.command.Pair.{Pair}
-use Rattle.sporc_play.specs.declared.cast.Cast.{Cast}
-use Rattle.sporc_play.specs.declared.cast.Declared.{Declared}
+use Rattle.sporc_play.proofs.Common.{if◌then◌else◌, empty, insert, list_any, take_all, All-from_recursion, SignerModel, MemoryDiskModel, Keys, ClientModel, state_of, Move, Device, Founder}
+use Rattle.sporc_play.proofs.Common.{first_device, is_admin, Tree, PlayLine, Rogue, Seat, PlayState, founders_of, genesis_by, has_admin, is_pair, private_of, public_of, tree_of, pair_key, HasBlank}
+use Rattle.sporc_play.proofs.Common.{HaveDeclared, IsFresh, IsFreshRogue, Scene, opening, openings, scene_moved, scene_opened, AreDeclared, Holds, IsCastOf, IsRogueOf, IsSeatOf, StandsFor, Pair, Cast}
+use Rattle.sporc_play.proofs.Common.{Declared}
 use Rattle.sporc_play.specs.Cast.{setup_of}
 use Rattle.sporc_play.proofs.Places.{all_each}
 

@@ -1,20 +1,17 @@
 -- The clients of the founders open, one line after another.
-use Rattle.std.proofs.Common.{◌≡◌, ℕ, zero, suc, ◌+◌, ◌<◌, Bool, true, false, cond, List, [], ◌∷◌, ◌++◌, length, take, get_or, map, refl, sym, ap, ◌∙◌, subst, arith, append-nil, Option, None, Some, option_map, ap₂}
+use Rattle.std.proofs.Common.{◌≡◌, ℕ, zero, suc, ◌+◌, ◌<◌, Bool, true, false, cond, List, [], ◌∷◌, ◌++◌, length, take, get_or, map, refl, sym, ap, ◌∙◌, subst, arith, append-nil, Option, None, Some}
+use Rattle.std.proofs.Common.{option_map, ap₂}
 use Rattle.sporc_play.proofs.Common.{Contains, filter_map, if◌then◌else◌, cons_option, filter_map-append, MemoryDiskModel, ClientModel, state_of, Logged, Setup, World, Move, Open, after_all, start}
 use Rattle.sporc_play.proofs.Common.{after_append, Device, Founder, same_device, Command, PlayLine, Seat, PlayState, device_by, first_ring, founders_of, is_founder, opener_by, openers_by, seat_open}
-use Rattle.sporc_play.proofs.Common.{log_after, logs_after, mover_of, Scene, openings, scene_moved, scene_opened, IsSeatAt, IsSeatOf, StandsFor}
+use Rattle.sporc_play.proofs.Common.{log_after, logs_after, mover_of, Scene, openings, scene_moved, scene_opened, IsSeatAt, IsSeatOf, StandsFor, moved, map-append}
 use Rattle.sporc_client.specs.Run.{after}
 use Rattle.sporc_script.specs.declared.command.Command.TheVariants as commands
-use Rattle.sporc_play.proofs.Distinct.{AreDistinct, IsNotIn, are_distinct}
+use Rattle.sporc_play.proofs.Places.{AreDistinct, IsNotIn, are_distinct, among_here, among_more, apart_front, not_in_contains}
 use Rattle.sporc_play.specs.Cast.{setup_of}
 use Rattle.sporc_play.proofs.Becoming.{entries_of}
-use Rattle.sporc_play.proofs.Commands.{seat_there}
-use Rattle.sporc_play.proofs.Joins.{own_open, seat_opens}
-use Rattle.sporc_play.proofs.Moved.{client_other}
-use Rattle.sporc_play.proofs.Places.{among_here, among_more, apart_front, not_in_contains}
+use Rattle.sporc_play.proofs.Commands.{seat_there, own_open, seat_opens}
+use Rattle.sporc_play.proofs.Seating.{client_other, ChangesSeat, acted, stands_acted, with_client}
 use Rattle.sporc_play.proofs.Reported.{take_more}
-use Rattle.sporc_play.proofs.Seating.{ChangesSeat, acted, stands_acted, with_client}
-use Rattle.sporc_play.specs.Scene.{moved}
 
 -- the devices that have or may get a client, by these lines
 abbrev devices : List PlayLine → List Device
@@ -68,12 +65,8 @@ unopened s w device (x ∷ xs) apart =
     unopened s (after s w (Open x first_ring)) device xs apart.1 ∙ client_other s w (Open x first_ring) device (λ same. apart.0 (sym same))
 
 openings_append : (fs : List Founder) (xs ys : List PlayLine) → openings fs (xs ++ ys) ≡ openings fs xs ++ openings fs ys
-openings_append fs xs ys =
-    ap (map (λ (who : Device). Open who first_ring)) (filter_map-append (λ (l : PlayLine). opener_by fs l.command) xs ys) ∙ joined (openers_by fs xs) (openers_by fs ys)
-  where
-    joined : (ds es : List Device) → map (λ (who : Device). Open who first_ring) (ds ++ es) ≡ map (λ (who : Device). Open who first_ring) ds ++ map (λ (who : Device). Open who first_ring) es
-    joined [] es = refl
-    joined (d ∷ ds) es = ap (λ (moves : List Move). Open d first_ring ∷ moves) (joined ds es)
+openings_append fs xs ys = ap (map (λ (who : Device). Open who first_ring)) (filter_map-append (λ (l : PlayLine). opener_by fs l.command) xs ys)
+    ∙ map-append (λ (who : Device). Open who first_ring) (openers_by fs xs) (openers_by fs ys)
 
 logs_append : (s : Setup) (w : World) (logs : Device → List Logged) (xs ys : List Move) → logs_after s w logs (xs ++ ys) ≡ logs_after s (after_all s w xs) (logs_after s w logs xs) ys
 logs_append s w logs [] ys = refl

@@ -1,9 +1,46 @@
 -- Elements of lists at places, and numbers or devices that stand apart.
-use Rattle.std.proofs.Common.{◌≡◌, ◌≢◌, ℕ, zero, suc, ◌+◌, ◌<◌, ◌≤◌, List, [], ◌∷◌, ◌++◌, length, take, get_or, map, refl, sym, ap, ◌∙◌, subst, arith, add-one, Option, None, Some, inl, inr}
-use Rattle.sporc_play.proofs.Common.{◌⊎◌, Contains, filter_map, slice_get, AllByRecursion, cons_option, take_all}
-use Rattle.std.proofs.Math.ListN.{set}
-use Rattle.sporc_play.proofs.Distinct.{AreDistinct, IsNotIn}
-use Rattle.std.proofs.lemmas.Option.{slice_get_read}
+use Rattle.std.proofs.Common.{◌≡◌, ◌≢◌, ℕ, zero, suc, ◌+◌, ◌<◌, ◌≤◌, List, [], ◌∷◌, ◌++◌, length, take, get_or, map, refl, sym, ap, ◌∙◌, subst, arith, add-one, Option, None, Some, inl, inr, true}
+use Rattle.std.proofs.Common.{false, Bool, cond, ltb, drop, drop-cons}
+use Rattle.sporc_play.proofs.Common.{◌⊎◌, Contains, filter_map, slice_get, AllByRecursion, cons_option, take_all, ⊤, Device, same_device, one_same, same_one, set, slice_get_read, Founder, insert_by}
+use Rattle.sporc_play.proofs.Common.{place_among, founder_numbers}
+use Rattle.std.specs.List.{IsDistinct, insert}
+
+-- ---- items of which no two are one, by what each differs from
+
+abbrev pub IsNotIn : {A : Type 0} → A → List A → Type 0
+IsNotIn x [] = ⊤
+IsNotIn x (y ∷ ys) = (y ≢ x) × IsNotIn x ys
+
+abbrev pub AreDistinct : {A : Type 0} → List A → Type 0
+AreDistinct [] = ⊤
+AreDistinct (x ∷ xs) = IsNotIn x xs × AreDistinct xs
+
+-- ---- devices
+
+pub same_or_not : (a b : Device) → a ≢ b → same_device a b ≡ false
+same_or_not a b differs = grind (arith, same_one a b)
+
+avoided : (d : Device) (ds : List Device) → IsNotIn d ds → AllByRecursion (λ e. same_device d e ≡ false) ds
+avoided d [] h = tt
+avoided d (e ∷ es) h = (same_or_not d e (λ is. h.0 (sym is)), avoided d es h.1)
+
+pub is_distinct : (ds : List Device) → AreDistinct ds → IsDistinct same_device ds
+unfolding IsDistinct
+is_distinct [] h = tt
+is_distinct (d ∷ ds) h = (avoided d ds h.0, is_distinct ds h.1)
+
+pub not_same : (a b : Device) → same_device a b ≡ false → a ≢ b
+not_same a b other is = let yes : same_device a b ≡ true = subst (λ (x : Device). same_device a x ≡ true) is (one_same a) in cc
+
+not_in : (d : Device) (ds : List Device) → AllByRecursion (λ e. same_device d e ≡ false) ds → IsNotIn d ds
+not_in d [] h = tt
+not_in d (e ∷ es) h =
+    ((λ is. not_same d e h.0 (sym is)), not_in d es h.1)
+
+pub are_distinct : (ds : List Device) → IsDistinct same_device ds → AreDistinct ds
+unfolding IsDistinct
+are_distinct [] h = tt
+are_distinct (d ∷ ds) h = (not_in d ds h.0, are_distinct ds h.1)
 
 pub at_place : {X : Type 0} (P : X → Type 0) (xs : List X) (i : ℕ) (x : X) → AllByRecursion P xs → slice_get xs i ≡ Some x → P x
 at_place P [] i x all at = absurd cc
@@ -18,10 +55,9 @@ pub all_mapped : {X Y : Type 0} (P : Y → Type 0) (f : X → Y) (xs : List X) �
 all_mapped P f [] each = tt
 all_mapped P f (x ∷ xs) each = (each x, all_mapped P f xs each)
 
-pub all_take : {X : Type 0} (P : X → Type 0) (n : ℕ) (xs : List X) → AllByRecursion P xs → AllByRecursion P (take n xs)
-all_take P zero xs all = tt
-all_take P (suc n) [] all = tt
-all_take P (suc n) (x ∷ xs) all = (all.0, all_take P n xs all.1)
+pub all_both : {X : Type 0} (P Q R : X → Type 0) (xs : List X) → ((x : X) → P x → Q x → R x) → AllByRecursion P xs → AllByRecursion Q xs → AllByRecursion R xs
+all_both P Q R [] then ps qs = tt
+all_both P Q R (x ∷ xs) then ps qs = (then x ps.0 qs.0, all_both P Q R xs then ps.1 qs.1)
 
 -- ---- those that stand apart
 
@@ -122,3 +158,20 @@ among_front read n (x ∷ xs) (suc i) is = elim (among_cases n (read x) (filter_
   | inl here ↦ among_here n (read x) (filter_map read xs) here
   | inr there ↦ among_more n (read x) (filter_map read xs) (among_front read n xs i there)
 ]
+
+-- ---- places among founders
+
+pub place_step : (n : ℕ) (fs : List Founder) (i : ℕ) (f : Founder) → i < length fs → f ≡ get_or fs i f
+    → place_among n (founder_numbers (drop i fs)) ≡ cond (ltb n f.member) 0 (suc (place_among n (founder_numbers (drop (i + 1) fs))))
+place_step n fs i f low is =
+    let cut : drop i fs ≡ f ∷ drop (i + 1) fs = rw add-one (drop-cons fs i f low ∙ ap (λ (g : Founder). g ∷ drop (suc i) fs) (sym is)) in
+    ap (λ (gs : List Founder). place_among n (founder_numbers gs)) cut
+
+pub put_in_place : (f : Founder) (fs : List Founder) → insert fs (place_among f.member (founder_numbers fs)) f ≡ insert_by (λ (g : Founder). g.member) f fs
+put_in_place f [] = refl
+put_in_place f (g ∷ gs) = go (ltb f.member g.member) (put_in_place f gs)
+  where
+    go : (b : Bool) → insert gs (place_among f.member (founder_numbers gs)) f ≡ insert_by (λ (g : Founder). g.member) f gs
+        → insert (g ∷ gs) (cond b 0 (suc (place_among f.member (founder_numbers gs)))) f ≡ cond b (f ∷ g ∷ gs) (g ∷ insert_by (λ (g : Founder). g.member) f gs)
+    go true rest = refl
+    go false rest = ap (λ (hs : List Founder). g ∷ hs) rest

@@ -1,13 +1,16 @@
 -- A report, line by line.
-use Rattle.std.proofs.Common.{◌≡◌, ℕ, ◌+◌, ◌<◌, ◌≤◌, List, [], ◌∷◌, ◌++◌, length, take, get_or, Option, refl, sym, ap, ◌∙◌, subst, append-nil, append_assoc}
-use Rattle.sporc_play.proofs.Common.{take_all, Appends, Setup, Command, PlayLine, setup_of, IsWriteCause, Reports, ReportsFrom, ReportsPrefix, Writes, Scene, after, after_each}
-use Rattle.sporc_play.proofs.Common.{commands_of, opening, scene_at}
+use Rattle.std.proofs.Common.{◌≡◌, ℕ, ◌+◌, ◌<◌, ◌≤◌, List, [], ◌∷◌, ◌++◌, length, take, get_or, Option, refl, sym, ap, ◌∙◌, subst, append-nil, append_assoc, Bool, cond, arith, None, Some, Result, Ok}
+use Rattle.std.proofs.Common.{Err, IfOk, inl, inr}
+use Rattle.sporc_play.proofs.Common.{take_all, Appends, Setup, Command, PlayLine, setup_of, IsWriteCause, Reports, ReportsFrom, ReportsPrefix, Writes, Scene, after, after_each, commands_of, opening}
+use Rattle.sporc_play.proofs.Common.{scene_at, ◌↔◌, OnOk, lt-ltb, Device, AnswersUnless, Accept, PlainClient, shown_after, TextEdit, given_events, event_line, delta_by, marks_of, cases_lt, PlayFault}
+use Rattle.sporc_play.proofs.Common.{more_taken, fold_push, nat_tests}
 use Rattle.sporc_outside.proofs.Prefixes.{AppendsPrefix-all, AppendsPrefix-none, AppendsPrefix-then}
-use Rattle.sporc_play.specs.declared.fault.PlayFault.{PlayFault}
-use Rattle.sporc_play.specs.declared.fault.PlayFault.TheVariants as faults
 use Rattle.sporc_play.specs.Lines.{WritesPrefix}
-use Rattle.std.proofs.lemmas.List.{take_more as more_taken}
-use Rattle.std.proofs.lemmas.List.Sums.{fold_push}
+use Rattle.sporc_client.specs.declared.fault.AcceptFault.{AcceptFault}
+use Rattle.sporc_client.specs.declared.fault.EditFault.{EditFault}
+use Rattle.sporc_client.specs.Answers.{accept_fault}
+use Rattle.sporc_play.specs.declared.fault.PlayFault.TheVariants as faults
+use Rattle.sporc_client.specs.declared.fault.EditFault.TheVariants as edits
 
 pub take_more : (lines : List PlayLine) (i : ℕ) (l : PlayLine) → i < length lines → l ≡ get_or lines i l → take (i + 1) lines ≡ take i lines ++ l ∷ []
 take_more lines i l low is = more_taken lines i l low ∙ ap (λ (y : PlayLine). take i lines ++ y ∷ []) (sym is)
@@ -65,6 +68,37 @@ pub reports_failed : (lines : List PlayLine) (i : ℕ) (l : PlayLine) (a b c : O
     → (fault ≡ faults.Memory → c ≡ b) → (fault ≡ faults.WriteFault → WritesPrefix (setup_of lines) (scene_at lines i) l.command b c) → ReportsPrefix lines a c
 reports_failed lines i l a b c before after faults.Memory low is r cause memory prefix = subst (λ (o : Option (List ℕ)). ReportsPrefix lines a o) (sym (memory refl)) (reports_so_far lines i a b r)
 reports_failed lines i l a b c before after faults.WriteFault low is r cause memory prefix = reports_prefix lines i l a b c low is r (prefix refl)
-reports_failed lines i l a b c before after faults.ReadFault low is r cause memory prefix = absurd cause
-reports_failed lines i l a b c before after (faults.LineFault k) low is r cause memory prefix = absurd cause
-reports_failed lines i l a b c before after faults.TooLong low is r cause memory prefix = absurd cause
+reports_failed lines i l a b c before after fault low is r cause memory prefix = absurd cause
+
+-- ---- what the calls of a client tell, and what they add
+
+-- the line of a call that adds an event
+pub event_told : {X F : Type 0} (r : Result X F) (old new : List ℕ) (who : Device) (word : List ℕ) (answer : Result ℕ EditFault) (events : ℕ) (fault : Option EditFault)
+    → OnOk r ((events : ℕ) (fault : Option EditFault) → AnswersUnless edits.Memory answer fault → IfOk answer (λ n. n ≡ events) → new ≡ old ++ event_line who word events fault)
+    → AnswersUnless edits.Memory answer fault → IfOk answer (λ n. n ≡ events) → OnOk r (new ≡ old ++ event_line who word events fault)
+event_told (Ok x) old new who word answer events fault line answers count = line events fault answers count
+event_told (Err e) old new who word answer events fault line answers count = tt
+
+-- ---- entries that are handed out
+
+pub taken_event : (c : PlainClient) (position : ℕ) (bytes : List ℕ) → accept_fault c position bytes ≡ None → given_events c position bytes ≡ Accept 0 bytes ∷ []
+unfolding accept_fault
+taken_event c position bytes none = grind arith
+
+pub left_event : (c : PlainClient) (position : ℕ) (bytes : List ℕ) (fault : AcceptFault) → accept_fault c position bytes ≡ Some fault → given_events c position bytes ≡ []
+unfolding accept_fault
+left_event c position bytes fault some = grind arith
+
+-- ---- edits
+
+pub ahead : (c : PlainClient) (seen : ℕ) (edit : TextEdit) → length c.shown < seen → delta_by c seen edit ≡ Some []
+ahead c seen edit more = ap (λ (b : Bool). cond b (Some []) (marks_of edit (length (shown_after seen c)))) (lt-ltb (length c.shown) seen more)
+
+pub within : (c : PlainClient) (seen : ℕ) (edit : TextEdit) → seen ≤ length c.shown → delta_by c seen edit ≡ marks_of edit (length (shown_after seen c))
+within c seen edit low = grind (arith, nat_tests)
+
+pub not_below : (P : Type 0) (a b : ℕ) → P ↔ (a < b) → (P → ⊥) → b ≤ a
+not_below P a b same none = elim (cases_lt a b) [
+  | inl low ↦ absurd (none (same.1 low))
+  | inr high ↦ high
+]

@@ -1,11 +1,11 @@
 -- Plays as runs of their clients: the moves of commands, one command after another.
-use Rattle.std.proofs.Common.{◌≡◌, ℕ, Bool, true, false, cond, Option, Some, IfSome, List, [], ◌∷◌, ◌++◌, length, map, take, drop, refl, sym, ap, ◌∙◌, subst, append_assoc, append-nil, take-append-drop}
+use Rattle.std.proofs.Common.{◌≡◌, ℕ, Bool, true, false, cond, Option, Some, IfSome, List, [], ◌∷◌, ◌++◌, length, map, take, drop, refl, sym, ap, ◌∙◌, subst, append_assoc, append-nil}
+use Rattle.std.proofs.Common.{take-append-drop}
 use Rattle.sporc_play.proofs.Common.{if◌then◌else◌, nat_cmp_total, empty, get, get-empty, get-insert, AllByRecursion, nat_cmp, eq_by_cmp, all_append, Keys, Setup, Move, Open, World, IsRun, after_all}
 use Rattle.sporc_play.proofs.Common.{start, IsTypedMove, IsTypedRun, after_append, run_append, Device, Command, PlayLine, first_ring, founders_of, has_admin, openers_by, setup_of, first_key, IsOneRun}
 use Rattle.sporc_play.proofs.Common.{moves_from, moves_of, Effect, Scene, effect_of, after, after_each, opening, opening_moves, openings}
 use Rattle.sporc_client.proofs.Agreed.{agree}
-use Rattle.sporc_play.proofs.ByteClients.{AreByteClients, IsByteMove, moves_bytes}
-use Rattle.sporc_play.proofs.ByteFacts.{AreBytes, bytes_sha}
+use Rattle.sporc_play.proofs.ByteClients.{AreByteClients, IsByteMove, moves_bytes, AreBytes, bytes_sha}
 use Rattle.std.proofs.Math.Seq.{take-append_seam}
 use Rattle.sporc_play.proofs.Places.{all_mapped}
 

@@ -1,13 +1,12 @@
 -- What the grammar gives of a script: who is declared, and whom its commands name.
-use Rattle.std.proofs.Common.{◌≡◌, ◌≢◌, ℕ, zero, suc, ◌+◌, ◌<◌, Bool, true, false, eq-eqb, List, [], ◌∷◌, ◌++◌, length, take, get_or, fold, refl, sym, ap, ◌∙◌, subst, arith, append_assoc, append-nil, Option, None, Some, inl, inr}
-use Rattle.sporc_play.proofs.Common.{◌==◌, ◌&&◌, ◌||◌, not, nat_lt, Contains, filter_map, AllByRecursion, cons_option, list_any, and_parts, eqb-true, filter_map-append, Device, first_device}
+use Rattle.std.proofs.Common.{◌≡◌, ◌≢◌, ℕ, zero, suc, ◌+◌, ◌<◌, Bool, true, false, eq-eqb, List, [], ◌∷◌, ◌++◌, length, take, get_or, fold, refl, sym, ap, ◌∙◌, subst, arith, append_assoc, append-nil}
+use Rattle.std.proofs.Common.{Option, None, Some, inl, inr}
+use Rattle.sporc_play.proofs.Common.{not-true, ◌==◌, ◌&&◌, ◌||◌, not, nat_lt, Contains, filter_map, AllByRecursion, cons_option, list_any, and_parts, eqb-true, filter_map-append, Device, first_device}
 use Rattle.sporc_play.proofs.Common.{same_device, one_same, same_one, InRange, declared_after, declarations, is_client, is_declared, is_rogue, may_declare, may_follow, none_declared, IsNext}
-use Rattle.sporc_play.proofs.Common.{IsPlayScript, play_line, FurtherInRange, Command, PlayLine, declared_member, device_by, rogue_by, all_append}
+use Rattle.sporc_play.proofs.Common.{IsPlayScript, play_line, FurtherInRange, Command, PlayLine, declared_member, device_by, rogue_by, all_append, ReadsAs, lines_of}
 use Rattle.sporc_script.specs.Declarations.{Declared, is_among, is_joiner}
-use Rattle.sporc_script.specs.Lines.{ReadsAs, lines_of}
 use Rattle.sporc_script.specs.declared.command.Command.TheVariants as commands
-use Rattle.sporc_play.proofs.Distinct.{AreDistinct, IsNotIn}
-use Rattle.sporc_play.proofs.Places.{among_cases, among_front, among_here, among_more, not_in_append}
+use Rattle.sporc_play.proofs.Places.{AreDistinct, IsNotIn, among_cases, among_front, among_here, among_more, not_in_append}
 use Rattle.std.proofs.lemmas.Map.Views.{Contains-from_any}
 
 -- ---- each line may follow those before it
@@ -120,16 +119,13 @@ not_among {A = A} same test (y ∷ ys) x is = go (same y x) refl is (not_among s
 
 -- ---- numbers apart
 
-is_not : (b : Bool) → not b ≡ true → b ≡ false
-is_not b is = grind arith
-
 -- a number that may be declared is none of those before
 new_number : (before : List PlayLine) (n : ℕ) → may_declare (declarations before) n ≡ true → IsNotIn n (numbers before)
 new_number before n may =
     let d = declarations before in
     let a = and_parts (not d.begun) (nat_lt (length d.numbers) _ && not (is_declared d n)) may in
     let b = and_parts (nat_lt (length d.numbers) _) (not (is_declared d n)) a.1 in
-    subst (IsNotIn n) (numbers_are before) (not_among (λ (a b : ℕ). a == b) of_numbers d.numbers n (is_not (is_declared d n) b.1))
+    subst (IsNotIn n) (numbers_are before) (not_among (λ (a b : ℕ). a == b) of_numbers d.numbers n (not-true (is_declared d n) b.1))
 
 new_by : (before : List PlayLine) (c : Command) (n : ℕ) → may_follow (declarations before) c ≡ true → declared_member c ≡ Some n → IsNotIn n (numbers before)
 new_by before (commands.Member m) n may is = let same : m.member ≡ n = cc in subst (λ (k : ℕ). IsNotIn k (numbers before)) same (new_number before m.member may)
@@ -210,7 +206,7 @@ devices_more before (commands.Device x) may fits apart =
     let d = declarations before in
     let a = and_parts (not d.begun) (is_client d (first_device x.member) && not (is_client d x)) may in
     let b = and_parts (is_client d (first_device x.member)) (not (is_client d x)) a.1 in
-    apart_push (devices before) x apart (subst (IsNotIn x) (clients_are before) (not_among same_device of_devices d.clients x (is_not (is_client d x) b.1)))
+    apart_push (devices before) x apart (subst (IsNotIn x) (clients_are before) (not_among same_device of_devices d.clients x (not-true (is_client d x) b.1)))
 devices_more before c may fits apart = subst (λ (ds : List Device). AreDistinct ds) (sym (append-nil (devices before))) apart
 
 devices_apart : (before lines : List PlayLine) → Follows before lines → AreInRange before → AreDistinct (devices before) → AreDistinct (devices (before ++ lines))

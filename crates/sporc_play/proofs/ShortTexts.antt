@@ -1,30 +1,70 @@
 -- No text that a client has shown is long: an edit adds few characters, entries that come add few in all, and giving up
 -- goes back to the committed text.
-use Rattle.std.proofs.Common.{◌≡◌, ℕ, zero, suc, ◌+◌, ◌*◌, ◌^◌, ◌≤◌, Bool, true, false, cond, List, [], ◌∷◌, ◌++◌, length, take, drop, refl, sym, ap, ◌∙◌, subst, arith, add-zero, zero-add, length-append, Option, None, Some}
-use Rattle.sporc_play.proofs.Common.{is_none, is_some, and_parts, take-append-le, take_all, fold-append, first_of, MAX_COUNT, Mark, apply, base_len, remove_marks, inserted_len, insert_marks, out_len}
-use Rattle.sporc_play.proofs.Common.{replacement, keep_marks, Genesis, change_in, Good, Meets, epoch_key, Kit, MAX_EDIT_BYTES, MAX_EVENTS, edit_checks, edit_fault, ClientModel, state_of, Logged, Edit}
-use Rattle.sporc_play.proofs.Common.{Change, Submit, Dropped, Accept, Discard, Opening, PlainClient, committed_of, opened, shown_after, shown_of, change_comes, edit_comes, form_coming, is_flight}
-use Rattle.sporc_play.proofs.Common.{keeps, own_comes, replay_from, restated, step, replay_opening}
+use Rattle.std.proofs.Common.{◌≡◌, ℕ, zero, suc, ◌+◌, ◌*◌, ◌^◌, ◌≤◌, Bool, true, false, cond, List, [], ◌∷◌, ◌++◌, length, take, drop, refl, sym, ap, ◌∙◌, subst, arith, add-zero, zero-add}
+use Rattle.std.proofs.Common.{length-append, Option, append_assoc, append-nil, Result, Ok, Err, IfOk}
+use Rattle.sporc_play.proofs.Common.{is_some, and_parts, take-append-le, take_all, fold-append, MAX_COUNT, Mark, apply, base_len, remove_marks, inserted_len, insert_marks, out_len}
+use Rattle.sporc_play.proofs.Common.{replacement, keep_marks, Genesis, change_in, Good, Meets, epoch_key, Kit, MAX_EDIT_BYTES, MAX_EVENTS, Event, ClientModel, state_of, Logged, Edit}
+use Rattle.sporc_play.proofs.Common.{Accept, Discard, Opening, PlainClient, committed_of, opened, shown_after, shown_of, change_comes, edit_comes, form_coming, is_flight, keeps, own_comes}
+use Rattle.sporc_play.proofs.Common.{replay_from, restated, step, replay_opening, added, entries_by, journal_from, journal_of, accepted, forms_of, next_form, text_after, beyond, IsSound}
 use Rattle.sporc_hash.proofs.Lists.{from_end}
 use Rattle.sporc_delta.proofs.Lengths.{inserted_len-keep_marks, out_len-append, out_len-remove_marks, out_len-insert_marks}
 use Rattle.sporc_suffix.specs.Forms.{Follow, all_inserted}
 use Rattle.sporc_suffix.proofs.Following.{all_inserted-append}
 use Rattle.sporc_xform.proofs.LengthLemmas.{out_len-le}
 use Rattle.sporc_head.specs.declared.limits.TheConstants.{MAX_ENTRIES}
-use Rattle.sporc_line.specs.Document.{forms_of, next_form, text_after}
 use Rattle.sporc_line.proofs.FormLengths.{inserted_len-over, length-apply, length-text}
 use Rattle.sporc_line.proofs.Goods.{first_key, good_none, good_push, last_passes}
 use Rattle.sporc_line.proofs.MoreForms.{forms_push}
+use Rattle.sporc_client.proofs.Checked.{edit_may}
 use Rattle.sporc_client.specs.Allowed.{can_log, can_log_all, is_allowed}
-use Rattle.sporc_client.specs.Rebasing.{beyond}
-use Rattle.sporc_client.specs.Soundness.{IsSound}
 use Rattle.sporc_client.specs.Step.{replay}
 use Rattle.sporc_client.proofs.AcceptedHistories.{accept_passes}
-use Rattle.sporc_client.proofs.Checked.{edit_fault_is, edit_passed}
 use Rattle.sporc_client.proofs.Comings.{follow_last}
-use Rattle.sporc_client.proofs.Small.{inserted_len-beyond, inserted_len-bytes}
-use Rattle.sporc_client.proofs.TextLengths.{few_inserted, length-text_of}
-use Rattle.sporc_play.proofs.ShownForms.{log_grows}
+use Rattle.sporc_client.proofs.Small.{inserted_len-beyond, inserted_len-bytes, few_inserted, length-text_of}
+
+-- ---- the shown deltas of a client: one for each event of its log
+
+-- lists of which one begins with the other
+abbrev pub Grows : List (List Mark) → List (List Mark) → ℕ → Type 0
+Grows old new n = (more : List (List Mark)) × (new ≡ old ++ more) × (length more ≡ n)
+
+step_grows : (c : PlainClient) (event : Logged) → Grows c.shown (step c event).shown 1
+step_grows c (Accept by bytes) = go (is_flight c bytes) (is_some (change_in bytes))
+  where
+    go : (own change : Bool) → Grows c.shown (cond own (own_comes c bytes) (cond change (change_comes c bytes) (edit_comes c bytes))).shown 1
+    go true change = (_, refl, refl)
+    go false true = (_, refl, refl)
+    go false false = (_, refl, refl)
+step_grows c event = (_, refl, refl)
+
+pub log_grows : (c : PlainClient) (log : List Logged) → Grows c.shown (replay_from c log).shown (length log)
+log_grows c [] = ([], sym (append-nil c.shown), refl)
+log_grows c (event ∷ log) =
+    let one = step_grows c event in
+    let rest = log_grows (step c event) log in (
+      one.0 ++ rest.0,
+      rest.1 ∙ ap (λ (xs : List (List Mark)). xs ++ rest.0) one.1 ∙ append_assoc c.shown one.0 rest.0,
+      omega (arith, length-append one.0 rest.0, one.2, rest.2),
+    )
+
+-- a client has shown a delta for each event
+pub shown_count : (o : Opening) (log : List Logged) → length (replay o log).shown ≡ length log
+unfolding replay
+shown_count o log = let grown = log_grows (opened o) log in ap length grown.1 ∙ grown.2
+
+-- and its journal has so many events
+journal_from_count : (accepted : ℕ) (log : List Logged) → length (journal_from accepted log) ≡ length log
+journal_from_count accepted [] = refl
+journal_from_count accepted (event ∷ log) = ap suc (journal_from_count (accepted + length (entries_by event)) log)
+
+pub journal_count : (o : Opening) (log : List Logged) (journal : List Event) → journal ≡ journal_of log → length journal ≡ length (replay o log).shown
+journal_count o log journal is = ap length is ∙ journal_from_count 0 log ∙ sym (shown_count o log)
+
+-- what a call that adds an event answers
+pub events_told : {F : Type 0} (o : Opening) (log new : List Logged) (event : Logged) (answer : Result ℕ F) → IfOk answer (λ n. n ≡ length new) → new ≡ log ++ added answer event
+    → IfOk answer (λ n. n ≡ length (replay o log).shown + 1)
+events_told o log new event (Ok n) count grown = count ∙ ap length grown ∙ length-append log (event ∷ []) ∙ ap (λ (k : ℕ). k + 1) (sym (shown_count o log))
+events_told o log new event (Err fault) count grown = tt
 
 -- ---- histories
 
@@ -84,14 +124,6 @@ entry_short c b f short good follow few =
       all_inserted-append (forms_of g kit c.entries) (next_form g kit c.entries b ∷ []),
     )
 
-no_fault : (c : PlainClient) (by seen : ℕ) (marks : List Mark) → can_log c (Edit by seen marks) ≡ true → first_of (edit_checks c seen marks) ≡ None
-unfolding can_log
-no_fault c by seen marks may = sym (edit_fault_is c seen marks) ∙ none_of (edit_fault c seen marks) may
-  where
-    none_of : {F : Type 0} (o : Option F) → is_none o ≡ true → o ≡ None
-    none_of None h = refl
-    none_of (Some x) h = absurd cc
-
 discard_short : (c : PlainClient) → IsShort c → (n : ℕ) → Follow 0 (c.shown ++ replacement n (committed_of c) ∷ [])
     → length (text_after (c.shown ++ replacement n (committed_of c) ∷ [])) ≤ 2 ^ 34 + MAX_EDIT_BYTES * length (c.shown ++ replacement n (committed_of c) ∷ []) + all_inserted (forms_of c.opening.genesis c.opening.kit c.entries)
 discard_short c short n follow =
@@ -108,12 +140,9 @@ discard_short c short n follow =
 
 step_short : (c : PlainClient) (event : Logged) → IsShort c → can_log c event ≡ true → Follow 0 (step c event).shown → IsShort (step c event)
 step_short c (Edit by seen marks) short may follow =
-    let passed = edit_passed c seen marks (no_fault c by seen marks may) in
+    let passed = edit_may c by seen marks may in
     let few : inserted_len (restated c seen marks) ≤ MAX_EDIT_BYTES = omega (arith, inserted_len-over marks (drop seen c.shown), inserted_len-bytes marks, passed.bytes) in
     record { good = short.good; text = edit_short c (restated c seen marks) short follow few }
-step_short c (Change by change) short may follow = record { good = short.good; text = kept_short c (length (shown_of c)) short follow }
-step_short c (Submit by bytes) short may follow = record { good = short.good; text = kept_short c (length (shown_of c)) short follow }
-step_short c (Dropped by fault) short may follow = record { good = short.good; text = kept_short c (length (shown_of c)) short follow }
 step_short c (Accept by bytes) short may follow = go (is_flight c bytes) (is_some (change_in bytes)) follow
   where
     good : Good c.opening.genesis c.opening.kit (c.entries ++ bytes ∷ [])
@@ -127,6 +156,7 @@ step_short c (Accept by bytes) short may follow = go (is_flight c bytes) (is_som
     go false true follow = record { good = good; text = entry_short c bytes (keeps c) short good follow none }
     go false false follow = record { good = good; text = entry_short c bytes (beyond (form_coming c bytes) c.pending) short good follow (inserted_len-beyond (form_coming c bytes) c.pending) }
 step_short c (Discard by) short may follow = record { good = short.good; text = discard_short c short (length (shown_of c)) follow }
+step_short c event short may follow = record { good = short.good; text = kept_short c (length (shown_of c)) short follow }
 
 -- ---- its log
 

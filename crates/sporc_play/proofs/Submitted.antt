@@ -1,10 +1,10 @@
 -- What a call of `submit` did, for a client that keeps no ticket and whose disk works.
-use Rattle.std.proofs.Common.{◌≡◌, ◌≢◌, ℕ, ◌+◌, ◌^◌, ◌<◌, Bool, true, false, cond, eq-eqb, List, [], ◌++◌, length, refl, sym, ap, ap₂, ◌∙◌, subst, arith, add-zero, Option, None, Some, Result, Ok, Err, inl, inr, IfOk, option_map}
-use Rattle.sporc_play.proofs.Common.{◌==◌, ◌⊎◌, is_none, ◌&&◌, option_to_list, OnOk, eqb-true, LeafFault, height_of, SubmitFault, Submitted, ClientModel}
-use Rattle.sporc_play.proofs.Common.{state_of, PlainClient, Due, Waiting, Nothing, Drop, Refuse, Sign, answered, due, is_signing, submission_added, entries_in, leaf_next}
-use Rattle.sporc_play.proofs.Common.{MemoryDiskModel, Seat, random_of, AreDrawn, ClientSubmitted, HasSubmitted, IsReady, IsSubmitted, last_with}
+use Rattle.std.proofs.Common.{◌≡◌, ◌≢◌, ℕ, ◌+◌, ◌^◌, ◌<◌, Bool, true, false, cond, eq-eqb, List, [], ◌++◌, length, refl, sym, ap, ap₂, ◌∙◌, subst, arith, add-zero, Option, None, Some, Result, Ok, Err}
+use Rattle.std.proofs.Common.{inl, inr, IfOk, option_map}
+use Rattle.sporc_play.proofs.Common.{◌==◌, ◌⊎◌, is_none, ◌&&◌, option_to_list, OnOk, eqb-true, LeafFault, height_of, SubmitFault, Submitted, ClientModel, state_of, PlainClient, Due, Sign, answered}
+use Rattle.sporc_play.proofs.Common.{due, is_signing, submission_added, entries_in, leaf_next, MemoryDiskModel, Seat, random_of, AreDrawn, ClientSubmitted, HasSubmitted, IsReady, IsSubmitted}
+use Rattle.sporc_play.proofs.Common.{last_with, DrawFaults, Draws, LeavesModel}
 use Rattle.lms_leaf.specs.declared.faults.LeafFault.TheVariants as leaves
-use Rattle.lms_leaf.specs.Leaves.{DrawFaults, Draws, LeavesModel}
 use Rattle.sporc_base.specs.Outcome.{GivesUnless}
 use Rattle.sporc_client.specs.declared.fault.SubmitFault.TheVariants as faults
 use Rattle.sporc_client.specs.declared.submitted.Submitted.TheVariants as submitted
@@ -37,11 +37,8 @@ record Signs (answer : Result Submitted SubmitFault) : Type 0 where
   is : answer ≡ Ok (submitted.Entry entry)
 
 signs_with : (c : PlainClient) (random : List ℕ) (leaf : ℕ) (d : Due) → is_signing d ≡ true → Signs (answered c random (Ok leaf) d)
-signs_with c random leaf Waiting signs = absurd cc
-signs_with c random leaf Nothing signs = absurd cc
-signs_with c random leaf (Drop fault) signs = absurd cc
-signs_with c random leaf (Refuse fault) signs = absurd cc
 signs_with c random leaf (Sign item) signs = record { entry = _; is = refl }
+signs_with c random leaf d signs = absurd cc
 
 no_leaf : (c : PlainClient) (random : List ℕ) (next : ℕ) (d : Due) → is_signing d ≡ true → entries_in (answered c random (Err (leaves.Exhausted next)) d) ≡ []
 no_leaf c random next d signs = grind arith

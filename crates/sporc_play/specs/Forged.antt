@@ -11,7 +11,6 @@ use Rattle.sporc_cipher.specs.Mask.{mask_of}
 use Rattle.sporc_delta.specs.Format.{delta_bytes}
 use Rattle.sporc_delta.specs.Marks.{insertion}
 use Rattle.sporc_member.specs.declared.change.Change.{Change as MemberChange}
-use Rattle.sporc_member.specs.declared.change.Change.TheVariants as changes
 use Rattle.sporc_member.specs.declared.change.ChangeFault.{ChangeFault}
 use Rattle.sporc_member.specs.declared.device.TheConstants.{FIRST_DEVICE}
 use Rattle.sporc_member.specs.declared.limits.TheConstants.{MAX_MEMBERS}
@@ -21,7 +20,7 @@ use Rattle.sporc_entry.specs.declared.change.ChangeBody.{ChangeBody}
 use Rattle.sporc_entry.specs.declared.entry.Entry.{Entry}
 use Rattle.sporc_entry.specs.declared.header.Header.{Header}
 use Rattle.sporc_entry.specs.declared.wrap.Wrap.{Wrap}
-use Rattle.sporc_entry.specs.ChangeBody.{change_body_bytes}
+use Rattle.sporc_entry.specs.ChangeBody.{ChangeWith, IsKey, change_body_bytes}
 use Rattle.sporc_entry.specs.Entry.{entry_bytes, signed_string}
 use Rattle.sporc_entry.specs.Version.{names_device, version_of}
 use Rattle.sporc_epoch.specs.Keys.{Keys}
@@ -135,19 +134,18 @@ forged_change c h change new = body_sealed (forged_sealing c h change new)
 
 -- a key that it adds has 56 bytes
 abbrev pub IsSmallChange : MemberChange → Type 0
-IsSmallChange (changes.Add member role key) = length key ≡ 56
-IsSmallChange (changes.Remove member) = ⊤
-IsSmallChange (changes.SetRole member role) = ⊤
-IsSmallChange (changes.AddDevice member device key) = length key ≡ 56
-IsSmallChange (changes.DropDevice member device) = ⊤
-IsSmallChange changes.Upgrade = ⊤
+IsSmallChange change = ChangeWith (λ member. ⊤) (λ device. ⊤) IsKey change
+
+-- a body whose commitment, and each sealed key of which, is such
+pub record BodyWith (Sealed : List ℕ → Type 0) (body : ChangeBody) : Type 0 where
+  pub commitment : Sealed body.commitment
+  pub previous : Sealed body.previous
+  pub wraps : AllByRecursion (λ w. Sealed w.sealed) body.wraps
 
 -- a body whose sealed keys have 32 bytes each, for at most 64 members
 pub record IsSmallBody (body : ChangeBody) : Type 0 where
   pub change : IsSmallChange body.change
-  pub commitment : length body.commitment ≡ 32
-  pub previous : length body.previous ≡ 32
-  pub wraps : AllByRecursion (λ w. length w.sealed ≡ 32) body.wraps
+  pub parts : BodyWith (λ bytes. length bytes ≡ 32) body
   pub few : length body.wraps ≤ MAX_MEMBERS
 
 -- bytes, the lowest bit of the first of them changed

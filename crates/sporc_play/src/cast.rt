@@ -245,7 +245,7 @@ pub fn first_ring(alloc: Global) -> Result<Ring, Memory>
 }
 
 /// Adds a founder before the first whose number is above its own.
-#[tactic(auto, using(crate::proofs::Rosters::put_in_place))]
+#[tactic(auto, using(crate::proofs::Places::put_in_place))]
 pub fn insert_founder(founders: &mut Vec<Founder>, founder: Founder) -> Result<(), Memory>
     ensures ok { OnOk result
         (founders.new.items ≡ insert_by (λ f. f.member) founder founders.old.items) }
@@ -256,7 +256,7 @@ pub fn insert_founder(founders: &mut Vec<Founder>, founder: Founder) -> Result<(
 }
 
 // The place of the first founder whose number is above that of this one, or the end.
-#[tactic(auto, using(crate::proofs::Rosters::place_step))]
+#[tactic(auto, using(crate::proofs::Places::place_step))]
 fn place_of(founders: &[Founder], founder: &Founder) -> usize
     ensures within { result ≤ length founders.now }
     ensures value { result ≡ place_among founder.now.member (founder_numbers founders.now) }

@@ -1,7 +1,6 @@
 -- Texts that are appended one after another.
 use Rattle.std.proofs.Common.{◌≡◌, ℕ, List, ◌++◌, append_assoc, ap, ◌∙◌, Result, Ok, Err}
-use Rattle.sporc_report.proofs.Common.{OnErr, OnOk}
-use Rattle.sporc_report.specs.Appending.{BeginsWith}
+use Rattle.sporc_report.proofs.Common.{OnErr, OnOk, BeginsWith}
 
 pub begins_then : (old mid new text : List ℕ) → mid ≡ old ++ text → BeginsWith new mid → BeginsWith new old
 begins_then old mid new text first later = (text ++ later.0, later.1 ∙ ap (λ (t : List ℕ). t ++ later.0) first ∙ append_assoc old text later.0)

@@ -1,13 +1,12 @@
 -- The lines of entries, one after another, and the text that they tell.
-use Rattle.std.proofs.Common.{◌≡◌, ℕ, suc, zero, ◌-◌, ◌<◌, ◌≤◌, List, [], ◌∷◌, ◌++◌, length, take, drop, map, fold, get_or, Option, None, Some, Result, Ok, refl, sym, ap, ap₂, ◌∙◌, subst, arith, append_assoc}
-use Rattle.sporc_report.proofs.Common.{drop_all, length-map}
-use Rattle.std.specs.List.{slice_get}
+use Rattle.std.proofs.Common.{◌≡◌, ℕ, suc, zero, ◌-◌, ◌<◌, ◌≤◌, List, [], ◌∷◌, ◌++◌, length, take, drop, map, fold, get_or, option_map, Option, None, Some, Result, Ok, refl, sym, ap, ap₂, ◌∙◌, subst, arith, append_assoc}
+use Rattle.sporc_report.proofs.Common.{drop_all, length-map, slice_get, Mark, apply, keep_marks, Genesis, lines_behind}
 use Rattle.std.specs.Result.{IsOk}
+use Rattle.std.proofs.lemmas.List.Sums.{fold-append}
+use Rattle.std.proofs.lemmas.Option.{slice_get-map, slice_get_read}
 use Rattle.sporc_hash.proofs.Lists.{from_end}
-use Rattle.sporc_delta.specs.Marks.{Mark, apply, keep_marks}
 use Rattle.sporc_entry.specs.declared.entry.Entry.{Entry}
 use Rattle.sporc_entry.specs.declared.change.ChangeBody.{ChangeBody}
-use Rattle.sporc_entry.specs.declared.genesis.Genesis.{Genesis}
 use Rattle.sporc_entry.specs.Entry.{entry_of, change_of}
 use Rattle.sporc_line.specs.Kit.{Kit}
 use Rattle.sporc_line.specs.Operations.{Operation}
@@ -16,37 +15,32 @@ use Rattle.sporc_line.specs.Good.{Good}
 use Rattle.sporc_line.proofs.FormLengths.{change_form, forms_take, length-forms}
 use Rattle.sporc_line.proofs.Goods.{good_entry, good_front, good_take, last_passes}
 use Rattle.sporc_line.proofs.MoreForms.{forms_push, text_push}
-use Rattle.sporc_report.specs.EntryLines.{committed, committed_by, committed_with, done_by, entry_line, followed, lines_after, lines_behind, text_behind}
+use Rattle.sporc_report.specs.EntryLines.{committed, committed_by, committed_with, done_by, entry_line, followed, lines_after, text_behind}
 
 -- ---- entries with their forms
 
 drop_with : (bs : List (List ℕ)) (fs : List (List Mark)) (n : ℕ) (b : List ℕ) (f : List Mark) → slice_get bs n ≡ Some b → slice_get fs n ≡ Some f
     → drop n (committed_with bs fs) ≡ committed_by (entry_of b) f ∷ drop (suc n) (committed_with bs fs)
-drop_with [] fs n b f is form = absurd cc
-drop_with (c ∷ bs) [] n b f is form = absurd cc
 drop_with (c ∷ bs) (g ∷ fs) zero b f is form =
     let same : c ≡ b = cc in
     let like : g ≡ f = cc in
     ap₂ (λ (x : List ℕ) (y : List Mark). committed_by (entry_of x) y ∷ committed_with bs fs) same like
 drop_with (c ∷ bs) (g ∷ fs) (suc n) b f is form = drop_with bs fs n b f is form
+drop_with bs fs n b f is form = absurd cc
 
 length_with : (bs : List (List ℕ)) (fs : List (List Mark)) → length (committed_with bs fs) ≤ length bs
-length_with [] fs = omega arith
-length_with (b ∷ bs) [] = omega arith
 length_with (b ∷ bs) (f ∷ fs) = omega (arith, length_with bs fs)
+length_with bs fs = omega arith
 
 take_with : (n : ℕ) (bs : List (List ℕ)) (fs : List (List Mark)) → take n (committed_with bs fs) ≡ committed_with (take n bs) (take n fs)
-take_with zero bs fs = refl
-take_with (suc n) [] fs = refl
-take_with (suc n) (b ∷ bs) [] = refl
 take_with (suc n) (b ∷ bs) (f ∷ fs) = ap (λ (os : List Operation). committed_by (entry_of b) f ∷ os) (take_with n bs fs)
+take_with n bs fs = refl
 
 with_more : (bs : List (List ℕ)) (fs : List (List Mark)) (b : List ℕ) (f : List Mark) → length fs ≡ length bs
     → committed_with (bs ++ b ∷ []) (fs ++ f ∷ []) ≡ committed_with bs fs ++ committed_by (entry_of b) f ∷ []
 with_more [] [] b f same = refl
-with_more [] (g ∷ fs) b f same = absurd (omega (arith, same))
-with_more (c ∷ bs) [] b f same = absurd (omega (arith, same))
 with_more (c ∷ bs) (g ∷ fs) b f same = ap (λ (os : List Operation). committed_by (entry_of c) g ∷ os) (with_more bs fs b f (omega (arith, same)))
+with_more bs fs b f same = absurd (omega (arith, same))
 
 -- ---- their lines
 
@@ -73,12 +67,9 @@ no_lines g kit A n past = ap (lines_after n) (drop_all n (committed_with A (form
 
 -- an entry in a list of vectors
 pub entry_at : {V : Type 0} (f : V → List ℕ) (vs : List V) (A : List (List ℕ)) (i : ℕ) (v : V) (b : List ℕ) → map f vs ≡ A → i < length A → v ≡ get_or vs i v → b ≡ f v → slice_get A i ≡ Some b
-entry_at {V} f vs A i v b is within at bytes = subst (λ (es : List (List ℕ)). slice_get es i ≡ Some b) is (read vs i (omega (arith, within, ap length is, length-map vs f)) at)
-  where
-    read : (vs : List V) (i : ℕ) → i < length vs → v ≡ get_or vs i v → slice_get (map f vs) i ≡ Some b
-    read [] i within at = absurd (omega arith)
-    read (w ∷ vs) zero within at = ap (λ (x : V). Some (f x)) (sym at) ∙ ap Some (sym bytes)
-    read (w ∷ vs) (suc i) within at = read vs i (omega arith) at
+entry_at f vs A i v b is within at bytes =
+    ap (λ (es : List (List ℕ)). slice_get es i) (sym is) ∙ slice_get-map f vs i
+    ∙ ap (option_map f) (slice_get_read vs (length vs) i v refl (omega (arith, within, ap length is, length-map vs f)) at) ∙ ap Some (sym bytes)
 
 -- the entries of a good history can be read
 pub is_read : (g : Genesis) (kit : Kit) (A : List (List ℕ)) (i : ℕ) (b : List ℕ) → Good g kit A → slice_get A i ≡ Some b → IsOk (entry_of b)
@@ -101,10 +92,6 @@ told_by_entry g kit A b e is = ap (λ (r : Result Entry ℕ). followed (text_of 
         ap (λ (o : Option ChangeBody). text_behind (done_by o (next_form g kit A b)) (text_of g kit A)) some
         ∙ sym (all_kept (text_of g kit A)) ∙ ap (λ (m : List Mark). apply m (text_of g kit A)) (sym (change_form g kit A b e c is some))
 
-fold_push : (os : List Operation) (o : Operation) (s : List ℕ) → fold followed s (os ++ o ∷ []) ≡ followed (fold followed s os) o
-fold_push [] o s = refl
-fold_push (p ∷ os) o s = fold_push os o (followed s p)
-
 abbrev Tells : Genesis → Kit → List (List ℕ) → Type 0
 Tells g kit A = Good g kit A → fold followed [] (committed g kit A) ≡ text_of g kit A
 
@@ -121,7 +108,7 @@ tells_more g kit A b before good =
     let told = committed_by (entry_of b) form in
     ap (λ (fs : List (List Mark)). fold followed [] (committed_with (A ++ b ∷ []) fs)) (forms_push g kit A b good)
     ∙ ap (fold followed []) (with_more A (forms_of g kit A) b form (length-forms g kit A))
-    ∙ fold_push (committed_with A (forms_of g kit A)) told []
+    ∙ fold-append followed [] (committed_with A (forms_of g kit A)) (told ∷ [])
     ∙ ap (λ (s : List ℕ). followed s told) (before front)
     ∙ told_by_entry g kit A b e is ∙ sym (text_push g kit A b good)
 

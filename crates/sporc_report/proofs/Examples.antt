@@ -1,9 +1,8 @@
 -- Worked examples: lines of a journal, and of what a client shows, as docs/FORMATS.md has them.
 use Rattle.std.proofs.Common.{◌≡◌, ℕ, [], ◌∷◌, codes, refl}
-use Rattle.sporc_report.proofs.Common.{Device, Roster, after_change, founded, compare_line, members_text, delta_text, event_text, journal_lines}
+use Rattle.sporc_report.proofs.Common.{Device, Roster, after_change, founded, compare_line, members_text, delta_text, event_text, journal_lines, Remove, Insert, Keep}
 use Rattle.std.specs.Fmt.{digits}
 use Rattle.hex.specs.Hex.{encode_with}
-use Rattle.sporc_delta.specs.Marks.{Remove, Insert, Keep}
 use Rattle.sporc_hash.specs.declared.verdict.Verdict.TheVariants.{ForkedAfter, Prefix}
 use Rattle.sporc_member.specs.declared.change.Change.TheVariants as changes
 use Rattle.sporc_member.specs.declared.change.ChangeFault.TheVariants as change_faults

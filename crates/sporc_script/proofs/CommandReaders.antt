@@ -1,23 +1,12 @@
 -- A line is read as the one command that it spells.
 use Rattle.std.proofs.Common.{◌≡◌, ℕ, List, ◌∷◌, ◌++◌, Some, option_map, refl, ap}
-use Rattle.sporc_script.proofs.Common.{codes, decimal, Device, Command, Keyword, MemberRole, InRange, spelling, edit_of, roster_edit_of, flip_of, further_device_of, give_of, keyword_of, member_role_of}
-use Rattle.sporc_script.proofs.Common.{restart_of, tree_of, two_devices_of, two_members_of, device_of, member_of, forgery_of, forgery_spelling, device_pair_spelling, device_text, edit_spelling}
-use Rattle.sporc_script.proofs.Common.{flip_spelling, give_spelling, keyword_name, member_device_spelling, member_role_spelling, pair_spelling, restart_spelling, roster_edit_spelling, tree_spelling}
-use Rattle.sporc_script.proofs.Common.{number_of}
+use Rattle.sporc_script.proofs.Common.{codes, decimal, Device, Command, Keyword, MemberRole, InRange, spelling, edit_of, roster_edit_of, flip_of, further_device_of, give_of, keyword_of}
+use Rattle.sporc_script.proofs.Common.{member_role_of, restart_of, tree_of, two_devices_of, two_members_of, device_of, member_of, forgery_of, forgery_spelling, device_pair_spelling, device_text}
+use Rattle.sporc_script.proofs.Common.{edit_spelling, flip_spelling, give_spelling, keyword_name, member_device_spelling, member_role_spelling, pair_spelling, restart_spelling, roster_edit_spelling}
+use Rattle.sporc_script.proofs.Common.{tree_spelling, number_of, DevicePair, Edit, Flip, Give, Join, Pair, Restart, RosterEdit, Tree, Forgery, join_of, join_spelling}
 use Rattle.sporc_script.specs.declared.command.Command.TheVariants as commands
-use Rattle.sporc_script.specs.declared.command.DevicePair.{DevicePair}
-use Rattle.sporc_script.specs.declared.command.Edit.{Edit}
-use Rattle.sporc_script.specs.declared.command.Flip.{Flip}
-use Rattle.sporc_script.specs.declared.command.Give.{Give}
-use Rattle.sporc_script.specs.declared.command.Join.{Join}
 use Rattle.sporc_script.specs.declared.command.Keyword.TheVariants as keywords
-use Rattle.sporc_script.specs.declared.command.Pair.{Pair}
-use Rattle.sporc_script.specs.declared.command.Restart.{Restart}
-use Rattle.sporc_script.specs.declared.command.RosterEdit.{RosterEdit}
-use Rattle.sporc_script.specs.declared.command.Tree.{Tree}
-use Rattle.sporc_script.specs.declared.sign.Forgery.{Forgery}
 use Rattle.sporc_script.specs.Commands.{command_of, command_with}
-use Rattle.sporc_script.specs.Numbers.{join_of, join_spelling}
 use Rattle.sporc_script.proofs.DeviceWords.{device_exact}
 use Rattle.sporc_script.proofs.EditReaders.{edit_exact, roster_edit_exact}
 use Rattle.sporc_script.proofs.Exact.{IsExact}

@@ -1,11 +1,9 @@
 -- What a cut at the first space gives.
 use Rattle.std.proofs.Common.{◌≡◌, ◌≢◌, ℕ, ◌+◌, ◌<◌, ◌^◌, Bool, true, false, List, [], ◌∷◌, ◌++◌, length, take, drop, get_or, flat_map, Option, Some, None, option_map, refl, sym, ap, ◌∙◌, subst, inl, inr, add-one, drop-cons, append_assoc, append-nil, length-drop, arith, ◌-◌, ◌≤◌, not, ◌&&◌}
 use Rattle.sporc_script.proofs.Common.{◌==◌, if◌then◌else◌, and_parts, eqb-true, nil_from_length, take_all, take_more, decimal, AllDigits, decimal_is_IsNumeral, eqb_tells, Lacks, cut, quoted}
-use Rattle.sporc_script.proofs.Common.{encode_utf8_all, same_Some}
-use Rattle.std.specs.List.{AllByRecursion, list_all}
-use Rattle.std.proofs.lemmas.Str.Parse.{digit_from_value}
+use Rattle.sporc_script.proofs.Common.{encode_utf8_all, same_Some, AllByRecursion, list_all, digit_from_value}
 use Rattle.sporc_script.specs.declared.words.Place.{Place}
-use Rattle.sporc_script.specs.declared.words.Place.TheVariants.{Outside, Quoted, Escaped}
+use Rattle.sporc_script.specs.declared.words.Place.TheVariants.{Outside, Quoted}
 use Rattle.sporc_script.specs.Words.{cut_at, ends_word, place_after, split_at, with_first}
 use Rattle.sporc_script.proofs.CharEscapes.{escape_byte, flat_map-encode_all}
 
@@ -35,8 +33,7 @@ cut_word word rest whole = cut_at-word Outside word rest whole
 
 ends_at_space : (place : Place) (b : ℕ) → ends_word place b ≡ true → b ≡ 32
 ends_at_space Outside b e = elim (eqb_tells b 32) [ inl h ↦ h.1 | inr h ↦ let no : true ≡ false = sym e ∙ h.0 in cc ]
-ends_at_space Quoted b e = cc
-ends_at_space Escaped b e = cc
+ends_at_space place b e = cc
 
 abbrev pub parted : List ℕ → List ℕ → List ℕ × List ℕ
 parted word rest = (word, rest)

@@ -2,16 +2,12 @@
 use Rattle.std.proofs.Common.{◌≡◌, ◌⊎◌, inl, inr, ℕ, Bool, true, false, List, [], ◌∷◌, ◌++◌, Option, Some, None, option_map, refl, ap, ◌∙◌, subst}
 use Rattle.sporc_script.proofs.Common.{codes, if◌then◌else◌, decimal, all_scalars, bytes_eq, bytes_eq-Decides, Device, MemberRole, member_device_of, member_role_of, quoted, device_of, keyed_of}
 use Rattle.sporc_script.proofs.Common.{member_of, pair_of, then_read, EditInRange, IsU64, RosterChangeInRange, RosterEditInRange, SeenInRange, TextEditInRange, edit_spelling, member_role_spelling}
-use Rattle.sporc_script.proofs.Common.{roster_change_spelling, roster_edit_spelling, roster_word_name, stated_spelling, text_edit_spelling, text_word_name, device_text, member_device_spelling, text_of}
-use Rattle.sporc_script.proofs.Common.{cut, number_of}
-use Rattle.sporc_script.specs.declared.command.Edit.{Edit}
-use Rattle.sporc_script.specs.declared.command.RosterEdit.{RosterEdit}
+use Rattle.sporc_script.proofs.Common.{roster_change_spelling, roster_edit_spelling, roster_word_name, stated_spelling, text_edit_spelling, text_word_name, device_text, member_device_spelling}
+use Rattle.sporc_script.proofs.Common.{text_of, cut, number_of, Edit, RosterEdit, Insertion, Removal}
 use Rattle.sporc_script.specs.declared.roster_change.RosterChange.{RosterChange}
 use Rattle.sporc_script.specs.declared.roster_change.RosterChange.TheVariants as changes
 use Rattle.sporc_script.specs.declared.roster_change.RosterWord.{RosterWord}
 use Rattle.sporc_script.specs.declared.roster_change.RosterWord.TheVariants as roster_words
-use Rattle.sporc_script.specs.declared.text_edit.Insertion.{Insertion}
-use Rattle.sporc_script.specs.declared.text_edit.Removal.{Removal}
 use Rattle.sporc_script.specs.declared.text_edit.TextEdit.{TextEdit}
 use Rattle.sporc_script.specs.declared.text_edit.TextEdit.TheVariants as edits
 use Rattle.sporc_script.specs.declared.text_edit.TextWord.{TextWord}
@@ -161,12 +157,8 @@ roster_change_begins (changes.DropDevice d) range = record { word = roster_words
 roster_change_begins changes.Upgrade range = let no : true ≡ false = range.1 in absurd cc
 
 upgrade_or_more : (c : RosterChange) → RosterChangeInRange c → (c ≡ changes.Upgrade) ⊎ (HasMore c × (bytes_eq (roster_change_spelling c) (codes "upgrade") ≡ false))
-upgrade_or_more (changes.Add m) range = inr ((range, refl), refl)
-upgrade_or_more (changes.Remove m) range = inr ((range, refl), refl)
-upgrade_or_more (changes.SetRole m) range = inr ((range, refl), refl)
-upgrade_or_more (changes.AddDevice d) range = inr ((range, refl), refl)
-upgrade_or_more (changes.DropDevice d) range = inr ((range, refl), refl)
 upgrade_or_more changes.Upgrade range = inl refl
+upgrade_or_more c range = inr ((range, refl), refl)
 
 pub roster_change_exact : IsExact RosterChange RosterChangeInRange roster_change_spelling roster_change_of
 unfolding roster_change_of

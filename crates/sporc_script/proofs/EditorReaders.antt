@@ -1,18 +1,15 @@
 -- A line of an editor script is read as the one command that it spells.
 use Rattle.std.proofs.Common.{◌≡◌, ◌⊎◌, inl, inr, ℕ, true, false, List, [], ◌∷◌, ◌++◌, length, Option, Some, None, option_map, refl, sym, ap, ◌∙◌, arith}
-use Rattle.sporc_script.proofs.Common.{codes, decimal, bytes_eq, eqb-true, Decides-eqb, encode_lower, Device, Role, EditorCommand, EditorLine, MemberRole, insertion_of, removal_of, editor_line, hex_of}
-use Rattle.sporc_script.proofs.Common.{IsSkipped, member_device_of, member_role_of, role_of, quoted, device_number_of, keyed_of, member_of, pair_of, IsPayload, IsMember, DeviceInRange}
-use Rattle.sporc_script.proofs.Common.{member_device_spelling, member_role_spelling, role_name}
+use Rattle.sporc_script.proofs.Common.{codes, decimal, bytes_eq, eqb-true, Decides-eqb, encode_lower, Device, Role, EditorCommand, EditorLine, MemberRole, insertion_of, removal_of, editor_line}
+use Rattle.sporc_script.proofs.Common.{hex_of, IsSkipped, member_device_of, member_role_of, role_of, quoted, device_number_of, keyed_of, member_of, pair_of, IsPayload, IsMember, DeviceInRange}
+use Rattle.sporc_script.proofs.Common.{member_device_spelling, member_role_spelling, role_name, Insertion, Removal, editor_spelling, ReadsEditorLine}
 use Rattle.sporc_member.specs.declared.device.LiveDevice.{LiveDevice}
 use Rattle.sporc_member.specs.declared.founder.Founder.{Founder}
 use Rattle.sporc_script.specs.declared.editor_line.EditorCommand.TheVariants as commands
 use Rattle.sporc_script.specs.declared.editor_line.EditorWord.{EditorWord}
 use Rattle.sporc_script.specs.declared.editor_line.EditorWord.TheVariants as editor_words
 use Rattle.sporc_script.specs.declared.editor_line.TheConstants.{KEY_BYTES}
-use Rattle.sporc_script.specs.declared.text_edit.Insertion.{Insertion}
-use Rattle.sporc_script.specs.declared.text_edit.Removal.{Removal}
-use Rattle.sporc_script.specs.EditorLines.{EditorInRange, IsKey, SpellsEditor, editor_of, editor_spelling, editor_with, editor_word_name, editor_word_of, is_key, key_of_word, new_device_of, new_device_spelling, newcomer_of, newcomer_spelling}
-use Rattle.sporc_script.specs.Reading.{ReadsEditorLine}
+use Rattle.sporc_script.specs.EditorLines.{EditorInRange, IsKey, SpellsEditor, editor_of, editor_with, editor_word_name, editor_word_of, is_key, key_of_word, new_device_of, new_device_spelling, newcomer_of, newcomer_spelling}
 use Rattle.sporc_script.proofs.Cuts.{IsWord, is_bare, word_from_test}
 use Rattle.sporc_script.proofs.DeviceWords.{device_number_exact}
 use Rattle.sporc_script.proofs.EditReaders.{insertion_exact, removal_exact}
@@ -79,14 +76,8 @@ editor_begins (commands.DropDevice x) range = record { word = editor_words.DropD
 editor_begins commands.Upgrade range = let no : true ≡ false = range.1 in absurd cc
 
 upgrade_or_more : (c : EditorCommand) → EditorInRange c → (c ≡ commands.Upgrade) ⊎ (HasMore c × (bytes_eq (editor_spelling c) (codes "upgrade") ≡ false))
-upgrade_or_more (commands.Insert x) range = inr ((range, refl), refl)
-upgrade_or_more (commands.Remove x) range = inr ((range, refl), refl)
-upgrade_or_more (commands.Add x) range = inr ((range, refl), refl)
-upgrade_or_more (commands.Drop x) range = inr ((range, refl), refl)
-upgrade_or_more (commands.SetRole x) range = inr ((range, refl), refl)
-upgrade_or_more (commands.AddDevice x) range = inr ((range, refl), refl)
-upgrade_or_more (commands.DropDevice x) range = inr ((range, refl), refl)
 upgrade_or_more commands.Upgrade range = inl refl
+upgrade_or_more c range = inr ((range, refl), refl)
 
 pub editor_exact : IsExact EditorCommand EditorInRange editor_spelling editor_of
 unfolding editor_of

@@ -1,6 +1,7 @@
 -- Readers that are exact: they give a value where its spelling is what is read, and nothing elsewhere.
-use Rattle.std.proofs.Common.{◌≡◌, ℕ, Bool, true, false, List, [], ◌∷◌, ◌++◌, Option, Some, None, option_map, refl, sym, ap, ◌∙◌, subst}
-use Rattle.sporc_script.proofs.Common.{find, if◌then◌else◌, bytes_eq, bytes_eq-Decides, cond_some, same_Some, cut, pair_of, passing, then_read, with_more, named_of}
+use Rattle.std.proofs.Common.{◌≡◌, ℕ, Bool, true, List, ◌∷◌, ◌++◌, Option, Some, None, option_map, refl, sym, ap, ◌∙◌, subst}
+use Rattle.sporc_base.proofs.ListLemmas.{found_passes}
+use Rattle.sporc_script.proofs.Common.{if◌then◌else◌, bytes_eq, bytes_eq-Decides, cond_some, same_Some, cut, pair_of, passing, then_read, with_more, named_of}
 use Rattle.sporc_script.proofs.Cuts.{IsWord, cut_word, cut_end, cut_sound}
 
 pub none_unless : {A : Type 0} (o : Option A) → ((a : A) → o ≡ Some a → ⊥) → o ≡ None
@@ -122,17 +123,8 @@ module _ (A B : Type 0) (In : A → Type 0) (In' : B → Type 0) (spell : A → 
     complete = λ p range. more_complete p.0 p.1 range.0 range.1;
   }
 
-first_or : {A : Type 0} (test : A → Bool) (rest : Option A) (x a : A) (t : Bool) → test x ≡ t → (rest ≡ Some a → test a ≡ true)
-    → (if t then Some x else rest) ≡ Some a → test a ≡ true
-first_or test rest x a true is more e = subst (λ y. test y ≡ true) (same_Some x a e) is
-first_or test rest x a false is more e = more e
-
-find_some : {A : Type 0} (test : A → Bool) (all : List A) (a : A) → find test all ≡ Some a → test a ≡ true
-find_some test [] a e = cc
-find_some test (x ∷ xs) a e = first_or test (find test xs) x a (test x) refl (find_some test xs a) e
-
 pub named_exact : (A : Type 0) (name : A → List ℕ) (all : List A) → ((a : A) → named_of name all (name a) ≡ Some a) → IsExact A (λ _. Unit {0}) name (named_of name all)
 named_exact A name all each = record {
-  sound = λ bytes a e. (tt, sym ((bytes_eq-Decides (name a) bytes).0 (find_some (λ b. bytes_eq (name b) bytes) all a e)));
+  sound = λ bytes a e. (tt, sym ((bytes_eq-Decides (name a) bytes).0 (found_passes (λ b. bytes_eq (name b) bytes) all a e)));
   complete = λ a _. each a;
 }

@@ -1,14 +1,12 @@
 -- Worked examples: devices as words, and which lines of a play may declare or name them, as docs/FORMATS.md has them.
 use Rattle.std.proofs.Common.{◌≡◌, ℕ, true, false, [], ◌∷◌, codes, Some, None, refl}
-use Rattle.sporc_script.proofs.Common.{Device, spelling, Declared, declared_after, may_follow, none_declared, device_text}
+use Rattle.sporc_script.proofs.Common.{Device, spelling, Declared, declared_after, may_follow, none_declared, device_text, Admin, Editor, editor_spelling}
 use Rattle.std.specs.Fmt.{digits}
-use Rattle.sporc_member.specs.declared.role.Role.TheVariants.{Admin, Editor}
 use Rattle.sporc_script.specs.declared.command.Command.TheVariants as commands
 use Rattle.sporc_script.specs.declared.editor_line.EditorCommand.TheVariants as editor_commands
 use Rattle.sporc_script.specs.declared.roster_change.RosterChange.TheVariants as changes
 use Rattle.sporc_script.specs.declared.sign.Suffix.TheVariants as suffixes
 use Rattle.sporc_script.specs.declared.sign.What.TheVariants as whats
-use Rattle.sporc_script.specs.EditorLines.{editor_spelling}
 use Rattle.sporc_script.specs.Readers.{device_number_of, device_of, further_number_of, member_of}
 use Rattle.sporc_script.specs.Words.{number_of, split_at}
 

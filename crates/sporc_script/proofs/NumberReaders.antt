@@ -1,9 +1,7 @@
 -- Lists of numbers, read exactly.
 use Rattle.std.proofs.Common.{◌≡◌, ◌≢◌, ℕ, List, [], ◌∷◌, ◌++◌, Option, Some, None, option_map, refl, sym, ap, ◌∙◌, subst, inl, inr, arith, append_assoc}
-use Rattle.sporc_script.proofs.Common.{decimal, eqb_tells, same_Some, Device, device_of, then_read, IsU64, device_text, Lacks, Splits, number_of}
-use Rattle.std.specs.List.{AllByRecursion}
-use Rattle.sporc_script.specs.declared.command.Join.{Join}
-use Rattle.sporc_script.specs.Numbers.{JoinInRange, NumbersInRange, all_numbers, join_of, join_spelling, numbers_of, numbers_spelling, parts_of}
+use Rattle.sporc_script.proofs.Common.{decimal, eqb_tells, same_Some, Device, device_of, then_read, IsU64, device_text, Lacks, Splits, number_of, AllByRecursion, Join, join_spelling}
+use Rattle.sporc_script.specs.Numbers.{JoinInRange, NumbersInRange, all_numbers, join_of, numbers_of, numbers_spelling, parts_of}
 use Rattle.sporc_script.proofs.Cuts.{decimal_lacks}
 use Rattle.sporc_script.proofs.Exact.{IsExact, map_exact, map_some, pair_exact, then_some}
 use Rattle.sporc_script.proofs.DeviceWords.{device_exact, device_words}

@@ -1,8 +1,7 @@
 -- Words that are numbers.
 use Rattle.std.proofs.Common.{◌≡◌, ℕ, zero, suc, ◌^◌, ◌<◌, List, [], ◌∷◌, length, Result, Ok, Err, refl, sym, ap, ◌∙◌, subst, arith}
 use Rattle.sporc_script.proofs.Common.{decimal, AllDigits, digits_value, ParsesUnsigned, decimal-digits_value, first_decimal, decimal_nonempty, decimal_digit, parse-decimal, IsAscii-decimal, IsUtf8}
-use Rattle.sporc_script.proofs.Common.{IsUtf8-from_ascii, IsPlain}
-use Rattle.std.proofs.lemmas.Str.Parse.{IsNumeralModel, numerals_by_value, tells_digits, parse_plain}
+use Rattle.sporc_script.proofs.Common.{IsUtf8-from_ascii, IsPlain, IsNumeralModel, numerals_by_value, tells_digits, parse_plain}
 
 pub own : IsNumeralModel (AllDigits 10) (digits_value 10)
 own = numerals_by_value (AllDigits 10) tells_digits

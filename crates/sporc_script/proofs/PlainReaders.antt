@@ -1,19 +1,12 @@
 -- The readers of lines that are words alone are exact.
 use Rattle.std.proofs.Common.{◌≡◌, ℕ, ◌<◌, ◌^◌, true, [], ◌∷◌, ◌++◌, Some, refl, arith}
 use Rattle.sporc_script.proofs.Common.{decimal, Device, Role, Keyword, MemberRole, device_number_of, device_of, further_number_of, member_of, pair_of, u32_of, IsMember, DeviceInRange}
-use Rattle.sporc_script.proofs.Common.{DevicePairInRange, FlipInRange, FurtherInRange, GiveInRange, IsDeviceNumber, IsU64, PairInRange, RestartInRange, device_pair_spelling, device_text, flip_spelling}
-use Rattle.sporc_script.proofs.Common.{give_spelling, height_name, keyword_name, member_device_spelling, member_role_spelling, pair_spelling, restart_spelling, role_name, tree_spelling, width_name}
-use Rattle.sporc_script.proofs.Common.{number_of}
-use Rattle.sporc_member.specs.declared.role.Role.TheVariants.{Reader, Editor, Admin}
-use Rattle.sporc_script.specs.declared.command.DevicePair.{DevicePair}
-use Rattle.sporc_script.specs.declared.command.Flip.{Flip}
-use Rattle.sporc_script.specs.declared.command.Give.{Give}
+use Rattle.sporc_script.proofs.Common.{DevicePairInRange, FlipInRange, FurtherInRange, GiveInRange, IsDeviceNumber, IsU64, PairInRange, RestartInRange, device_pair_spelling, device_text}
+use Rattle.sporc_script.proofs.Common.{flip_spelling, give_spelling, height_name, keyword_name, member_device_spelling, member_role_spelling, pair_spelling, restart_spelling, role_name, tree_spelling}
+use Rattle.sporc_script.proofs.Common.{width_name, number_of, Reader, Editor, Admin, DevicePair, Flip, Give, Pair, Restart, Tree}
 use Rattle.sporc_script.specs.declared.command.Height.{Height}
 use Rattle.sporc_script.specs.declared.command.Height.TheVariants.{Five, Ten}
 use Rattle.sporc_script.specs.declared.command.Keyword.TheVariants as keywords
-use Rattle.sporc_script.specs.declared.command.Pair.{Pair}
-use Rattle.sporc_script.specs.declared.command.Restart.{Restart}
-use Rattle.sporc_script.specs.declared.command.Tree.{Tree}
 use Rattle.sporc_script.specs.declared.command.Width.{Width}
 use Rattle.sporc_script.specs.declared.command.Width.TheVariants.{Four, Eight}
 use Rattle.sporc_script.specs.Plain.{flip_of, further_device_of, give_of, height_of, keyword_of, member_device_of, member_role_of, restart_of, role_of, tree_of, two_devices_of, two_members_of, width_of}

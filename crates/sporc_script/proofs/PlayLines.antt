@@ -1,11 +1,9 @@
 -- A play script, line by line.
 use Rattle.std.proofs.Common.{◌≡◌, ℕ, true, List, [], ◌∷◌, ◌++◌, Option, Some, None, refl, sym, ap, ◌∙◌, subst, inl, inr, append-nil}
-use Rattle.sporc_script.proofs.Common.{Command, Keyword, PlayLine, InRange, Spells, command_of, spelling, Declared, declared_after, declared_by, may_follow, none_declared, IsNext, play_line, IsSkipped}
-use Rattle.sporc_script.proofs.Common.{keyword_name}
-use Rattle.std.specs.Option.{option_to_list}
+use Rattle.sporc_script.proofs.Common.{Command, Keyword, PlayLine, InRange, Spells, command_of, spelling, Declared, declared_after, declared_by, may_follow, none_declared, IsNext, play_line}
+use Rattle.sporc_script.proofs.Common.{IsSkipped, keyword_name, option_to_list, ReadsLine, declared_with}
 use Rattle.std.proofs.lemmas.List.Sums.{fold-append}
 use Rattle.sporc_script.specs.declared.command.Keyword.TheVariants as keywords
-use Rattle.sporc_script.specs.Reading.{ReadsLine, declared_with}
 use Rattle.sporc_script.proofs.CommandReaders.{command_begins, command_exact}
 use Rattle.sporc_script.proofs.Exact.{read_is}
 use Rattle.sporc_script.proofs.ScriptLines.{Found, ReadsPart, bool_cases, is_named, not_skipped, one_spelled, spelled_or_not}

@@ -1,8 +1,7 @@
 -- Lines that read as a script: there is one such script, or one first line outside the grammar.
 use Rattle.std.proofs.Common.{◌≡◌, ◌⊎◌, ℕ, ◌+◌, ◌<◌, ◌≤◌, Bool, true, false, List, [], ◌∷◌, ◌++◌, length, Option, Some, None, refl, sym, ap, ◌∙◌, subst, inl, inr, arith, append-nil, append_assoc, length-append}
 use Rattle.sporc_script.proofs.Common.{◌==◌, nat_lt, IsUtf8, all_scalars, chars, encode_utf8_all, eqb-true, Decides-ltb, eqb_tells, nil_from_length, bytes_eq-Decides, encodes-chars, scalars-chars}
-use Rattle.sporc_script.proofs.Common.{bytes_eq, same_Some, IsFirstBad, IsSkipped, ReadsAs, lines_of}
-use Rattle.std.specs.Option.{option_to_list}
+use Rattle.sporc_script.proofs.Common.{bytes_eq, same_Some, IsFirstBad, IsSkipped, ReadsAs, lines_of, option_to_list}
 use Rattle.sporc_script.proofs.Exact.{IsExact, read_is}
 
 -- one of which this holds, or none

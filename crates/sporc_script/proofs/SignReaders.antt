@@ -1,10 +1,9 @@
 -- The reader of what a script signs is exact.
 use Rattle.std.proofs.Common.{◌≡◌, ◌⊎◌, inl, inr, ℕ, true, false, List, [], ◌∷◌, ◌++◌, Option, Some, None, option_map, refl, sym, ap, ◌∙◌, subst, arith}
-use Rattle.sporc_script.proofs.Common.{codes, nat_lt, decimal, all_scalars, bytes_eq, and_from, and_parts, Decides-ltb, encode_lower, Device, Role, hex_of, role_of, quoted, behind_of, device_number_of}
-use Rattle.sporc_script.proofs.Common.{device_of, keyed_of, member_of, pair_of, then_read, u32_of, IsPayload, forgery_spelling, IsMember, DeviceInRange, IsDeviceNumber, IsU64, device_text, role_name}
-use Rattle.sporc_script.proofs.Common.{text_of, cut, number_of}
+use Rattle.sporc_script.proofs.Common.{codes, nat_lt, decimal, all_scalars, bytes_eq, and_from, and_parts, Decides-ltb, encode_lower, Device, Role, hex_of, role_of, quoted, behind_of}
+use Rattle.sporc_script.proofs.Common.{device_number_of, device_of, keyed_of, member_of, pair_of, then_read, u32_of, IsPayload, forgery_spelling, IsMember, DeviceInRange, IsDeviceNumber, IsU64}
+use Rattle.sporc_script.proofs.Common.{device_text, role_name, text_of, cut, number_of, Forgery}
 use Rattle.sporc_script.specs.declared.roster_change.RosterChange.TheVariants as changes
-use Rattle.sporc_script.specs.declared.sign.Forgery.{Forgery}
 use Rattle.sporc_script.specs.declared.sign.LoneWord.{LoneWord}
 use Rattle.sporc_script.specs.declared.sign.LoneWord.TheVariants as lone_words
 use Rattle.sporc_script.specs.declared.sign.Signed.{Signed}
@@ -71,15 +70,7 @@ tail_spelling (suffixes.Device d) = codes "device " ++ decimal d
 
 tail_same : (s : Suffix) → codes "with" ++ 32 ∷ tail_spelling s ≡ suffix_spelling s
 tail_same (suffixes.Number k) = refl
-tail_same (suffixes.Base b) = refl
-tail_same (suffixes.Epoch k) = refl
-tail_same (suffixes.Leaf k) = refl
-tail_same (suffixes.Wrap n) = refl
-tail_same (suffixes.Drop n) = refl
-tail_same suffixes.Commit = refl
-tail_same suffixes.Previous = refl
-tail_same (suffixes.Version k) = refl
-tail_same (suffixes.Device d) = refl
+tail_same _ = refl
 
 counted_sound : (w : SuffixWord) (bytes : List ℕ) (s : Suffix) → suffix_with w bytes ≡ Some s → SuffixInRange s × (suffix_word_name w ++ 32 ∷ bytes ≡ tail_spelling s)
 counted_sound suffix_words.Number bytes s is = variant_sound ℕ Suffix _ _ u32_of u32_exact SuffixInRange tail_spelling (codes "number") suffixes.Number (λ a h. h) (λ a. refl) bytes s is
@@ -335,16 +326,8 @@ signed_begins s range = begins_of s.what s.suffix range.0.0 range.0.1 range.1
 
 alone_or_more : (what : What) (o : Option Suffix) → PartsInRange (record { what = what; suffix = o })
     → (record { what = what; suffix = o } ≡ signed_upgrade None) ⊎ (HasMore (record { what = what; suffix = o }) × (bytes_eq (signed_spelling (record { what = what; suffix = o })) (codes "upgrade") ≡ false))
-alone_or_more (whats.Insert e) o range = inr ((range, tt), refl)
-alone_or_more (whats.Raw bytes) o range = inr ((range, tt), refl)
-alone_or_more (whats.Change (changes.Add m)) o range = inr ((range, tt), refl)
-alone_or_more (whats.Change (changes.Remove m)) None range = inr ((range, tt), refl)
-alone_or_more (whats.Change (changes.Remove m)) (Some s) range = inr ((range, tt), refl)
-alone_or_more (whats.Change (changes.SetRole m)) o range = inr ((range, tt), refl)
-alone_or_more (whats.Change (changes.AddDevice d)) o range = inr ((range, tt), refl)
-alone_or_more (whats.Change (changes.DropDevice d)) o range = inr ((range, tt), refl)
 alone_or_more (whats.Change changes.Upgrade) None range = inl refl
-alone_or_more (whats.Change changes.Upgrade) (Some s) range = inr ((range, tt), refl)
+alone_or_more what o range = inr ((range, tt), refl)
 
 stated_exact : IsExact Signed PartsInRange signed_spelling stated_of
 unfolding stated_of

@@ -1,87 +1,43 @@
 -- Sessions beside one another.
 use Rattle.std.proofs.Common.{◌≡◌, ◌≢◌, ℕ, max, false, suc, ◌≤◌, List, [], ◌∷◌, ◌++◌, Option, Some, None, Result, Ok, Err, refl, ap, sym, subst, ◌∙◌, append_assoc, append-nil, arith, inl, inr, ⊎_elim}
-use Rattle.sporc_serve.proofs.Common.{NetTold, Shuts, StreamTold, Genesis, Known, MAX_TICKETS, StartsWith, Agrees, splitting, copied, joined_with, stream_of, SessionEnd, Closed, LinkEnded, LinkFault}
-use Rattle.sporc_serve.proofs.Common.{BadFrame, Worn, Memory, Unkept, Item, by_of, IsLogOf, OfDocument, ServerStand, stand_at, IsEnd, HasReadLast, Visit, visit, IsServedSession, came, handed_back}
-use Rattle.sporc_serve.proofs.Common.{AreFrom, AreBehind, NoneUnkept, TellsOf, with_end, IsCrowd}
+use Rattle.sporc_serve.proofs.Common.{NetTold, Shuts, StreamTold, Genesis, Known, MAX_TICKETS, StartsWith, Agrees, splitting, copied, joined_with, stream_of, SessionEnd, Worn, Memory, Unkept, Item}
+use Rattle.sporc_serve.proofs.Common.{by_of, IsLogOf, OfDocument, ServerStand, stand_at, IsEnd, HasReadLast, Visit, visit, IsServedSession, came, handed_back, AreFrom, AreBehind, NoneUnkept, TellsOf}
+use Rattle.sporc_serve.proofs.Common.{with_end, IsCrowd, AppendsItem, TakesItem, IsFalseIfTold, ServeFault}
 use Rattle.sporc_outside.specs.Counts.{Rose}
-use Rattle.sporc_outside.specs.Told.{AppendsItem, TakesItem, IsFalseIfTold}
-use Rattle.sporc_serve.specs.declared.fault.ServeFault.{ServeFault}
 use Rattle.sporc_serve.specs.declared.fault.ServeFault.TheVariants as faults
 use Rattle.sporc_serve.proofs.Going.{rose_before}
 
 -- a session that ended for want of a ticket did so for want of the last
 abbrev pub IsLastTicket : SessionEnd → Type 0
 IsLastTicket (Worn ticket) = ticket ≡ MAX_TICKETS
-IsLastTicket Closed = Unit {0}
-IsLastTicket LinkEnded = Unit {0}
-IsLastTicket LinkFault = Unit {0}
-IsLastTicket BadFrame = Unit {0}
-IsLastTicket Memory = Unit {0}
-IsLastTicket Unkept = Unit {0}
+IsLastTicket _ = Unit {0}
 
 pub last_ticket : (g : Genesis) (a b : ServerStand) (end : SessionEnd) → IsEnd g a b end → IsLastTicket end
 last_ticket g a b (Worn ticket) h = h.2.3
-last_ticket g a b Closed h = tt
-last_ticket g a b LinkEnded h = tt
-last_ticket g a b LinkFault h = tt
-last_ticket g a b BadFrame h = tt
-last_ticket g a b Memory h = tt
-last_ticket g a b Unkept h = tt
+last_ticket g a b end h = tt
 
 -- what was told of the rest
 rest_told : (end : SessionEnd) (rest : Result (Unit {0}) ServeFault) → with_end rest end ≢ Err faults.Unkept → end ≢ Unkept → rest ≢ Err faults.Unkept
 rest_told end (Err faults.Unkept) told other is = told refl
-rest_told end (Err faults.ListenFault) told other is = absurd cc
-rest_told end (Err (faults.Worn t)) told other is = absurd cc
-rest_told end (Err faults.Memory) told other is = absurd cc
-rest_told end (Ok done) told other is = absurd cc
+rest_told end rest told other is = absurd cc
 
 pub tells_more : (n f0 f1 f2 : ℕ) (b a : StreamTold) (end : SessionEnd) (vs : List Visit) (rest : Result (Unit {0}) ServeFault) → f0 ≤ f1 → TellsOf n f1 f2 vs rest
     → IsLastTicket end → TellsOf (suc n) f0 f2 (record { before = b; after = a; end = end } ∷ vs) (with_end rest end)
 tells_more n f0 f1 f2 b a end vs (Err faults.Unkept) le h last = inr h
-tells_more n f0 f1 f2 b a Unkept vs (Err faults.ListenFault) le h last = inl refl
-tells_more n f0 f1 f2 b a Closed vs (Err faults.ListenFault) le h last = rose_before f0 f1 f2 le h
-tells_more n f0 f1 f2 b a LinkEnded vs (Err faults.ListenFault) le h last = rose_before f0 f1 f2 le h
-tells_more n f0 f1 f2 b a LinkFault vs (Err faults.ListenFault) le h last = rose_before f0 f1 f2 le h
-tells_more n f0 f1 f2 b a BadFrame vs (Err faults.ListenFault) le h last = rose_before f0 f1 f2 le h
-tells_more n f0 f1 f2 b a (Worn t) vs (Err faults.ListenFault) le h last = rose_before f0 f1 f2 le h
-tells_more n f0 f1 f2 b a Memory vs (Err faults.ListenFault) le h last = rose_before f0 f1 f2 le h
-tells_more n f0 f1 f2 b a Unkept vs (Err (faults.Worn t)) le h last = inl refl
-tells_more n f0 f1 f2 b a Closed vs (Err (faults.Worn t)) le h last = (h.0, inr h.1)
-tells_more n f0 f1 f2 b a LinkEnded vs (Err (faults.Worn t)) le h last = (h.0, inr h.1)
-tells_more n f0 f1 f2 b a LinkFault vs (Err (faults.Worn t)) le h last = (h.0, inr h.1)
-tells_more n f0 f1 f2 b a BadFrame vs (Err (faults.Worn t)) le h last = (h.0, inr h.1)
-tells_more n f0 f1 f2 b a (Worn u) vs (Err (faults.Worn t)) le h last = (h.0, inr h.1)
-tells_more n f0 f1 f2 b a Memory vs (Err (faults.Worn t)) le h last = (h.0, inr h.1)
-tells_more n f0 f1 f2 b a Unkept vs (Err faults.Memory) le h last = inl refl
-tells_more n f0 f1 f2 b a Unkept vs (Ok done) le h last = inl refl
-tells_more n f0 f1 f2 b a (Worn t) vs (Err faults.Memory) le h last = (last, inl refl)
-tells_more n f0 f1 f2 b a Closed vs (Err faults.Memory) le h last = tt
-tells_more n f0 f1 f2 b a LinkEnded vs (Err faults.Memory) le h last = tt
-tells_more n f0 f1 f2 b a LinkFault vs (Err faults.Memory) le h last = tt
-tells_more n f0 f1 f2 b a BadFrame vs (Err faults.Memory) le h last = tt
-tells_more n f0 f1 f2 b a Memory vs (Err faults.Memory) le h last = tt
-tells_more n f0 f1 f2 b a (Worn t) vs (Ok done) le h last = (last, inl refl)
-tells_more n f0 f1 f2 b a Memory vs (Ok done) le h last = tt
-tells_more n f0 f1 f2 b a Closed vs (Ok done) le h last = (ap suc h.0, ((λ w. elim w [ inl e ↦ absurd cc | inr e ↦ absurd cc ]), h.1))
-tells_more n f0 f1 f2 b a LinkEnded vs (Ok done) le h last = (ap suc h.0, ((λ w. elim w [ inl e ↦ absurd cc | inr e ↦ absurd cc ]), h.1))
-tells_more n f0 f1 f2 b a LinkFault vs (Ok done) le h last = (ap suc h.0, ((λ w. elim w [ inl e ↦ absurd cc | inr e ↦ absurd cc ]), h.1))
-tells_more n f0 f1 f2 b a BadFrame vs (Ok done) le h last = (ap suc h.0, ((λ w. elim w [ inl e ↦ absurd cc | inr e ↦ absurd cc ]), h.1))
+tells_more n f0 f1 f2 b a Unkept vs rest le h last = inl refl
+tells_more n f0 f1 f2 b a end vs (Err (faults.Worn t)) le h last = (h.0, inr h.1)
+tells_more n f0 f1 f2 b a end vs (Err faults.ListenFault) le h last = rose_before f0 f1 f2 le h
+tells_more n f0 f1 f2 b a (Worn t) vs rest le h last = (last, inl refl)
+tells_more n f0 f1 f2 b a Memory vs rest le h last = tt
+tells_more n f0 f1 f2 b a end vs (Err faults.Memory) le h last = tt
+tells_more n f0 f1 f2 b a end vs (Ok done) le h last = (ap suc h.0, ((λ w. elim w [ inl e ↦ absurd cc | inr e ↦ absurd cc ]), h.1))
 
 -- where none is told to be unkept, none was
 pub kept_more : (b a : StreamTold) (end : SessionEnd) (vs : List Visit) (rest : Result (Unit {0}) ServeFault) → (rest ≢ Err faults.Unkept → NoneUnkept vs)
     → with_end rest end ≢ Err faults.Unkept → NoneUnkept (record { before = b; after = a; end = end } ∷ vs)
 kept_more b a Unkept vs (Err faults.Unkept) h told = absurd (told refl)
-kept_more b a Unkept vs (Err faults.ListenFault) h told = absurd (told refl)
-kept_more b a Unkept vs (Err (faults.Worn t)) h told = absurd (told refl)
-kept_more b a Unkept vs (Err faults.Memory) h told = absurd (told refl)
-kept_more b a Unkept vs (Ok done) h told = absurd (told refl)
-kept_more b a Closed vs rest h told = ((λ e. absurd cc), h (rest_told Closed rest told (λ e. absurd cc)))
-kept_more b a LinkEnded vs rest h told = ((λ e. absurd cc), h (rest_told LinkEnded rest told (λ e. absurd cc)))
-kept_more b a LinkFault vs rest h told = ((λ e. absurd cc), h (rest_told LinkFault rest told (λ e. absurd cc)))
-kept_more b a BadFrame vs rest h told = ((λ e. absurd cc), h (rest_told BadFrame rest told (λ e. absurd cc)))
-kept_more b a (Worn t) vs rest h told = ((λ e. absurd cc), h (rest_told (Worn t) rest told (λ e. absurd cc)))
-kept_more b a Memory vs rest h told = ((λ e. absurd cc), h (rest_told Memory rest told (λ e. absurd cc)))
+kept_more b a Unkept vs rest h told = absurd (told refl)
+kept_more b a end vs rest h told = ((λ e. absurd cc), h (rest_told end rest told (λ e. absurd cc)))
 
 pub from_more : (old mid new : Option (List StreamTold)) (l : StreamTold) (ls : List StreamTold) → TakesItem old mid l → AreFrom mid new ls → AreFrom old new (l ∷ ls)
 from_more None mid new l ls first more = tt

@@ -1,12 +1,12 @@
 -- A message that a stream gives fits an order's frame.
-use Rattle.std.proofs.Common.{◌≡◌, ℕ, ◌≤◌, Bool, true, false, cond, List, length, take, drop, Option, Some, None, Result, Ok, Err, refl, subst, arith, nat_lt}
-use Rattle.sporc_serve.proofs.Common.{length-take, length-drop, FrameFault, ToServer, Hello, Submit, Pull, Unread, next_unless, next_frame, next_read, IsFramed}
-use Rattle.std.proofs.lemmas.Bool.{ltb-false}
+use Rattle.std.proofs.Common.{◌≡◌, ℕ, ◌≤◌, Bool, true, false, cond, List, length, take, drop, Option, Some, None, Result, Ok, Err, refl, subst, arith, nat_lt, inl, inr}
+use Rattle.sporc_serve.proofs.Common.{length-take, length-drop, FrameFault, ToServer, Hello, Submit, Pull, Unread, next_unless, next_frame, next_read, IsFramed, ltb-false, MAX_BODY, FirstFrame}
+use Rattle.sporc_serve.proofs.Common.{partial, too_long, whole}
+use Rattle.std.proofs.lemmas.Bool.{cases_Bool}
 use Rattle.std.specs.Int.{Width, w8, w16, w32, byte_len, from_be_bytes}
 use Rattle.sporc_bytes.specs.Fields.{Reading, ◌>>=◌, bytes_at, number_at, end_at, past}
 use Rattle.sporc_bytes.proofs.Fields.{bind_ok, ok_is}
-use Rattle.sporc_wire.specs.declared.cutter.TheConstants.{MAX_BODY}
-use Rattle.sporc_wire.specs.Stream.{FirstFrame, partial, too_long, whole, frame_of_len, first_frame}
+use Rattle.sporc_wire.specs.Stream.{frame_of_len, first_frame}
 use Rattle.sporc_wire.specs.Messages.{next}
 use Rattle.sporc_wire.specs.ToServer.{hello_at, pull_at, to_server_of_kind, to_server_of}
 
@@ -18,31 +18,26 @@ body_fits len bytes body more is = go (nat_lt MAX_BODY len) refl (nat_lt (length
   where
     go : (a : Bool) → nat_lt MAX_BODY len ≡ a → (b : Bool)
         → cond a (too_long len) (cond b partial (whole (take len bytes) (drop len bytes))) ≡ whole body more → length body ≤ MAX_BODY
-    go true e b h = absurd cc
-    go false e true h = absurd cc
     go false e false h =
         let same : take len bytes ≡ body = cc in
         subst (λ (l : List ℕ). length l ≤ MAX_BODY) same (omega (arith, ltb-false MAX_BODY len e, length-take len bytes))
+    go a e b h = absurd cc
 
 front_fits : (bytes body more : List ℕ) → first_frame bytes ≡ whole body more → length body ≤ MAX_BODY
 unfolding first_frame
-front_fits bytes body more is = go (nat_lt (length bytes) 4) is
-  where
-    go : (a : Bool) → cond a partial (frame_of_len (from_be_bytes w32 (take 4 bytes)) (drop 4 bytes)) ≡ whole body more → length body ≤ MAX_BODY
-    go true h = absurd cc
-    go false h = body_fits (from_be_bytes w32 (take 4 bytes)) (drop 4 bytes) body more h
+front_fits bytes body more is = elim (cases_Bool (nat_lt (length bytes) 4)) [
+  | inl few ↦ let clash = rw few at is in absurd cc
+  | inr enough ↦ body_fits (from_be_bytes w32 (take 4 bytes)) (drop 4 bytes) body more (rw enough at is)
+]
 
 -- ---- the message of a body
 
 bytes_rest : (n : ℕ) (r : Reading) (x : List ℕ × Reading) → bytes_at n r ≡ Ok x → length x.1.rest ≤ length r.rest
 unfolding bytes_at
-bytes_rest n r x is = go (nat_lt (length r.rest) n) is
-  where
-    go : (b : Bool) → cond b (Err r.at) (Ok (take n r.rest, past n r)) ≡ Ok x → length x.1.rest ≤ length r.rest
-    go true h = absurd cc
-    go false h =
-        let same = ok_is (take n r.rest, past n r) x h in
-        subst (λ (y : List ℕ × Reading). length y.1.rest ≤ length r.rest) same (omega (arith, length-drop n r.rest))
+bytes_rest n r x is = elim (cases_Bool (nat_lt (length r.rest) n)) [
+  | inl few ↦ let clash = rw few at is in absurd cc
+  | inr enough ↦ rw (← (ok_is (take n r.rest, past n r) x (rw enough at is))) (omega (arith, length-drop n r.rest))
+]
 
 number_rest : (w : Width) (r : Reading) (x : ℕ × Reading) → number_at w r ≡ Ok x → length x.1.rest ≤ length r.rest
 unfolding number_at

@@ -2,11 +2,10 @@
 use Rattle.std.proofs.Common.{◌≡◌, ◌≢◌, ℕ, ◌≤◌, Bool, false, List, [], ◌∷◌, ◌++◌, length, take, Option, Some, None, Result, Ok, Err, refl, ap, sym, subst, ◌∙◌, append-nil, arith, IfNone, IfSome, inl, inr}
 use Rattle.sporc_serve.proofs.Common.{Consumes, Appends, Consumes-trans, Appends-trans, Genesis, Known, FrameFault, ToServer, Unread, fed, next_unless, next_frame, next_read, to_server_of, Answer}
 use Rattle.sporc_serve.proofs.Common.{Close, SessionEnd, Closed, LinkEnded, LinkFault, BadFrame, Worn, Memory, Unkept, Item, bytes_of, sent_of, IsAnswered, TakesTurn, IsSendEnd, Inlet, inlet}
-use Rattle.sporc_serve.proofs.Common.{IsNextEnd, IsNext, Exchange, ServerStand, answers_of, NoneCloses, Did, ServerTrace, Broken, IsEnd, GoesOn}
+use Rattle.sporc_serve.proofs.Common.{IsNextEnd, IsNext, Exchange, ServerStand, answers_of, NoneCloses, Did, ServerTrace, Broken, IsEnd, GoesOn, FirstFrame, partial, too_long, whole, first_frame}
 use Rattle.sporc_outside.specs.Counts.{Rose}
-use Rattle.sporc_wire.specs.Stream.{FirstFrame, partial, too_long, whole, first_frame}
 use Rattle.sporc_wire.specs.Messages.{next}
-use Rattle.sporc_serve.proofs.Tracing.{did_more, answer_more, trace_fed, trace_unanswered, sent_of-append, none_closes_more}
+use Rattle.sporc_serve.proofs.Tracing.{did_more, answer_more, trace_taken, trace_fed, trace_unanswered, sent_of-append, none_closes_more}
 
 -- a stream that waits for more stays as it is
 pub next_waits : {M : Type 0} (read : List ℕ → Result M ℕ) (s : Unread) → (next read s).answer ≡ Ok None → (next read s).after ≡ s
@@ -38,20 +37,9 @@ module _ (g : Genesis) (a b : ServerStand) (bytes : List ℕ) (xs : List Exchang
   -- nothing was taken
   trace_kept : (left : Option (List ℕ)) (faults : ℕ) → Consumes b.left left [] → b.faults ≤ faults
       → ServerTrace g a (record b { left = left; faults = faults }) bytes xs
-  trace_kept left faults taken more = record {
-    did = record {
-      taken = subst (λ (t : List ℕ). Consumes a.left left t) (append-nil bytes) (Consumes-trans a.left b.left left bytes [] c.did.taken taken);
-      reads = c.did.reads;
-      greeted = c.did.greeted;
-      number = c.did.number;
-      start = c.did.start;
-      mine = c.did.mine;
-      grows = c.did.grows;
-      faults = omega (arith, c.did.faults, more);
-    };
-    none_closes = c.none_closes;
-    sent = c.sent;
-  }
+  trace_kept left faults taken more =
+      trace_taken g a b bytes bytes xs left faults b.unread c
+      (subst (λ (t : List ℕ). Consumes a.left left t) (append-nil bytes) (Consumes-trans a.left b.left left bytes [] c.did.taken taken)) c.did.reads more
 
   pub kept : (left : Option (List ℕ)) (faults : ℕ) (written : Option (List ℕ)) → Consumes b.left left [] → b.faults ≤ faults → written ≡ b.written
       → ServerTrace g a (record b { left = left; written = written; faults = faults }) bytes xs
@@ -93,9 +81,7 @@ module _ (g : Genesis) (a b : ServerStand) (bytes : List ℕ) (xs : List Exchang
               (trace_fed g a b bytes h.0 xs d.left d.faults unread c h.1 more refl)),
         ),
       )
-  goes_no_further d written Closed h same more = absurd h
-  goes_no_further d written (Worn ticket) h same more = absurd h
-  goes_no_further d written Unkept h same more = absurd h
+  goes_no_further d written end h same more = absurd h
 
   -- a turn without an answer
   pub goes_unanswered : (m : ToServer) (known : Known Item) (s : Bool) (end : SessionEnd) (unread : Unread)
@@ -106,10 +92,7 @@ module _ (g : Genesis) (a b : ServerStand) (bytes : List ℕ) (xs : List Exchang
       (b.unread, b.greeted, (bytes, xs, inl (trace_unanswered g a b bytes xs known s h.0 c h.1)))
   goes_unanswered m known s Unkept unread h =
       (b.unread, b.greeted, (bytes, xs, trace_unanswered g a b bytes xs known s h.0 c h.1))
-  goes_unanswered m known s Closed unread h = absurd h.2
-  goes_unanswered m known s LinkEnded unread h = absurd h.2
-  goes_unanswered m known s LinkFault unread h = absurd h.2
-  goes_unanswered m known s BadFrame unread h = absurd h.2
+  goes_unanswered m known s end unread h = absurd h.2
 
   module _ (m : ToServer) (known : Known Item) (greeted : Bool) (answer : Answer) (found : List Item)
       (here : (next to_server_of b.unread).answer ≡ Ok (Some m)) (h : IsAnswered g b.known known b.greeted greeted m answer found)
@@ -176,10 +159,7 @@ module _ (g : Genesis) (a b : ServerStand) (bytes : List ℕ) (xs : List Exchang
       greeted,
       (bytes, xs ++ x ∷ [], inr (answers_of g false xs, answer, 0, cut 0 e.0, e.1)),
     )
-    goes_cut LinkEnded e = absurd e
-    goes_cut BadFrame e = absurd e
-    goes_cut (Worn ticket) e = absurd e
-    goes_cut Unkept e = absurd e
+    goes_cut end e = absurd e
 
     -- whatever became of the answer
     pub sent_goes : (left : Option (List ℕ)) (e : Option SessionEnd) → left ≡ b.left → IfNone e (Appends b.written written (bytes_of answer))

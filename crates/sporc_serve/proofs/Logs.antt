@@ -1,28 +1,23 @@
 -- Logs of a server, and what a message adds to one.
-use Rattle.std.proofs.Common.{◌≡◌, ℕ, suc, ◌+◌, ◌<◌, ◌≤◌, Bool, true, false, List, [], ◌∷◌, ◌++◌, length, Option, Some, None, refl, ap, sym, ◌∙◌, inl, inr, ◌⊎◌, arith, append-nil, length-append, if◌then◌else◌, bytes_eq}
-use Rattle.sporc_serve.proofs.Common.{Genesis, ToServer, Hello, Submit, Pull, OrderModel, Silent, Close, step_of, submitted, only, Item, Opened, Placed, entries_in, placed, log_of, placed_by}
-use Rattle.sporc_serve.proofs.Common.{unless_refused, added_of, IsLogOf}
-use Rattle.sporc_head.specs.declared.refusal.Refusal.{Refusal}
-use Rattle.sporc_head.specs.HeadChecks.{head_fault}
+use Rattle.std.proofs.Common.{◌≡◌, ℕ, suc, ◌+◌, ◌<◌, ◌≤◌, Bool, true, false, List, [], ◌∷◌, ◌++◌, length, Some, None, refl, ap, sym, ◌∙◌, inl, inr, ◌⊎◌, arith, append-nil, length-append, if◌then◌else◌, bytes_eq}
+use Rattle.sporc_serve.proofs.Common.{Genesis, ToServer, Hello, Submit, OrderModel, Silent, Close, step_of, submitted, only, Item, Opened, Placed, entries_in, placed, log_of, placed_by}
+use Rattle.sporc_serve.proofs.Common.{unless_refused, added_of, IsLogOf, head_fault}
 
 pub placed_length : (ns : List ℕ) (es : List (List ℕ)) → length ns ≡ length es → length (placed ns es) ≡ length es
 placed_length [] [] same = refl
-placed_length [] (e ∷ es) same = absurd (omega (arith, same))
-placed_length (n ∷ ns) [] same = absurd (omega (arith, same))
 placed_length (n ∷ ns) (e ∷ es) same = ap suc (placed_length ns es (omega (arith, same)))
+placed_length ns es same = absurd (omega (arith, same))
 
 pub entries_in-placed : (ns : List ℕ) (es : List (List ℕ)) → length ns ≡ length es → entries_in (placed ns es) ≡ es
 entries_in-placed [] [] same = refl
-entries_in-placed [] (e ∷ es) same = absurd (omega (arith, same))
-entries_in-placed (n ∷ ns) [] same = absurd (omega (arith, same))
 entries_in-placed (n ∷ ns) (e ∷ es) same = ap (λ (l : List (List ℕ)). e ∷ l) (entries_in-placed ns es (omega (arith, same)))
+entries_in-placed ns es same = absurd (omega (arith, same))
 
 pub placed-append : (ns : List ℕ) (es : List (List ℕ)) (n : ℕ) (e : List ℕ) → length ns ≡ length es
     → placed (ns ++ n ∷ []) (es ++ e ∷ []) ≡ placed ns es ++ Placed n e ∷ []
 placed-append [] [] n e same = refl
-placed-append [] (f ∷ fs) n e same = absurd (omega (arith, same))
-placed-append (m ∷ ms) [] n e same = absurd (omega (arith, same))
 placed-append (m ∷ ms) (f ∷ fs) n e same = ap (λ (l : List Item). Placed m f ∷ l) (placed-append ms fs n e (omega (arith, same)))
+placed-append ns es n e same = absurd (omega (arith, same))
 
 -- an order whose log is of a document is that document's, with the log's entries
 pub order_is : (g : Genesis) (o : OrderModel) (ns : List ℕ) → length ns ≡ length o.entries → IsLogOf g (log_of o ns)
@@ -36,47 +31,29 @@ order_is g o ns same begins =
 
 -- a message adds an entry, or none
 pub added_one : (o : OrderModel) (s : Bool) (m : ToServer) → (added_of o s m ≡ []) ⊎ ((e : List ℕ) × (added_of o s m ≡ e ∷ []))
-added_one o true (Submit entry) = go (head_fault o.genesis None o.entries (length o.entries + 1) entry)
-  where
-    go : (f : Option Refusal) → (unless_refused entry f ≡ []) ⊎ ((e : List ℕ) × (unless_refused entry f ≡ e ∷ []))
-    go (Some r) = inl refl
-    go None = inr (entry, refl)
-added_one o true (Hello document member) = inl refl
-added_one o true (Pull from) = inl refl
-added_one o false m = inl refl
+added_one o true (Submit entry) =
+    elim (head_fault o.genesis None o.entries (length o.entries + 1) entry)
+    as (λ f. (unless_refused entry f ≡ []) ⊎ ((e : List ℕ) × (unless_refused entry f ≡ e ∷ []))) [ Some r ↦ inl refl | None ↦ inr (entry, refl) ]
+added_one o s m = inl refl
 
 -- the order after a message
+order_greeted : (o : OrderModel) (document : List ℕ) (member : ℕ) → (step_of o false (Hello document member)).order ≡ o
+order_greeted o document member =
+    elim (bytes_eq document o.genesis.document) as (λ b. (if b then only o true Silent else only o false Close).order ≡ o) [ true ↦ refl | false ↦ refl ]
+
 pub step_adds : (o : OrderModel) (s : Bool) (m : ToServer) → (step_of o s m).order.entries ≡ o.entries ++ added_of o s m
-step_adds o true (Submit entry) = go (head_fault o.genesis None o.entries (length o.entries + 1) entry)
-  where
-    go : (f : Option Refusal) → (submitted o entry f).order.entries ≡ o.entries ++ unless_refused entry f
-    go (Some r) = sym (append-nil o.entries)
-    go None = refl
-step_adds o true (Hello document member) = sym (append-nil o.entries)
-step_adds o true (Pull from) = sym (append-nil o.entries)
-step_adds o false (Hello document member) = go (bytes_eq document o.genesis.document)
-  where
-    go : (b : Bool) → (if b then only o true Silent else only o false Close).order.entries ≡ o.entries ++ []
-    go true = sym (append-nil o.entries)
-    go false = sym (append-nil o.entries)
-step_adds o false (Submit entry) = sym (append-nil o.entries)
-step_adds o false (Pull from) = sym (append-nil o.entries)
+step_adds o true (Submit entry) =
+    elim (head_fault o.genesis None o.entries (length o.entries + 1) entry)
+    as (λ f. (submitted o entry f).order.entries ≡ o.entries ++ unless_refused entry f) [ Some r ↦ sym (append-nil o.entries) | None ↦ refl ]
+step_adds o false (Hello document member) =
+    ap (λ (x : OrderModel). x.entries) (order_greeted o document member) ∙ sym (append-nil o.entries)
+step_adds o s m = sym (append-nil o.entries)
 
 pub step_genesis : (o : OrderModel) (s : Bool) (m : ToServer) → (step_of o s m).order.genesis ≡ o.genesis
-step_genesis o true (Submit entry) = go (head_fault o.genesis None o.entries (length o.entries + 1) entry)
-  where
-    go : (f : Option Refusal) → (submitted o entry f).order.genesis ≡ o.genesis
-    go (Some r) = refl
-    go None = refl
-step_genesis o true (Hello document member) = refl
-step_genesis o true (Pull from) = refl
-step_genesis o false (Hello document member) = go (bytes_eq document o.genesis.document)
-  where
-    go : (b : Bool) → (if b then only o true Silent else only o false Close).order.genesis ≡ o.genesis
-    go true = refl
-    go false = refl
-step_genesis o false (Submit entry) = refl
-step_genesis o false (Pull from) = refl
+step_genesis o true (Submit entry) =
+    elim (head_fault o.genesis None o.entries (length o.entries + 1) entry) as (λ f. (submitted o entry f).order.genesis ≡ o.genesis) [ Some r ↦ refl | None ↦ refl ]
+step_genesis o false (Hello document member) = ap (λ (x : OrderModel). x.genesis) (order_greeted o document member)
+step_genesis o s m = refl
 
 -- ---- the log of a desk after a message
 

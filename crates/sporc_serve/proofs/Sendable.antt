@@ -1,14 +1,13 @@
 -- What an order answers is within the limits of a message, and what a stream gives fits an order's frame.
-use Rattle.std.proofs.Common.{◌≡◌, ◌≢◌, ℕ, zero, suc, ◌+◌, ◌<◌, ◌≤◌, ◌^◌, ◌==◌, Bool, true, false, ltb, nat_lt, nat_le, List, [], ◌∷◌, ◌++◌, length, take, drop, Option, Some, None, Result, Ok, Err, is_some, refl, ap, sym, subst, ◌∙◌, arith, if◌then◌else◌, bytes_eq, flat_map, length-append}
+use Rattle.std.proofs.Common.{⊎_elim, ◌≡◌, ◌≢◌, ℕ, zero, suc, ◌+◌, ◌<◌, ◌≤◌, ◌^◌, ◌==◌, Bool, true, false, ltb, nat_lt, nat_le, List, [], ◌∷◌, ◌++◌, length, take, drop, Option, Some, None, Result, Ok, Err, is_some, refl, ap, sym, subst, ◌∙◌, arith, if◌then◌else◌, bytes_eq, flat_map, length-append}
 use Rattle.sporc_serve.proofs.Common.{drop_all, Genesis, ToServer, Hello, Submit, Pull, Answer, Send, Silent, Close, Reply, Says, OrderModel, step_of, submitted, only, entries_after, IsSendable}
-use Rattle.sporc_serve.proofs.Common.{IsFramed, CanBeSent}
-use Rattle.std.proofs.lemmas.Bool.{ltb-true, ltb-false}
+use Rattle.sporc_serve.proofs.Common.{IsFramed, CanBeSent, ltb-true, counted, Refusal, MAX_BODY}
+use Rattle.std.proofs.lemmas.Bool.{cases_lt}
 use Rattle.sporc_base.specs.FirstFault.{unless, first_of}
-use Rattle.sporc_bytes.specs.Fields.{counted}
 use Rattle.sporc_member.specs.declared.device.Device.{Device}
 use Rattle.sporc_member.specs.declared.member.Member.{Member}
 use Rattle.sporc_member.specs.declared.change.ChangeFault.{ChangeFault}
-use Rattle.sporc_member.specs.declared.change.ChangeFault.TheVariants.{NumberUsed, NotMember, SameRole, LastAdmin, RosterFull, BadKey, DeviceUsed, NoDevice, LastDevice, DevicesFull, NotUpgraded, AlreadyUpgraded}
+use Rattle.sporc_member.specs.declared.change.ChangeFault.TheVariants.{NumberUsed}
 use Rattle.sporc_member.specs.Roster.{Roster, member_at, key_of, change_fault_of, numbers_of, after_change}
 use Rattle.sporc_entry.specs.declared.change.ChangeBody.{ChangeBody}
 use Rattle.sporc_entry.specs.declared.entry.Entry.{Entry}
@@ -17,17 +16,14 @@ use Rattle.sporc_entry.specs.Entry.{author_device, entry_of, change_of, signed_s
 use Rattle.sporc_entry.specs.Version.{version_of}
 use Rattle.sporc_entry.proofs.Places.{entry_place}
 use Rattle.sporc_head.specs.declared.limits.TheConstants.{MAX_ENTRIES}
-use Rattle.sporc_head.specs.declared.refusal.Refusal.{Refusal}
 use Rattle.sporc_head.specs.declared.refusal.Refusal.TheVariants.{Malformed, WrongDocument, WrongPosition, Removed, HistoryFull, WrongVersion, UnknownAuthor, UnknownDevice, BaseAhead, BeforeBarrier, WrongHistory, WrongNumber, BehindOwn, WrongEpoch, NoRight, LeafMismatch, BadSignature, BadChange, WrongWraps, Memory}
 use Rattle.sporc_head.specs.History.{epoch_of, roster_of, barrier_of, last_of, count_of, hash_of}
 use Rattle.sporc_head.specs.HeadChecks.{bad_change, is_not_removed, allows_member, names_leaf, verifies_device, names, roster_checks, place_checks, history_checks, author_checks, head_checks, fault_read, head_fault}
 use Rattle.sporc_wire.specs.Refusals.{refusal_detail_of}
-use Rattle.sporc_wire.specs.declared.cutter.TheConstants.{MAX_BODY}
 use Rattle.sporc_wire.specs.declared.to_client.TheConstants.{MAX_PULLED}
 use Rattle.sporc_wire.specs.declared.to_client.ToClient.{ToClient}
 use Rattle.sporc_order.specs.declared.order.TheConstants.{MAX_PULLED_BYTES}
-use Rattle.sporc_order.specs.declared.reply.Reply.TheVariants as replies
-use Rattle.sporc_order.specs.declared.reply.Reply.TheVariants.{Message, Frame}
+use Rattle.sporc_order.specs.declared.reply.Reply.TheVariants.{Message}
 use Rattle.sporc_order.specs.Batches.{longest_batch, batch_after}
 use Rattle.sporc_order.proofs.Sizes.{batch_len, batch_bytes, entries_fit}
 
@@ -47,17 +43,7 @@ told_detail r told = ltb-true (refusal_detail_of r) (2 ^ 32) told
 
 change_is_told : (f : ChangeFault) → is_told (BadChange f) ≡ true
 change_is_told NumberUsed = refl
-change_is_told NotMember = refl
-change_is_told SameRole = refl
-change_is_told LastAdmin = refl
-change_is_told RosterFull = refl
-change_is_told BadKey = refl
-change_is_told DeviceUsed = refl
-change_is_told NoDevice = refl
-change_is_told LastDevice = refl
-change_is_told DevicesFull = refl
-change_is_told NotUpgraded = refl
-change_is_told AlreadyUpgraded = refl
+change_is_told f = refl
 
 abbrev AllTold : List (Option Refusal) → Type 0
 AllTold [] = Unit {0}
@@ -158,13 +144,10 @@ batch_none zero room = refl
 batch_none (suc n) room = refl
 
 batch_some : (es : List (List ℕ)) (from : ℕ) → batch_after es from ≢ [] → from < length es
-batch_some es from some = go (ltb from (length es)) refl
-  where
-    go : (b : Bool) → ltb from (length es) ≡ b → from < length es
-    go true is = ltb-true from (length es) is
-    go false is =
-        let none : drop from es ≡ [] = drop_all from es (ltb-false from (length es) is) in
-        absurd (some (ap (longest_batch MAX_PULLED MAX_PULLED_BYTES) none ∙ batch_none MAX_PULLED MAX_PULLED_BYTES))
+batch_some es from some =
+    ⊎_elim (λ (below : from < length es). below)
+    (λ past. absurd (some (ap (longest_batch MAX_PULLED MAX_PULLED_BYTES) (drop_all from es past) ∙ batch_none MAX_PULLED MAX_PULLED_BYTES)))
+    (cases_lt from (length es))
 
 entries_sendable : (from : ℕ) (es : List (List ℕ)) → (es ≢ [] → from + 1 < 2 ^ 32) → length es ≤ MAX_PULLED → length (flat_map counted es) ≤ MAX_PULLED_BYTES
     → IsSendable (Send (entries_after from es))
@@ -183,24 +166,16 @@ answer_sendable o true (Submit entry) room framed = go (head_fault o.genesis Non
         let told = refusal_told o.genesis None o.entries (length o.entries + 1) entry r framed is in
         ((told_not_memory r told, told_detail r told), omega arith)
     go None is low = (omega (arith, length-append o.entries (entry ∷ []), low), omega arith)
-answer_sendable o true (Hello document member) room framed = tt
 answer_sendable o true (Pull from) room framed =
     let es = batch_after o.entries from in
     let low : es ≢ [] → from + 1 < 2 ^ 32 = λ some. let below = batch_some o.entries from some in omega (arith, room, below) in
     entries_sendable from es low (batch_len MAX_PULLED MAX_PULLED_BYTES (drop from o.entries)) (batch_bytes MAX_PULLED MAX_PULLED_BYTES (drop from o.entries))
-answer_sendable o false (Hello document member) room framed = go (bytes_eq document o.genesis.document)
-  where
-    go : (b : Bool) → IsSendable (if b then only o true Silent else only o false Close).answer
-    go true = tt
-    go false = tt
-answer_sendable o false (Submit entry) room framed = tt
-answer_sendable o false (Pull from) room framed = tt
+answer_sendable o false (Hello document member) room framed =
+    elim (bytes_eq document o.genesis.document) as (λ b. IsSendable (if b then only o true Silent else only o false Close).answer) [ true ↦ tt | false ↦ tt ]
+answer_sendable o s m room framed = tt
 
 -- and so can a reply that says one
 pub reply_sendable : (answer : Answer) (reply : Reply) → Says answer reply → IsSendable answer → CanBeSent reply
 reply_sendable (Send m) (Message sent) says can = subst (λ (x : ToClient). IsSendable (Send x)) (sym says) can
-reply_sendable Silent (Message sent) says can = absurd says
-reply_sendable Close (Message sent) says can = absurd says
-reply_sendable answer (Frame bytes) says can = tt
-reply_sendable answer replies.Silent says can = tt
-reply_sendable answer replies.Close says can = tt
+reply_sendable answer (Message sent) says can = absurd says
+reply_sendable answer reply says can = tt

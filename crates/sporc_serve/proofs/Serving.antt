@@ -1,11 +1,11 @@
 -- What a server did, from what number 0 knew at last.
-use Rattle.std.proofs.Common.{◌≡◌, ◌≢◌, ℕ, zero, suc, ◌+◌, ◌≤◌, ◌<◌, ◌==◌, Bool, true, false, List, [], ◌∷◌, ◌-◌, length, drop, replicate, filter, All, Option, Result, Ok, Err, refl, ap, sym, subst, ◌∙◌, arith, inl, inr, get_or}
+use Rattle.std.proofs.Common.{◌≡◌, ◌≢◌, ℕ, zero, suc, ◌+◌, ◌≤◌, ◌<◌, ◌==◌, List, [], ◌∷◌, ◌-◌, length, drop, replicate, filter, All, Option, Result, Err, refl, ap, sym, subst, ◌∙◌, arith, inl, inr, get_or}
 use Rattle.sporc_serve.proofs.Common.{drop_all, length-replicate, NetTold, StreamTold, Genesis, Known, MAX_TICKETS, known_of, IsWorn, StartsWith, Agrees, own, first_known, splitting, copied}
-use Rattle.sporc_serve.proofs.Common.{OrderModel, Item, by_of, order_at, placed, IsLogOf, OfDocument, Visit, Visits, came, handed_back, AreFrom, AreBehind, TellsOf, IsCrowd}
-use Rattle.std.proofs.lemmas.List.Elements.{All-head, All-tail, All-nil, All-cons}
+use Rattle.sporc_serve.proofs.Common.{OrderModel, Item, by_of, order_at, placed, IsLogOf, OfDocument, Visit, Visits, came, handed_back, AreFrom, AreBehind, TellsOf, IsCrowd, All-head, All-tail}
+use Rattle.sporc_serve.proofs.Common.{All-nil, All-cons, ServeFault}
+use Rattle.std.proofs.lemmas.Bool.{cases_Bool}
 use Rattle.sporc_turn.specs.declared.known.Joined.{Joined}
 use Rattle.sporc_turn.specs.declared.pass.Pass.{Pass}
-use Rattle.sporc_serve.specs.declared.fault.ServeFault.{ServeFault}
 use Rattle.sporc_serve.specs.declared.fault.ServeFault.TheVariants as faults'
 use Rattle.sporc_serve.specs.Served.{log_at_first, Attended, Served, IsServed}
 use Rattle.sporc_serve.proofs.Logs.{order_is}
@@ -17,11 +17,10 @@ use Rattle.sporc_serve.proofs.Crowding.{from_none, behind_none}
 -- no item of a list has a number
 pub none_of : (n : ℕ) (xs : List Item) → filter (λ e. by_of e == n) xs ≡ [] → All (λ e. by_of e ≢ n) xs
 none_of n [] h = All-nil (λ (e : Item). by_of e ≢ n)
-none_of n (x ∷ xs) h = go (by_of x == n) refl (none_of n xs)
-  where
-    go : (b : Bool) → (by_of x == n) ≡ b → (filter (λ e. by_of e == n) xs ≡ [] → All (λ e. by_of e ≢ n) xs) → All (λ e. by_of e ≢ n) (x ∷ xs)
-    go true is more = let clash = rw is at h in absurd cc
-    go false is more = All-cons (λ (e : Item). by_of e ≢ n) x xs (λ same. grind (arith, is, same)) (more (rw is at h))
+none_of n (x ∷ xs) h = elim (cases_Bool (by_of x == n)) [
+  | inl is ↦ let clash = rw is at h in absurd cc
+  | inr is ↦ All-cons (λ (e : Item). by_of e ≢ n) x xs (λ same. grind (arith, is, same)) (none_of n xs (rw is at h))
+]
 
 positive : (n : ℕ) → n ≢ 0 → 1 ≤ n
 positive zero h = absurd (h refl)
@@ -32,27 +31,12 @@ module _ (g : Genesis) where
   visits_keep : (k k' : Known Item) (vs : List Visit) → Visits g k k' vs
       → (k'.number ≡ k.number) × (k'.mine ≡ k.mine) × (k'.start ≡ k.start)
       × (k'.splits + length k.joined ≡ k.splits + length k'.joined)
-  visits_keep k k' [] is = (
-    ap (λ (x : Known Item). x.number) is,
-    ap (λ (x : Known Item). x.mine) is,
-    ap (λ (x : Known Item). x.start) is,
-    subst (λ (x : Known Item). x.splits + length k.joined ≡ k.splits + length x.joined) (sym is) refl,
-  )
-  visits_keep k k' (v ∷ vs) (inl h) = (
-    ap (λ (x : Known Item). x.number) h.2,
-    ap (λ (x : Known Item). x.mine) h.2,
-    ap (λ (x : Known Item). x.start) h.2,
-    subst (λ (x : Known Item). x.splits + length k.joined ≡ k.splits + length x.joined) (sym h.2) refl,
-  )
+  visits_keep k k' [] is = rw is (refl, refl, refl, refl)
+  visits_keep k k' (v ∷ vs) (inl h) = rw h.2 (refl, refl, refl, refl)
   visits_keep k k' (v ∷ vs) (inr h) =
       let more = visits_keep (splitting k) h.0 vs h.3 in
-      let is = h.5 in
-      let low : h.0.splits + length k.joined ≡ k.splits + 1 + length h.0.joined = more.3 in (
-        ap (λ (x : Known Item). x.number) is ∙ more.0,
-        ap (λ (x : Known Item). x.mine) is ∙ more.1,
-        ap (λ (x : Known Item). x.start) is ∙ more.2,
-        subst (λ (x : Known Item). x.splits + length k.joined ≡ k.splits + length x.joined) (sym is) (omega (arith, low)),
-      )
+      let low : h.0.splits + length k.joined ≡ k.splits + 1 + length h.0.joined = more.3 in
+      rw h.5 (more.0, more.1, more.2, omega (arith, low))
 
   begins_first : (k k' : Known Item) (vs : List Visit) → Visits g k k' vs → StartsWith k'.seen k.seen
   begins_first k k' [] is = subst (λ (x : Known Item). StartsWith x.seen k.seen) (sym is) (starts_same k.seen)
@@ -116,11 +100,8 @@ first_is o =
 
 -- what is told where the net's count rose before too
 pub tells_before : (n x y z : ℕ) (vs : List Visit) (result : Result (Unit {0}) ServeFault) → x ≤ y → TellsOf n y z vs result → TellsOf n x z vs result
-tells_before n x y z vs (Ok done) le h = h
 tells_before n x y z vs (Err faults'.ListenFault) le h = rose_before x y z le h
-tells_before n x y z vs (Err (faults'.Worn ticket)) le h = h
-tells_before n x y z vs (Err faults'.Memory) le h = h
-tells_before n x y z vs (Err faults'.Unkept) le h = h
+tells_before n x y z vs result le h = h
 
 module _ (o : OrderModel) where
   -- no session began

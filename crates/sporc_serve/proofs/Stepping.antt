@@ -1,14 +1,13 @@
 -- A step of a session: a message that is answered, or a piece more of its stream.
 use Rattle.std.proofs.Common.{◌≡◌, ◌≢◌, ◌∙◌, ℕ, ◌≤◌, Bool, false, List, [], Option, Some, None, Result, Ok, Err, IfOk, IfErr, IfNone, IfSome, MatchOption, IsOkUnless, refl, sym, subst}
 use Rattle.sporc_serve.proofs.Common.{Consumes, Appends, Consumes-nil, Shuts, StreamTold, Genesis, Known, FrameFault, ToServer, Unread, stream_of, next_unless, to_server_of, Answer, Reply, Says}
-use Rattle.sporc_serve.proofs.Common.{IsFramed, SessionEnd, Closed, LinkEnded, LinkFault, BadFrame, Worn, Memory, Unkept, Item, IsLogOf, OfDocument, bytes_of, CanBeSent, HasReadLast, TakesTurn}
-use Rattle.sporc_serve.proofs.Common.{end_of, IsSendEnd, Inlet, inlet, TakesMessage, IsNextEnd, IsNext, ServerStand, stand, stand_at, GoesOn, Carries, Leads, visit, IsServedSession}
+use Rattle.sporc_serve.proofs.Common.{IsFramed, SessionEnd, Closed, Worn, Memory, Unkept, Item, IsLogOf, OfDocument, bytes_of, CanBeSent, HasReadLast, TakesTurn, end_of, IsSendEnd, Inlet, inlet}
+use Rattle.sporc_serve.proofs.Common.{TakesMessage, IsNextEnd, IsNext, ServerStand, stand, stand_at, GoesOn, Carries, Leads, visit, IsServedSession, Unanswered}
 use Rattle.sporc_base.specs.Outcome.{GivesUnless}
 use Rattle.sporc_wire.specs.declared.fault.FrameFault.TheVariants as faults
 use Rattle.sporc_wire.specs.Messages.{next}
 use Rattle.sporc_order.specs.declared.session.Answer.TheVariants as answers
-use Rattle.sporc_order.specs.declared.reply.Reply.TheVariants.{Message, Frame, Silent, Close}
-use Rattle.sporc_order.specs.declared.tail.Unanswered.{Unanswered}
+use Rattle.sporc_order.specs.declared.reply.Reply.TheVariants.{Close}
 use Rattle.sporc_serve.proofs.Turning.{starts_log}
 use Rattle.sporc_serve.proofs.Tracing.{grows_starts, trace_begins}
 use Rattle.sporc_serve.proofs.Framed.{next_framed}
@@ -27,12 +26,8 @@ turn_sendable (Err e) result sendable ok err = subst (λ (x : Result Reply Sessi
 -- no message is to follow
 next_unworn : (a b : Inlet) (end : SessionEnd) (read : ℕ) → IsNextEnd a b end → HasReadLast read end
 next_unworn a b (Worn ticket) read h = absurd h
-next_unworn a b Closed read h = tt
-next_unworn a b LinkEnded read h = tt
-next_unworn a b LinkFault read h = tt
-next_unworn a b BadFrame read h = tt
-next_unworn a b Memory read h = tt
 next_unworn a b Unkept read h = absurd h
+next_unworn a b end read h = tt
 
 pub found_unworn : (a b : Inlet) (r : Result (Option ToServer) SessionEnd) (end : SessionEnd) (read : ℕ) → r ≡ Err end → IsNext a b r → HasReadLast read end
 found_unworn a b r end read is found = next_unworn a b end read (subst (λ (x : Result (Option ToServer) SessionEnd). IsNext a b x) is found)
@@ -42,9 +37,7 @@ found_unworn a b r end read is found = next_unworn a b end read (subst (λ (x : 
 -- what says a close is one
 says_close : (reply : Reply) → Says answers.Close reply → reply ≡ Close
 says_close Close says = refl
-says_close Silent says = absurd says
-says_close (Message m) says = absurd says
-says_close (Frame f) says = absurd says
+says_close reply says = absurd says
 
 module _ (known known' : Known Item) (left left' written written' : Option (List ℕ)) (faults faults' : ℕ) (unread : Unread) (s s' : Bool) (m : ToServer)
     (r : Result Reply SessionEnd) (turn : OfDocument known.seen (λ g. TakesTurn g known known' s s' m r))
@@ -84,8 +77,7 @@ pub next_none : (s s' : Unread) (r : Result (Option ToServer) FrameFault) → r 
     → (r ≢ Err faults.Memory → s' ≡ (next to_server_of s).after) → ((next to_server_of s).answer ≡ Ok None) × (s' ≡ s)
 next_none s s' (Ok None) is gives after =
     (gives, after (λ e. absurd cc) ∙ next_waits to_server_of s gives)
-next_none s s' (Ok (Some m)) is gives after = absurd cc
-next_none s s' (Err fault) is gives after = absurd cc
+next_none s s' r is gives after = absurd cc
 
 -- a message that was found fits an order's frame
 pub found_framed : (a b : Inlet) (r : Result (Option ToServer) SessionEnd) (m : ToServer) → r ≡ Ok (Some m) → IsNext a b r → IsFramed m

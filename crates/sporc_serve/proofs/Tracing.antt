@@ -2,8 +2,7 @@
 use Rattle.std.proofs.Common.{◌≡◌, ◌≢◌, ℕ, ◌≤◌, Bool, false, List, [], ◌∷◌, ◌++◌, Option, Some, Ok, refl, ap, ap₂, sym, subst, ◌∙◌, append_assoc, append-nil, arith}
 use Rattle.sporc_serve.proofs.Common.{Consumes, Consumes-nil, Consumes-trans, Appends-nil, map-append, Genesis, Known, StartsWith, ToServer, Unread, HandsOut, stream_of, fed, next, to_server_of}
 use Rattle.sporc_serve.proofs.Common.{Answer, Close, Item, Placed, order_at, added_of, placed_by, bytes_of, sent_of, IsAnswered, LeavesUnanswered, Exchange, ServerStand, stand, messages_of, step_at}
-use Rattle.sporc_serve.proofs.Common.{greeted_after, answers_of, entries_of, Grows, NoneCloses, Did, ServerTrace}
-use Rattle.sporc_wire.proofs.Readings.{HandsOut-fed, HandsOut-next}
+use Rattle.sporc_serve.proofs.Common.{greeted_after, answers_of, entries_of, Grows, NoneCloses, Did, ServerTrace, HandsOut-fed, HandsOut-next}
 
 -- ---- lists that begin with others
 
@@ -88,15 +87,14 @@ module _ (g : Genesis) where
     sent = Appends-nil written;
   }
 
-  -- a piece more of the stream
-  pub trace_fed : (a b : ServerStand) (bytes piece : List ℕ) (xs : List Exchange) (left : Option (List ℕ)) (faults : ℕ) (unread : Unread)
-      → ServerTrace g a b bytes xs → Consumes b.left left piece → b.faults ≤ faults → unread ≡ fed piece b.unread
-      → ServerTrace g a (record b { left = left; faults = faults; unread = unread }) (bytes ++ piece) xs
-  trace_fed a b bytes piece xs left faults unread c taken more is = record {
+  -- so much was taken of the stream, of which this is unread
+  pub trace_taken : (a b : ServerStand) (bytes all : List ℕ) (xs : List Exchange) (left : Option (List ℕ)) (faults : ℕ) (unread : Unread) → ServerTrace g a b bytes xs
+      → Consumes a.left left all → HandsOut to_server_of (stream_of all) (messages_of xs) unread → b.faults ≤ faults
+      → ServerTrace g a (record b { left = left; faults = faults; unread = unread }) all xs
+  trace_taken a b bytes all xs left faults unread c taken reads more = record {
     did = record {
-      taken = Consumes-trans a.left b.left left bytes piece c.did.taken taken;
-      reads = subst (λ (u : Unread). HandsOut to_server_of (stream_of (bytes ++ piece)) (messages_of xs) u) (sym is)
-          (HandsOut-fed to_server_of (stream_of bytes) piece (messages_of xs) b.unread c.did.reads);
+      taken = taken;
+      reads = reads;
       greeted = c.did.greeted;
       number = c.did.number;
       start = c.did.start;
@@ -107,6 +105,15 @@ module _ (g : Genesis) where
     none_closes = c.none_closes;
     sent = c.sent;
   }
+
+  -- a piece more of the stream
+  pub trace_fed : (a b : ServerStand) (bytes piece : List ℕ) (xs : List Exchange) (left : Option (List ℕ)) (faults : ℕ) (unread : Unread)
+      → ServerTrace g a b bytes xs → Consumes b.left left piece → b.faults ≤ faults → unread ≡ fed piece b.unread
+      → ServerTrace g a (record b { left = left; faults = faults; unread = unread }) (bytes ++ piece) xs
+  trace_fed a b bytes piece xs left faults unread c taken more is =
+      trace_taken a b bytes (bytes ++ piece) xs left faults unread c (Consumes-trans a.left b.left left bytes piece c.did.taken taken)
+      (subst (λ (u : Unread). HandsOut to_server_of (stream_of (bytes ++ piece)) (messages_of xs) u) (sym is)
+      (HandsOut-fed to_server_of (stream_of bytes) piece (messages_of xs) b.unread c.did.reads)) more
 
   -- a message more, answered
   pub did_more : (a b : ServerStand) (bytes : List ℕ) (xs : List Exchange) (m : ToServer) (known : Known Item) (unread : Unread) (greeted : Bool)

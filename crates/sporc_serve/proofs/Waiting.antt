@@ -1,9 +1,8 @@
 -- The first message of a session.
-use Rattle.std.proofs.Common.{◌≡◌, ℕ, ◌≤◌, List, [], ◌++◌, Option, Some, None, Result, Ok, Err, false, refl, sym, subst, append-nil, arith}
-use Rattle.sporc_serve.proofs.Common.{Consumes, Consumes-nil, Consumes-trans, Appends-nil, Genesis, Known, ToServer, Unread, HandsOut, stream_of, fed, to_server_of, SessionEnd, Item, Inlet, inlet}
-use Rattle.sporc_serve.proofs.Common.{IsNext, Waits, IsFirst, stand, ServerTrace}
-use Rattle.sporc_wire.proofs.Readings.{HandsOut-fed}
-use Rattle.sporc_serve.proofs.Tracing.{starts_same}
+use Rattle.std.proofs.Common.{◌≡◌, ℕ, ◌≤◌, List, [], ◌++◌, Option, Some, None, Result, Ok, Err, false, refl, sym, subst, arith}
+use Rattle.sporc_serve.proofs.Common.{Consumes, Consumes-nil, Consumes-trans, Genesis, Known, ToServer, Unread, HandsOut, stream_of, fed, to_server_of, SessionEnd, Item, Inlet, inlet, IsNext, Waits}
+use Rattle.sporc_serve.proofs.Common.{IsFirst, stand, ServerTrace, HandsOut-fed}
+use Rattle.sporc_serve.proofs.Tracing.{trace_begins, trace_taken}
 
 -- nothing was taken yet
 pub waits_none : (left : Option (List ℕ)) (faults : ℕ) (unread : Unread) → unread ≡ stream_of [] → Waits (inlet left faults unread) (inlet left faults unread) []
@@ -38,17 +37,6 @@ module _ (a b c : Inlet) (bytes : List ℕ) (r : Result (Option ToServer) Sessio
 -- a session that waited for its first message
 pub trace_waits : (g : Genesis) (known : Known Item) (written : Option (List ℕ)) (a b : Inlet) (bytes : List ℕ) → Waits a b bytes
     → ServerTrace g (stand known a.left written a.faults (stream_of []) false) (stand known b.left written b.faults b.unread false) bytes []
-trace_waits g known written a b bytes waits = record {
-  did = record {
-    taken = waits.taken;
-    reads = waits.reads;
-    greeted = refl;
-    number = refl;
-    start = refl;
-    mine = sym (append-nil known.mine);
-    grows = starts_same known.seen;
-    faults = waits.faults;
-  };
-  none_closes = tt;
-  sent = Appends-nil written;
-}
+trace_waits g known written a b bytes waits =
+    let start = stand known a.left written a.faults (stream_of []) false in
+    trace_taken g start start [] bytes [] b.left b.faults b.unread (trace_begins g known a.left written a.faults) waits.taken waits.reads waits.faults

@@ -32,7 +32,7 @@ pub use Rattle.sporc_head.specs.declared.refusal.Refusal.{Refusal}
 pub use Rattle.sporc_client.proofs.Calls.{added_lead, put_other, replay_append, replay_opening}
 pub use Rattle.sporc_client.specs.Answers.{accept_fault, added, change_fault, edit_fault, has_right, is_out}
 pub use Rattle.sporc_client.specs.Log.{Accept, Change, Edit, Logged}
-pub use Rattle.sporc_client.specs.PlainClient.{Opening, PlainClient, opened, shown_after}
+pub use Rattle.sporc_client.specs.PlainClient.{Opening, PlainClient, line_of, opened, shown_after}
 pub use Rattle.sporc_client.specs.Step.{accepted, change_comes, edit_comes, is_flight, own_comes, replay_from, step}
 pub use Rattle.sporc_client.specs.Submissions.{submission, submission_added}
 pub use Rattle.sporc_client.specs.declared.fault.AcceptFault.{AcceptFault}

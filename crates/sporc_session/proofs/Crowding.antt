@@ -2,15 +2,16 @@
 use Rattle.std.proofs.Common.{◌≡◌, ℕ, suc, ◌+◌, List, [], ◌∷◌, length, take, drop, Option, Some, None, Ok, Err, refl, sym, ap, ◌∙◌, subst, arith, inl, inr, ⊎_elim}
 use Rattle.sporc_session.proofs.Common.{Result, ⊤, result_and, result_err, nil_from_length, first_of, EditorLine, Known, Agrees, StartsWith, longer, longer_is, ToClient, AcceptFault, SubmitFault}
 use Rattle.sporc_session.proofs.Common.{Item, by_of, SessionFault, Act, all_of, items_by, Trace, CountsSame, IsAllowedLog, KnowsMore, Stand, stand, LinesDid, AcceptGives, Cause, IsNoMessage}
-use Rattle.sporc_session.proofs.Common.{IsWrongAnswer, Stopped, SubmitGives, AreLinesDone, LineEnd, IsPoint, Asking, Mode, always, FirstPhase, LinkStand}
+use Rattle.sporc_session.proofs.Common.{IsWrongAnswer, SubmitGives, AreLinesDone, LineEnd, IsPoint, Mode, FirstPhase, LinkStand}
 use Rattle.lms_leaf.specs.declared.faults.LeafFault.TheVariants as leaves
 use Rattle.sporc_turn.specs.declared.known.Joined.{Joined}
 use Rattle.sporc_turn.specs.Knowing.{copied, joined_with, splitting}
 use Rattle.sporc_session.specs.declared.fault.SessionFault.TheVariants as faults
 use Rattle.sporc_session.specs.Crowds.{CrowdDid, EditorPart, IsCrowd}
-use Rattle.sporc_session.proofs.Tracing.{trace_none}
+use Rattle.sporc_session.proofs.Tracing.{stopped_within}
 use Rattle.sporc_session.proofs.Fitting.{fit_all_later}
-use Rattle.sporc_session.proofs.Knowing.{client_later, point_later, starts_then}
+use Rattle.sporc_session.proofs.Knowing.{client_later, knows_none, point_later, starts_then}
+use Rattle.sporc_session.proofs.Stepping.{known_stopped}
 use Rattle.sporc_session.proofs.Lining.{end_later, lines_later}
 
 -- Number 0 knew k as another pass was split from it, k1 before it joined that pass, and k' afterwards
@@ -72,20 +73,13 @@ module _ (k k1 k' : Known Item) (knows : (items : List Item) → KnowsMore (spli
   no_message_joined m written answers place w = record { due = w.due; sent = w.sent; came = w.came; frame = w.frame }
 
   cause_joined : (m : Mode) (written : List ℕ) (answers : List ToClient) (drawn : List (List ℕ)) (fault : SessionFault) → Cause before alone m written answers drawn fault → Cause first joined m written answers drawn fault
-  cause_joined m written answers drawn faults.LinkFault h = h
-  cause_joined m written answers drawn (faults.LinkEnded taken) h = h
   cause_joined m written answers drawn (faults.BadMessage place) h = ⊎_elim (λ x. inl (wrong_joined m written answers place x)) (λ x. inr (no_message_joined m written answers place x)) h
   cause_joined m written answers drawn (faults.Refused position refusal) h = (h.0, h.1, accept_joined position h.0 _ h.2)
   cause_joined m written answers drawn faults.JournalFull h = ⊎_elim (λ x. inl (x.0, x.1, x.2, accept_joined x.0 x.1 _ x.3)) (λ x. inr (x.0, submit_joined drawn _ x.1)) h
   cause_joined m written answers drawn faults.HistoryFull h = (h.0, submit_joined drawn _ h.1)
   cause_joined m written answers drawn (faults.Leaf (leaves.Exhausted next)) h = (h.0, submit_joined drawn _ h.1)
   cause_joined m written answers drawn (faults.Leaf leaves.DiskFault) h = (h.0, submit_joined drawn _ h.1)
-  cause_joined m written answers drawn faults.ChanceFault h = h
-  cause_joined m written answers drawn (faults.ServerRejected refusal) h = h
-  cause_joined m written answers drawn (faults.Worn ticket) h = h
-  cause_joined m written answers drawn faults.Memory h = h
-  cause_joined m written answers drawn (faults.NotSettled pending at) h = h
-  cause_joined m written answers drawn (faults.EditRefused editor line fault) h = h
+  cause_joined m written answers drawn _ h = h
 
   phase_joined : (rounds : ℕ) (fault : Option SessionFault) → FirstPhase before alone rounds fault → FirstPhase first joined rounds fault
   phase_joined rounds None d = record { acts = d.acts; trace = trace_joined d.acts [] [] [] d.trace; leads = d.leads }
@@ -121,41 +115,25 @@ first_and (Ok x) later ends is = is
 first_and (Err fault) later ends is = refl
 
 -- no script was left
-crowd_none : (a b : Stand) (rounds : ℕ) (receiver : Option SessionFault) → FirstPhase a b rounds receiver → CountsSame a.known b.known → IsCrowd a b rounds [] receiver None
-crowd_none a b rounds receiver phase same = record {
-  phase = phase;
-  ends = [];
-  joined = [];
-  did = (refl, refl);
-  first = refl;
-  joined_are = same.joined;
-  splits_are = same.splits ∙ omega arith;
-  started = inl refl;
-}
-
 pub crowd_last : (a b : Stand) (rounds : ℕ) (scripts : List (List EditorLine)) (receiver : Option SessionFault) → length scripts ≡ 0 → FirstPhase a b rounds receiver → CountsSame a.known b.known → IsCrowd a b rounds scripts receiver None
-crowd_last a b rounds scripts receiver none phase same = subst (λ (ss : List (List EditorLine)). IsCrowd a b rounds ss receiver None) (sym (nil_from_length scripts none)) (crowd_none a b rounds receiver phase same)
+crowd_last a b rounds scripts receiver none phase same =
+    subst (λ (ss : List (List EditorLine)). IsCrowd a b rounds ss receiver None) (sym (nil_from_length scripts none)) (record {
+      phase = phase;
+      ends = [];
+      joined = [];
+      did = (refl, refl);
+      first = refl;
+      joined_are = same.joined;
+      splits_are = same.splits ∙ omega arith;
+      started = inl refl;
+    })
 
 -- no pass could be split
-nothing_done : (a : Stand) (rounds : ℕ) → Stopped always a a Asking rounds faults.Memory
-nothing_done a rounds = record {
-  acts = [];
-  reached = Asking;
-  written = [];
-  answers = [];
-  words = [];
-  trace = trace_none a;
-  leads = refl;
-  within = omega arith;
-  beside = record { sent_due = (0, refl); came = inl refl; few = omega arith; drawn = λ _. refl };
-  cause = tt;
-}
-
 pub crowd_failed : (k k' : Known Item) (link : LinkStand) (words : Option (List (List ℕ))) (g rounds : ℕ) (scripts : List (List EditorLine)) (script : List EditorLine) (others : List (List EditorLine)) → scripts ≡ script ∷ others → k' ≡ k
     → IsCrowd (stand k link words g) (stand k' link words g) rounds scripts (Some faults.Memory) None
 crowd_failed k k' link words g rounds scripts script others are same =
     subst (λ (z : Known Item × List (List EditorLine)). IsCrowd (stand k link words g) (stand z.0 link words g) rounds z.1 (Some faults.Memory) None) (λ i. (sym same i, sym are i)) (record {
-      phase = nothing_done (stand k link words g) rounds;
+      phase = stopped_within 0 rounds (omega arith) (known_stopped (knows_none k) tt);
       ends = [];
       joined = [];
       did = refl;

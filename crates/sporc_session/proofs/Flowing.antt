@@ -1,50 +1,26 @@
 -- Each entry that comes is accepted in its order, and each that is made is sent.
 use Rattle.std.proofs.Common.{◌≡◌, ℕ, Bool, List, [], ◌∷◌, ◌++◌, refl, ap, ◌∙◌}
-use Rattle.sporc_session.proofs.Common.{Result, Ok, Err, append-nil, SubmitFault, Submitted, Act, all_of, Mode, Asking, Between, Leads, Goes, IsQuiet, asks, greets, looks, pulls, takes, submits_entry}
-use Rattle.sporc_session.proofs.Common.{submits_none, sends, rejected, drains, drained, is_gone, is_there}
+use Rattle.sporc_session.proofs.Common.{Result, Ok, append-nil, SubmitFault, Submitted, Act, all_of, Mode, Asking, Between, Leads, Goes, IsQuiet, takes, submits_none, sends, rejected}
 use Rattle.sporc_client.specs.declared.submitted.Submitted.TheVariants as submitted
 use Rattle.sporc_session.specs.Flows.{came_by, taken_by, waiting, made_by, submitted_by, sent_by, unsent}
 
 -- a submission after which nothing is sent made no entry
 quiet_makes : (answer : Result Submitted SubmitFault) → IsQuiet answer → made_by answer ≡ []
 quiet_makes (Ok (submitted.Entry entry)) quiet = absurd quiet
-quiet_makes (Ok submitted.Waiting) quiet = refl
-quiet_makes (Ok submitted.Nothing) quiet = refl
-quiet_makes (Ok (submitted.Dropped fault)) quiet = refl
-quiet_makes (Err fault) quiet = refl
+quiet_makes _ quiet = refl
 
 module _ (ready : ℕ → ℕ → Bool) where
   -- an act accepts what waits from the front, and puts what comes behind it
   act_takes : {m k : Mode} {act : Act} → Goes ready m act k → (x t w : List (List ℕ)) → waiting k ++ x ≡ t ++ w → waiting m ++ (came_by act ++ x) ≡ (taken_by act ++ t) ++ w
-  act_takes asks x t w is = is
-  act_takes greets x t w is = is
-  act_takes (looks ready_is) x t w is = is
-  act_takes pulls x t w is = is
   act_takes (takes {e = e}) x t w is = ap (λ (l : List (List ℕ)). e ∷ l) is
-  act_takes submits_entry x t w is = is
-  act_takes (submits_none quiet) x t w is = is
-  act_takes sends x t w is = is
-  act_takes rejected x t w is = is
-  act_takes drains x t w is = is
-  act_takes drained x t w is = is
-  act_takes is_gone x t w is = is
-  act_takes is_there x t w is = is
+  act_takes _ x t w is = is
 
   -- and sends the entry that was made, if there is one
   act_sends : {m k : Mode} {act : Act} → Goes ready m act k → (x t w : List (List ℕ)) → unsent k ++ x ≡ t ++ w → unsent m ++ (submitted_by act ++ x) ≡ (sent_by act ++ t) ++ w
-  act_sends asks x t w is = is
-  act_sends greets x t w is = is
-  act_sends (looks ready_is) x t w is = is
-  act_sends pulls x t w is = is
-  act_sends takes x t w is = is
-  act_sends submits_entry x t w is = is
   act_sends (submits_none {answer = answer} quiet) x t w is = ap (λ (l : List (List ℕ)). l ++ x) (quiet_makes answer quiet) ∙ is
   act_sends (sends {e = e}) x t w is = ap (λ (l : List (List ℕ)). e ∷ l) is
   act_sends (rejected {e = e}) x t w is = ap (λ (l : List (List ℕ)). e ∷ l) is
-  act_sends drains x t w is = is
-  act_sends drained x t w is = is
-  act_sends is_gone x t w is = is
-  act_sends is_there x t w is = is
+  act_sends _ x t w is = is
 
   all_taken : (m m' : Mode) (acts : List Act) → Leads ready m acts m' → waiting m ++ all_of came_by acts ≡ all_of taken_by acts ++ waiting m'
   all_taken m m' [] is = append-nil (waiting m) ∙ ap waiting is

@@ -40,8 +40,7 @@ case_of s none = at_front (first_frame s.rest) refl
 -- nothing is handed out exactly if no whole frame is there
 case_none : (s : Unread) (n : Next ToClient) → Case s n → n.answer ≡ Ok None → (first_frame s.rest ≡ partial) × (n.after ≡ s)
 case_none s n (waiting f) is = (f, refl)
-case_none s n (stopping fault) is = absurd cc
-case_none s n (reading len rest m) is = absurd cc
+case_none s n _ is = absurd cc
 
 -- a message leaves no fault
 case_ok : (s : Unread) (n : Next ToClient) (x : Option ToClient) → s.fault ≡ None → Case s n → n.answer ≡ Ok x → n.after.fault ≡ None
@@ -64,20 +63,20 @@ erased s = record s { fault = None }
 erased_is : (s : Unread) → s.fault ≡ None → s ≡ erased s
 erased_is s none = ap (λ (o : Option FrameFault). record s { fault = o }) none
 
--- The answer of a call on the frames f, which leaves g: it is by their bytes alone, and an inbox that holds len bytes keeps
--- what it is to keep
-record Nexts (f g : Unread) (len : ℕ) (r : Result (Option ToClient) FrameFault) : Type 0 where
-  value : GivesUnless frames.Memory (λ found. found) r (answer_of (erased f))
-  after : OnOk r (erased g ≡ after_of (erased f))
-  unread : OnErr r (erased g ≡ erased f)
-  stays : InboxInvariant g len
+-- The answer of a call by what was unread before, u, and what is after, v, which leaves the frames g, and an inbox that
+-- holds len bytes keeps what it is to keep
+pub record Nexts (u v g : Unread) (len : ℕ) (r : Result (Option ToClient) FrameFault) : Type 0 where
+  pub value : GivesUnless frames.Memory (λ found. found) r (answer_of u)
+  pub after : OnOk r (v ≡ after_of u)
+  pub unread : OnErr r (v ≡ u)
+  pub stays : InboxInvariant g len
 
 -- what an inbox keeps of a fault
 abbrev Finds : Unread → ℕ → Option FrameFault → Type 0
 Finds s len o = IfSome o (λ fault. (answer_of (erased s) ≡ Err fault) × (len ≡ 0))
 
 -- frames that stay as they were
-nexts_same : (f g : Unread) (len : ℕ) (fault : FrameFault) → InboxInvariant f len → g ≡ f → (fault ≢ frames.Memory → answer_of (erased f) ≡ Err fault) → Nexts f g len (Err fault)
+nexts_same : (f g : Unread) (len : ℕ) (fault : FrameFault) → InboxInvariant f len → g ≡ f → (fault ≢ frames.Memory → answer_of (erased f) ≡ Err fault) → Nexts (erased f) (erased g) g len (Err fault)
 nexts_same f g len fault inv same value = record {
   value = value;
   after = tt;
@@ -85,10 +84,10 @@ nexts_same f g len fault inv same value = record {
   stays = subst (λ (s : Unread). InboxInvariant s len) (sym same) inv;
 }
 
-nexts_ok : (f g : Unread) (len : ℕ) (x : Option ToClient) → InboxInvariant f len → answer_of f ≡ Ok x → g ≡ after_of f → Nexts f g len (Ok x)
+nexts_ok : (f g : Unread) (len : ℕ) (x : Option ToClient) → InboxInvariant f len → answer_of f ≡ Ok x → g ≡ after_of f → Nexts (erased f) (erased g) g len (Ok x)
 nexts_ok f g len x inv answer after = by f.fault refl
   where
-    by : (o : Option FrameFault) → f.fault ≡ o → Nexts f g len (Ok x)
+    by : (o : Option FrameFault) → f.fault ≡ o → Nexts (erased f) (erased g) g len (Ok x)
     by None none =
         let same = erased_is f none in
         let none' : g.fault ≡ None = ap (λ (s : Unread). s.fault) after ∙ case_ok f (next to_client_of f) x none (case_of f none) answer in
@@ -100,10 +99,10 @@ nexts_ok f g len x inv answer after = by f.fault refl
         }
     by (Some fault) some = let no : Err fault ≡ Ok x = sym (ap (λ (n : Next ToClient). n.answer) (next-stopped to_client_of f fault some)) ∙ answer in absurd cc
 
-nexts_err : (f g : Unread) (len : ℕ) (fault : FrameFault) → InboxInvariant f len → len ≡ 0 → answer_of f ≡ Err fault → g ≡ after_of f → Nexts f g len (Err fault)
+nexts_err : (f g : Unread) (len : ℕ) (fault : FrameFault) → InboxInvariant f len → len ≡ 0 → answer_of f ≡ Err fault → g ≡ after_of f → Nexts (erased f) (erased g) g len (Err fault)
 nexts_err f g len fault inv zero_len answer after = by f.fault refl inv.fault
   where
-    by : (o : Option FrameFault) → f.fault ≡ o → Finds f len o → Nexts f g len (Err fault)
+    by : (o : Option FrameFault) → f.fault ≡ o → Finds f len o → Nexts (erased f) (erased g) g len (Err fault)
     by None none found =
         let stops : g ≡ record f { fault = Some fault } = after ∙ case_err f (next to_client_of f) fault (case_of f none) answer in
         let here : answer_of (erased f) ≡ Err fault = ap answer_of (sym (erased_is f none)) ∙ answer in
@@ -124,7 +123,7 @@ abbrev failed : FrameFault → Result (Option ToClient) FrameFault
 failed fault = Err fault
 
 nexts : (f g : Unread) (len : ℕ) (r : Result (Option ToClient) FrameFault) → InboxInvariant f len → len ≡ 0 → GivesUnless frames.Memory (λ found. found) r (answer_of f)
-    → (r ≢ failed frames.Memory → g ≡ after_of f) → (r ≡ failed frames.Memory → g ≡ f) → Nexts f g len r
+    → (r ≢ failed frames.Memory → g ≡ after_of f) → (r ≡ failed frames.Memory → g ≡ f) → Nexts (erased f) (erased g) g len r
 nexts f g len (Ok x) inv zero_len value after memory = nexts_ok f g len x inv value (after (λ is. absurd cc))
 nexts f g len (Err (frames.BadMessage place)) inv zero_len value after memory = nexts_err f g len (frames.BadMessage place) inv zero_len (value (λ is. absurd cc)) (after (λ is. absurd cc))
 nexts f g len (Err (frames.TooLong size)) inv zero_len value after memory = nexts_err f g len (frames.TooLong size) inv zero_len (value (λ is. absurd cc)) (after (λ is. absurd cc))
@@ -140,22 +139,13 @@ unread_over : (f : Unread) (taken len : ℕ) (piece : List ℕ) → take len pie
 unread_over f taken len piece none = ap (λ (rest : List ℕ). record f { rest = rest; fault = None }) (ap (λ (held : List ℕ). f.rest ++ held) none ∙ append-nil f.rest)
 
 -- what the call on its frames says of an inbox that was so
-pub record NextsOver (g : Unread) (taken len : ℕ) (piece : List ℕ) (now : InboxModel) (r : Result (Option ToClient) FrameFault) : Type 0 where
-  pub value : GivesUnless frames.Memory (λ found. found) r (answer_of (unread_of now))
-  pub after : OnOk r (unread_of (inbox_over g taken len piece) ≡ after_of (unread_of now))
-  pub unread : OnErr r (unread_of (inbox_over g taken len piece) ≡ unread_of now)
-  pub stays : InboxInvariant g len
-
-nexts_over : (f g : Unread) (taken len : ℕ) (piece : List ℕ) (now : InboxModel) (r : Result (Option ToClient) FrameFault) → unread_of now ≡ erased f → unread_of (inbox_over g taken len piece) ≡ erased g → Nexts f g len r → NextsOver g taken len piece now r
-nexts_over f g taken len piece now (Ok x) before later n = record { value = ap answer_of before ∙ n.value; after = later ∙ n.after ∙ ap after_of (sym before); unread = tt; stays = n.stays }
-nexts_over f g taken len piece now (Err fault) before later n = record { value = λ other. ap answer_of before ∙ n.value other; after = tt; unread = later ∙ n.unread ∙ sym before; stays = n.stays }
-
 pub next_over : (f g : Unread) (taken len : ℕ) (piece : List ℕ) (now : InboxModel) (r : Result (Option ToClient) FrameFault) → inbox_over f taken len piece ≡ now → now.held ≡ [] → len ≤ length piece → InboxInvariant f len
-    → GivesUnless frames.Memory (λ found. found) r (answer_of f) → (r ≢ failed frames.Memory → g ≡ after_of f) → (r ≡ failed frames.Memory → g ≡ f) → NextsOver g taken len piece now r
+    → GivesUnless frames.Memory (λ found. found) r (answer_of f) → (r ≢ failed frames.Memory → g ≡ after_of f) → (r ≡ failed frames.Memory → g ≡ f) → Nexts (unread_of now) (unread_of (inbox_over g taken len piece)) g len r
 next_over f g taken len piece now r is empty few inv value after memory =
     let none : take len piece ≡ [] = ap (λ (i : InboxModel). i.held) is ∙ empty in
     let zero_len : len ≡ 0 = sym (length-take-le len piece few) ∙ ap length none in
-    nexts_over f g taken len piece now r (ap unread_of (sym is) ∙ unread_over f taken len piece none) (unread_over g taken len piece none) (nexts f g len r inv zero_len value after memory)
+    let before : unread_of now ≡ erased f = ap unread_of (sym is) ∙ unread_over f taken len piece none in
+    subst (λ (z : Unread × Unread). Nexts z.0 z.1 g len r) (λ i. (sym before i, sym (unread_over g taken len piece none) i)) (nexts f g len r inv zero_len value after memory)
 
 -- ---- what is held
 

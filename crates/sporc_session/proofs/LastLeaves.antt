@@ -1,34 +1,18 @@
 -- A session that ends because all leaves are drawn names the number of the key's leaves.
 use Rattle.std.proofs.Common.{◌≡◌, ⊎_elim, ℕ, zero, suc, ◌+◌, ◌^◌, List, [], ◌∷◌, ◌++◌, drop, length, take, Option, Some, None, refl, sym, ap, ◌∙◌, subst, arith}
-use Rattle.sporc_session.proofs.Common.{Result, Ok, Err, ⊤, first_of, EditorLine, Known, StartsWith, ToClient, Opening, PlainClient, replay_opening, Item, Past, items_of, SessionFault, Stand, Cause}
-use Rattle.sporc_session.proofs.Common.{SubmitGives, LineCause, Mode, EditorsDid, FirstPhase, IsSession, SecondPhase, SessionEnds, settles, doesnt_settle, stops}
+use Rattle.sporc_session.proofs.Common.{Result, Err, IfErr, ⊤, first_of, EditorLine, Known, StartsWith, ToClient, Opening, PlainClient, replay_opening, Item, Past, items_of, SessionFault, Stand, Cause}
+use Rattle.sporc_session.proofs.Common.{SubmitGives, LineCause, Mode, EditorsDid, FirstPhase, IsSession, SecondPhase, SessionEnds, stops}
 use Rattle.lms_leaf.specs.declared.faults.LeafFault.TheVariants as leaves
 use Rattle.lms_tree.specs.LmsType.{height_of}
 use Rattle.sporc_client.specs.declared.fault.SubmitFault.TheVariants as submits
 use Rattle.sporc_client.specs.Drawing.{MayDraw}
-use Rattle.sporc_client.proofs.SubmitFaults.{submission_drawn}
+use Rattle.sporc_client.proofs.Submitting.{submission_drawn}
 use Rattle.sporc_session.specs.declared.fault.SessionFault.TheVariants as faults
 
 -- if all leaves are drawn, then with their number
 abbrev NamesAll : Past → SessionFault → Type 0
 NamesAll past (faults.Leaf (leaves.Exhausted next)) = next ≡ 2 ^ height_of past.opening.key.lms
-NamesAll past (faults.Leaf leaves.DiskFault) = ⊤
-NamesAll past faults.LinkFault = ⊤
-NamesAll past faults.ChanceFault = ⊤
-NamesAll past (faults.Refused position refusal) = ⊤
-NamesAll past (faults.NotSettled pending at) = ⊤
-NamesAll past (faults.BadMessage place) = ⊤
-NamesAll past faults.HistoryFull = ⊤
-NamesAll past (faults.ServerRejected refusal) = ⊤
-NamesAll past faults.JournalFull = ⊤
-NamesAll past (faults.EditRefused editor line fault) = ⊤
-NamesAll past (faults.Worn ticket) = ⊤
-NamesAll past (faults.LinkEnded taken) = ⊤
-NamesAll past faults.Memory = ⊤
-
-abbrev EndNamesAll : Past → Result ⊤ SessionFault → Type 0
-EndNamesAll past (Ok done) = ⊤
-EndNamesAll past (Err fault) = NamesAll past fault
+NamesAll past _ = ⊤
 
 -- a point of a log that begins with a past is one of the same opening
 one_opening : (log : List Item) (past p : Past) (point : ℕ) → StartsWith log (items_of past) → take point log ≡ items_of p → p.opening ≡ past.opening
@@ -50,37 +34,13 @@ module _ (past : Past) where
   cause_names : (a b : Stand) (m : Mode) (written : List ℕ) (answers : List ToClient) (words : List (List ℕ)) (fault : SessionFault) → StartsWith b.known.seen (items_of past)
       → Cause a b m written answers words fault → NamesAll past fault
   cause_names a b m written answers words (faults.Leaf (leaves.Exhausted next)) begins c = gives_all past b.known words next begins c.1
-  cause_names a b m written answers words (faults.Leaf leaves.DiskFault) begins c = tt
-  cause_names a b m written answers words faults.LinkFault begins c = tt
-  cause_names a b m written answers words faults.ChanceFault begins c = tt
-  cause_names a b m written answers words (faults.Refused position refusal) begins c = tt
-  cause_names a b m written answers words (faults.NotSettled pending at) begins c = tt
-  cause_names a b m written answers words (faults.BadMessage place) begins c = tt
-  cause_names a b m written answers words faults.HistoryFull begins c = tt
-  cause_names a b m written answers words (faults.ServerRejected refusal) begins c = tt
-  cause_names a b m written answers words faults.JournalFull begins c = tt
-  cause_names a b m written answers words (faults.EditRefused editor line fault) begins c = tt
-  cause_names a b m written answers words (faults.Worn ticket) begins c = tt
-  cause_names a b m written answers words (faults.LinkEnded taken) begins c = tt
-  cause_names a b m written answers words faults.Memory begins c = tt
+  cause_names a b m written answers words _ begins c = tt
 
   -- no line of an editor ends so
   line_names : (log : List Item) (start number : ℕ) (mine : List Item) (lines : List EditorLine) (fault : SessionFault) → LineCause log start number mine lines fault → NamesAll past fault
   line_names log start number mine [] fault c = absurd c
   line_names log start number mine (line ∷ lines) (faults.Leaf (leaves.Exhausted next)) c = absurd c
-  line_names log start number mine (line ∷ lines) (faults.Leaf leaves.DiskFault) c = tt
-  line_names log start number mine (line ∷ lines) faults.LinkFault c = tt
-  line_names log start number mine (line ∷ lines) faults.ChanceFault c = tt
-  line_names log start number mine (line ∷ lines) (faults.Refused position refusal) c = tt
-  line_names log start number mine (line ∷ lines) (faults.NotSettled pending at) c = tt
-  line_names log start number mine (line ∷ lines) (faults.BadMessage place) c = tt
-  line_names log start number mine (line ∷ lines) faults.HistoryFull c = tt
-  line_names log start number mine (line ∷ lines) (faults.ServerRejected refusal) c = tt
-  line_names log start number mine (line ∷ lines) faults.JournalFull c = tt
-  line_names log start number mine (line ∷ lines) (faults.EditRefused editor l fault) c = tt
-  line_names log start number mine (line ∷ lines) (faults.Worn ticket) c = tt
-  line_names log start number mine (line ∷ lines) (faults.LinkEnded taken) c = tt
-  line_names log start number mine (line ∷ lines) faults.Memory c = tt
+  line_names log start number mine (line ∷ lines) _ c = tt
 
   editors_name : (log : List Item) (start number : ℕ) (scripts : List (List EditorLine)) (ends : List (Option SessionFault)) (fault : SessionFault)
       → EditorsDid log start number scripts ends → length ends ≡ length scripts → first_of ends ≡ Some fault → NamesAll past fault
@@ -91,32 +51,31 @@ module _ (past : Past) where
       subst (NamesAll past) same (line_names log start number _ (drop did.0.count script) f did.0.end)
   editors_name log start number (script ∷ scripts) (None ∷ ends) fault did all is = editors_name log start (number + 1) scripts ends fault did.1 (omega (arith, all)) is
 
-  second_names : (m b : Stand) (rounds until : ℕ) (result : Result ⊤ SessionFault) → StartsWith b.known.seen (items_of past) → SecondPhase m b rounds until result → EndNamesAll past result
-  second_names m b rounds until result begins (settles few r is) = tt
-  second_names m b rounds until result begins (doesnt_settle r is) = tt
+  second_names : (m b : Stand) (rounds until : ℕ) (result : Result ⊤ SessionFault) → StartsWith b.known.seen (items_of past) → SecondPhase m b rounds until result → IfErr result (NamesAll past)
   second_names m b rounds until result begins (stops s) = cause_names m b s.reached s.written s.answers s.words _ begins s.cause
+  second_names m b rounds until result begins _ = tt
 
   module _ (a b : Stand) (rounds until : ℕ) (scripts : List (List EditorLine)) (result : Result ⊤ SessionFault) (seen : a.known.seen ≡ items_of past) (s : IsSession a b rounds until scripts result) where
     begins : StartsWith b.known.seen (items_of past)
     begins = subst (λ (l : List Item). StartsWith b.known.seen l) seen (subst (λ (l : List Item). StartsWith l a.known.seen) (sym s.log_is) s.legal.begins)
 
     -- the receiver or an editor, in the first phase
-    ended_by : (fault : SessionFault) → NamesAll past fault → result ≡ Err fault → EndNamesAll past result
-    ended_by fault names is = subst (EndNamesAll past) (sym is) names
+    ended_by : (fault : SessionFault) → NamesAll past fault → result ≡ Err fault → IfErr result (NamesAll past)
+    ended_by fault names is = subst (λ (r : Result ⊤ SessionFault). IfErr r (NamesAll past)) (sym is) names
 
-    by_editors : (ends : Option SessionFault) → first_of s.editors ≡ ends → s.receiver ≡ None → SessionEnds s.middle b rounds until ends result → EndNamesAll past result
+    by_editors : (ends : Option SessionFault) → first_of s.editors ≡ ends → s.receiver ≡ None → SessionEnds s.middle b rounds until ends result → IfErr result (NamesAll past)
     by_editors None is none e = second_names s.middle b rounds until result begins e
     by_editors (Some f) is none e =
         ended_by f (⊎_elim (λ all. editors_name b.known.seen a.known.start 1 scripts s.editors f s.edited all is) (λ memory. absurd cc) s.started) e.0
 
     by_receiver : (receiver : Option SessionFault) → s.receiver ≡ receiver → FirstPhase a s.middle rounds receiver → SessionEnds s.middle b rounds until (first_of (receiver ∷ s.editors)) result
-        → EndNamesAll past result
+        → IfErr result (NamesAll past)
     by_receiver (Some f) is stopped e =
         let there = subst (λ (m : Stand). StartsWith m.known.seen (items_of past)) e.1 begins in
         ended_by f (cause_names a s.middle stopped.reached stopped.written stopped.answers stopped.words f there stopped.cause) e.0
     by_receiver None is did e = by_editors (first_of s.editors) refl is e
 
-    session_names : EndNamesAll past result
+    session_names : IfErr result (NamesAll past)
     session_names = by_receiver s.receiver refl s.first s.ends
 
 pub session_names_all : (past : Past) (a b : Stand) (rounds until next : ℕ) (scripts : List (List EditorLine)) → a.known.seen ≡ items_of past

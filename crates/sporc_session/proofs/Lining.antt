@@ -12,15 +12,7 @@ fails_as number line Gives Gives' more (faults.EditRefused editor l fault) h = (
 fails_as number line Gives Gives' more faults.JournalFull h = more edits.JournalFull h
 fails_as number line Gives Gives' more (faults.Worn ticket) h = h
 fails_as number line Gives Gives' more faults.Memory h = tt
-fails_as number line Gives Gives' more faults.LinkFault h = absurd h
-fails_as number line Gives Gives' more (faults.Refused position refusal) h = absurd h
-fails_as number line Gives Gives' more (faults.NotSettled pending at) h = absurd h
-fails_as number line Gives Gives' more (faults.BadMessage place) h = absurd h
-fails_as number line Gives Gives' more (faults.Leaf fault) h = absurd h
-fails_as number line Gives Gives' more faults.HistoryFull h = absurd h
-fails_as number line Gives Gives' more (faults.ServerRejected refusal) h = absurd h
-fails_as number line Gives Gives' more faults.ChanceFault h = absurd h
-fails_as number line Gives Gives' more (faults.LinkEnded taken) h = absurd h
+fails_as number line Gives Gives' more _ h = absurd h
 
 -- ---- a longer log
 
@@ -39,9 +31,8 @@ module _ (log log' : List Item) (s : StartsWith log' log) (start number : ℕ) w
 
   pub lines_later : (mine : List Item) (lines : List EditorLine) (items : List Item) → AreLinesDone log start number mine lines items → AreLinesDone log' start number mine lines items
   lines_later mine [] [] d = tt
-  lines_later mine [] (item ∷ items) d = absurd d
-  lines_later mine (line ∷ lines) [] d = absurd d
   lines_later mine (line ∷ lines) (item ∷ items) d = (done_later mine (asked_by line.command) item d.0, lines_later (mine ++ item ∷ []) lines items d.1)
+  lines_later mine _ _ d = absurd d
 
   pub answers_later : (mine : List Item) (answers : PlainClient → Option EditFault) (fault : EditFault) → AnswersAt log start number mine answers fault → AnswersAt log' start number mine answers fault
   answers_later mine answers fault h = record {
@@ -71,10 +62,9 @@ module _ (log log' : List Item) (s : StartsWith log' log) (start number : ℕ) w
 lines_push : (log : List Item) (start number : ℕ) (mine : List Item) (lines : List EditorLine) (items : List Item) (line : EditorLine) (item : Item)
     → AreLinesDone log start number mine lines items → IsDone log start number (mine ++ items) (asked_by line.command) item → AreLinesDone log start number mine (lines ++ line ∷ []) (items ++ item ∷ [])
 lines_push log start number mine [] [] line item d h = (subst (λ (m : List Item). IsDone log start number m (asked_by line.command) item) (append-nil mine) h, tt)
-lines_push log start number mine [] (x ∷ xs) line item d h = absurd d
-lines_push log start number mine (x ∷ xs) [] line item d h = absurd d
 lines_push log start number mine (x ∷ xs) (y ∷ ys) line item d h =
     (d.0, lines_push log start number (mine ++ y ∷ []) xs ys line item d.1 (subst (λ (m : List Item). IsDone log start number m (asked_by line.command) item) (sym (append_assoc mine (y ∷ []) ys)) h))
+lines_push log start number mine _ _ line item d h = absurd d
 
 pub done_none : (k : Known Item) → LinesDone k k [] []
 done_none k = record { knows = knows_none k; done = tt }

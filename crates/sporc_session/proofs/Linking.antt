@@ -99,15 +99,7 @@ silent_from a b c faults.LinkFault low cause = rose_then a.faults b.faults c.fau
 silent_from a b c (faults.LinkEnded taken) low cause = cause
 silent_from a b c (faults.BadMessage place) low cause = cause
 silent_from a b c faults.Memory low cause = tt
-silent_from a b c (faults.Refused position refusal) low cause = absurd cause
-silent_from a b c (faults.NotSettled pending at) low cause = absurd cause
-silent_from a b c (faults.Leaf fault) low cause = absurd cause
-silent_from a b c faults.HistoryFull low cause = absurd cause
-silent_from a b c (faults.ServerRejected refusal) low cause = absurd cause
-silent_from a b c faults.JournalFull low cause = absurd cause
-silent_from a b c (faults.EditRefused editor line fault) low cause = absurd cause
-silent_from a b c (faults.Worn ticket) low cause = absurd cause
-silent_from a b c faults.ChanceFault low cause = absurd cause
+silent_from a b c _ low cause = absurd cause
 
 exchanged_silent : (a b c : LinkStand) (w : List ℕ) → Exchanged a b w [] → Exchanged b c [] [] → Exchanged a c w []
 exchanged_silent a b c w f g = subst (λ (v : List ℕ). Exchanged a c v []) (append-nil w) (exchanged_then a b c w [] [] [] f g)
@@ -135,8 +127,6 @@ pub not_answered : (a b : LinkStand) (message : ToServer) (answer : ToClient) (p
 not_answered a b message answer place asks at none =
     wrong (record { answer = answer; place = place; did = asks.did; wrong = none; starts = subst (λ (n : ℕ). IsLastFrom n answer b.inbox) (sym at) asks.starts; is = refl })
 
--- ---- answers
-
 -- ---- answers to an entry
 
 module _ (a b : LinkStand) (entry : List ℕ) where
@@ -162,21 +152,18 @@ empty_no_reply (Rejected refusal) = λ e. absurd cc
 
 module _ (a b : LinkStand) (entry : List ℕ) (place : ℕ) (result : Result (Option Refusal) SessionFault) where
   replied : (answer : Result ToClient SessionFault) → IsOutcomeOf place answer result → AsksFor a b entry answer → Replied a b entry result
-  replied (Err fault) says asks = subst (Replied a b entry) (sym says) tt
   replied (Ok (to_client.Ordered position)) says asks = subst (Replied a b entry) (sym says) (Ordered position, tt, asks.did)
   replied (Ok (to_client.Rejected refusal)) says asks = subst (Replied a b entry) (sym says) (Rejected refusal, refl, asks.did)
-  replied (Ok (to_client.Entries first entries)) says asks = subst (Replied a b entry) (sym says) tt
-  replied (Ok to_client.Empty) says asks = subst (Replied a b entry) (sym says) tt
+  replied _ says asks = subst (Replied a b entry) (sym says) tt
 
   not_replied : (answer : Result ToClient SessionFault) → IsOutcomeOf place answer result → place ≡ a.inbox.at → AsksFor a b entry answer → FailsFor a b entry answer → FailsFor a b entry result
   not_replied (Err fault) says at asks fails = subst (FailsFor a b entry) (sym says) fails
-  not_replied (Ok (to_client.Ordered position)) says at asks fails = subst (FailsFor a b entry) (sym says) tt
-  not_replied (Ok (to_client.Rejected refusal)) says at asks fails = subst (FailsFor a b entry) (sym says) tt
   not_replied (Ok (to_client.Entries first entries)) says at asks fails =
       let m : ToClient = to_client.Entries first entries in
       subst (FailsFor a b entry) (sym says) (not_answered a b (to_server.Submit entry) m place asks at (no_reply entry m (entries_no_reply first entries)))
   not_replied (Ok to_client.Empty) says at asks fails =
       subst (FailsFor a b entry) (sym says) (not_answered a b (to_server.Submit entry) to_client.Empty place asks at (no_reply entry to_client.Empty empty_no_reply))
+  not_replied _ says at asks fails = subst (FailsFor a b entry) (sym says) tt
 
   pub submit_ends : (answer : Result ToClient SessionFault) → IsOutcomeOf place answer result → place ≡ a.inbox.at → AskEnds a b (to_server.Submit entry) answer → SubmitEnds a b entry result
   submit_ends answer says at asks = record { ok = replied answer says asks.ok; err = not_replied answer says at asks.ok asks.err }

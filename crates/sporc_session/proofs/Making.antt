@@ -1,9 +1,8 @@
 -- What a session adds to a log: the receiver's events, and those of the editors' lines.
-use Rattle.std.proofs.Common.{◌≡◌, ◌≢◌, ◌≤◌, ◌<◌, ℕ, zero, suc, ◌+◌, ◌==◌, Bool, true, false, cond, nat_le, nat_lt, List, [], ◌∷◌, ◌++◌, drop, length, take, map, Option, None, Some, refl, sym, ap, ◌∙◌, subst, append_assoc, append-nil, arith, eq-eqb, true≢false}
-use Rattle.sporc_session.proofs.Common.{All, Result, Ok, Err, ⊤, eqb-true, leb-false, leb-true, ltb-false, ltb-true, append_cancel_left, All-append, All-cons, All-head, All-nil, All-tail, first_of}
-use Rattle.sporc_session.proofs.Common.{EditorLine, StartsWith, own, drop_seen, own_append, SubmitFault, Submitted, submission_added, Item, Happened, by_of, SessionFault, Act, Ask, Greet, Look, Pull}
-use Rattle.sporc_session.proofs.Common.{Take, Submit, Send, Check, all_of, items_by, Stand, AreLinesDone, Asked, Edits, Changes, IsDone, asked_by, EditorsDid, FirstPhase, IsSession, SecondPhase}
-use Rattle.sporc_session.proofs.Common.{SessionEnds, settles, doesnt_settle, stops}
+use Rattle.std.proofs.Common.{◌≡◌, ◌≢◌, ◌≤◌, ◌<◌, ℕ, zero, suc, ◌+◌, ◌==◌, Bool, true, false, cond, nat_le, List, [], ◌∷◌, ◌++◌, drop, length, take, map, Option, None, Some, refl, sym, ap, ◌∙◌, subst, append_assoc, append-nil, arith, eq-eqb, true≢false}
+use Rattle.sporc_session.proofs.Common.{All, Result, Ok, ⊤, eqb-true, leb-false, leb-true, append_cancel_left, All-append, All-cons, All-head, All-nil, All-tail, first_of, EditorLine, StartsWith, own}
+use Rattle.sporc_session.proofs.Common.{drop_seen, own_append, SubmitFault, Submitted, submission_added, Item, Happened, by_of, SessionFault, Act, Take, Submit, all_of, items_by, Stand, AreLinesDone}
+use Rattle.sporc_session.proofs.Common.{Asked, Edits, Changes, IsDone, asked_by, EditorsDid, FirstPhase, IsSession, SecondPhase, SessionEnds, settles, doesnt_settle, stops}
 use Rattle.std.specs.List.{filter}
 use Rattle.sporc_client.specs.declared.submitted.Submitted.TheVariants as submitted
 use Rattle.sporc_session.specs.Makers.{IsOfItsMaker}
@@ -35,21 +34,14 @@ all_by_number P (item ∷ rest) each = All-cons P item rest here (all_by_number 
 -- ---- the receiver's
 
 added_so : (answer : Result Submitted SubmitFault) → All IsOfItsMaker (map Happened (submission_added 0 answer))
-added_so (Ok submitted.Waiting) = All-nil IsOfItsMaker
-added_so (Ok submitted.Nothing) = All-nil IsOfItsMaker
 added_so (Ok (submitted.Dropped fault)) = All-cons IsOfItsMaker _ [] refl (All-nil IsOfItsMaker)
 added_so (Ok (submitted.Entry entry)) = All-cons IsOfItsMaker _ [] refl (All-nil IsOfItsMaker)
-added_so (Err fault) = All-nil IsOfItsMaker
+added_so _ = All-nil IsOfItsMaker
 
 act_so : (act : Act) → All IsOfItsMaker (items_by act)
-act_so (Ask document member) = All-nil IsOfItsMaker
-act_so (Greet document member) = All-nil IsOfItsMaker
-act_so (Look point at pending) = All-nil IsOfItsMaker
-act_so (Pull from came) = All-nil IsOfItsMaker
 act_so (Take position entry) = All-cons IsOfItsMaker _ [] refl (All-nil IsOfItsMaker)
 act_so (Submit point first second answer) = added_so answer
-act_so (Send entry reply) = All-nil IsOfItsMaker
-act_so (Check point entry stays) = All-nil IsOfItsMaker
+act_so _ = All-nil IsOfItsMaker
 
 acts_so : (acts : List Act) → All IsOfItsMaker (all_of items_by acts)
 acts_so [] = All-nil IsOfItsMaker
@@ -81,21 +73,13 @@ second_added a b rounds until result (stops s) = record { items = all_of items_b
 
 -- ---- the editors'
 
-beyond : (n k : ℕ) → n ≤ k → n ≢ k → n + 1 ≤ k
-beyond n k low differs = by (nat_lt n k) refl
-  where
-    by : (less : Bool) → nat_lt n k ≡ less → n + 1 ≤ k
-    by true is = omega (arith, ltb-true n k is)
-    by false is = absurd (differs (omega (arith, low, ltb-false n k is)))
-
 done_so : (log : List Item) (start number : ℕ) (mine : List Item) (asked : Asked) (item : Item) → number ≢ 0 → IsDone log start number mine asked item → IsOfItsMaker item
 done_so log start number mine (Edits edit) item other d = subst IsOfItsMaker (sym d.3) other
 done_so log start number mine (Changes change) item other d = subst IsOfItsMaker (sym d) other
 
 lines_so : (log : List Item) (start number : ℕ) (mine : List Item) (lines : List EditorLine) (items : List Item) → number ≢ 0 → AreLinesDone log start number mine lines items → All IsOfItsMaker items
-lines_so log start number mine [] [] other d = All-nil IsOfItsMaker
+lines_so log start number mine lines [] other d = All-nil IsOfItsMaker
 lines_so log start number mine [] (item ∷ items) other d = absurd d
-lines_so log start number mine (line ∷ lines) [] other d = All-nil IsOfItsMaker
 lines_so log start number mine (line ∷ lines) (item ∷ items) other d =
     All-cons IsOfItsMaker item items (done_so log start number mine (asked_by line.command) item other d.0) (lines_so log start number (mine ++ item ∷ []) lines items other d.1)
 
@@ -112,10 +96,10 @@ editors_so : (log : List Item) (start number k : ℕ) (scripts : List (List Edit
 editors_so log start number k [] ends other low high d = absurd (omega (arith, low, high))
 editors_so log start number k (script ∷ scripts) [] other low high d =
     one_or_later log start number k (subst (All IsOfItsMaker) (sym d.0) (All-nil IsOfItsMaker))
-    (λ differs. editors_so log start (number + 1) k scripts [] (λ e. absurd (omega (arith, e))) (beyond number k low differs) (omega (arith, high)) d.1)
+    (λ differs. editors_so log start (number + 1) k scripts [] (λ e. absurd (omega (arith, e))) (omega (arith, low, differs)) (omega (arith, high)) d.1)
 editors_so log start number k (script ∷ scripts) (end ∷ ends) other low high d =
     one_or_later log start number k (lines_so log start number [] (take d.0.count script) (own by_of number start log) other d.0.done)
-    (λ differs. editors_so log start (number + 1) k scripts ends (λ e. absurd (omega (arith, e))) (beyond number k low differs) (omega (arith, high)) d.1)
+    (λ differs. editors_so log start (number + 1) k scripts ends (λ e. absurd (omega (arith, e))) (omega (arith, low, differs)) (omega (arith, high)) d.1)
 
 -- ---- all of a session
 

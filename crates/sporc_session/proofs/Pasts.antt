@@ -1,11 +1,10 @@
 -- Pasts of one client, the later of which goes on from the earlier one.
 use Rattle.std.proofs.Common.{◌≡◌, ℕ, ◌≤◌, Bool, true, false, cond, List, [], ◌∷◌, ◌++◌, length, map, take, refl, sym, ap, ◌∙◌, subst, arith}
-use Rattle.sporc_session.proofs.Common.{take-append-le, StartsWith, starts_length, starts_self, Logged, Edit, Change, Accept, PlainClient, shown_after, accepted, change_comes, edit_comes, is_flight}
-use Rattle.sporc_session.proofs.Common.{own_comes, replay_from, step, replay_append, Item, Opened, Happened, Past, client_of, items_of, with_events}
+use Rattle.sporc_session.proofs.Common.{take-append-le, StartsWith, starts_length, starts_self, Logged, Accept, PlainClient, shown_after, accepted, change_comes, edit_comes, is_flight, own_comes}
+use Rattle.sporc_session.proofs.Common.{replay_from, step, replay_append, Item, Opened, Happened, Past, client_of, items_of, with_events}
 use Rattle.std.specs.Option.{is_some}
 use Rattle.sporc_head.specs.History.{change_in}
 use Rattle.sporc_line.specs.Document.{text_after}
-use Rattle.sporc_client.specs.Log.{Submit, Dropped, Discard}
 use Rattle.sporc_shared.proofs.Journals.{length_shown}
 use Rattle.sporc_session.proofs.Knowing.{starts_then}
 
@@ -49,22 +48,15 @@ client_more p events = sym (replay_append p.opening p.log events)
 -- ---- the shown deltas of a client only grow
 
 accepted_shown : (c : PlainClient) (bytes : List ℕ) → StartsWith (accepted c bytes).shown c.shown
-accepted_shown c bytes =
-    elim (is_flight c bytes) as (λ (b : Bool). StartsWith (cond b (own_comes c bytes) (cond (is_some (change_in bytes)) (change_comes c bytes) (edit_comes c bytes))).shown c.shown) [
-      | true ↦ (_, refl)
-      | false ↦ elim (is_some (change_in bytes)) as (λ (b : Bool). StartsWith (cond b (change_comes c bytes) (edit_comes c bytes)).shown c.shown) [
-        | true ↦ (_, refl)
-        | false ↦ (_, refl)
-      ]
-    ]
+accepted_shown c bytes = go (is_flight c bytes) (is_some (change_in bytes))
+  where
+    go : (own change : Bool) → StartsWith (cond own (own_comes c bytes) (cond change (change_comes c bytes) (edit_comes c bytes))).shown c.shown
+    go false true = (_, refl)
+    go own change = (_, refl)
 
 step_shown : (c : PlainClient) (event : Logged) → StartsWith (step c event).shown c.shown
-step_shown c (Edit by seen marks) = (_, refl)
-step_shown c (Change by change) = (_, refl)
-step_shown c (Submit by bytes) = (_, refl)
-step_shown c (Dropped by fault) = (_, refl)
 step_shown c (Accept by bytes) = accepted_shown c bytes
-step_shown c (Discard by) = (_, refl)
+step_shown c _ = (_, refl)
 
 replay_shown : (c : PlainClient) (log : List Logged) → StartsWith (replay_from c log).shown c.shown
 replay_shown c [] = starts_self c.shown

@@ -1,15 +1,15 @@
 -- The two phases.
 use Rattle.std.proofs.Common.{◌≡◌, ◌≤◌, ℕ, Bool, true, false, List, [], ◌∷◌, length, Option, Ok, Err, refl, sym, ◌∙◌, subst, arith}
-use Rattle.sporc_session.proofs.Common.{Result, ⊤, result_err, append-nil, MAX_ENTRIES, Known, ToServer, Item, Past, client_of, items_of, IsLookAt, membership_of, SessionFault, Greet, Looked, LookAct}
-use Rattle.sporc_session.proofs.Common.{SendEnds, Unsent, unsent, Trace, Stand, stand, IsSubmitting, Did, DidOrStopped, Asking, Greeting, Between, Pulling, always, is_unsettled, greets, FirstPhase}
-use Rattle.sporc_session.proofs.Common.{SecondPhase, Rounds, settles, doesnt_settle, stops, Exchanged, LinkStand, spelled}
+use Rattle.sporc_session.proofs.Common.{Result, ⊤, result_err, append-nil, MAX_ENTRIES, Known, ToServer, Item, Past, client_of, items_of, IsLookAt, membership_of, SessionFault, Looked, LookAct}
+use Rattle.sporc_session.proofs.Common.{SendEnds, Unsent, unsent, Trace, Stand, stand, Did, DidOrStopped, Asking, Greeting, Between, Pulling, always, is_unsettled, greets, FirstPhase, SecondPhase}
+use Rattle.sporc_session.proofs.Common.{Rounds, settles, doesnt_settle, stops, Exchanged, LinkStand, spelled}
 use Rattle.sporc_wire.specs.declared.to_server.ToServer.TheVariants as to_server
 use Rattle.sporc_shared.specs.declared.look.Look.{Look}
 use Rattle.sporc_shared.specs.declared.membership.Membership.{Membership}
 use Rattle.sporc_session.specs.declared.fault.SessionFault.TheVariants as faults
 use Rattle.sporc_session.proofs.Tracing.{words_none, did_then, did_stopped, stopped_within}
 use Rattle.sporc_session.proofs.Knowing.{knows_none, seen_after}
-use Rattle.sporc_session.proofs.Stepping.{ask_stopped, look_did, look_trace}
+use Rattle.sporc_session.proofs.Stepping.{act_did, ask_stopped, look_did, look_trace}
 use Rattle.sporc_session.proofs.Telling.{Tells, TellsOr, worn_stopped}
 
 -- ---- Hello
@@ -18,28 +18,21 @@ use Rattle.sporc_session.proofs.Telling.{Tells, TellsOr, worn_stopped}
 abbrev pub IsWhose : Past → Membership → Type 0
 IsWhose past whose = whose ≡ membership_of past
 
-not_greeting : {document : List ℕ} {member : ℕ} → ¬ IsSubmitting (Greeting document member)
-not_greeting s = absurd cc
-
 module _ {ready : ℕ → ℕ → Bool} {words : Option (List (List ℕ))} {g : ℕ} {k : Known Item} {a b : LinkStand} where
   greeted : {document : List ℕ} {member : ℕ} → Exchanged a b (spelled (to_server.Hello document member ∷ [])) [] → Did ready (stand k a words g) (stand k b words g) (Greeting document member) (Between 0)
-  greeted {document} {member} x = record {
-    acts = Greet document member ∷ [];
-    trace = record {
-      knows = knows_none k;
-      fits = (tt, tt);
-      in_order = (omega arith, tt);
-      link = subst (λ (w : List ℕ). Exchanged a b w []) (sym (append-nil (spelled (to_server.Hello document member ∷ [])))) x;
-      words_are = words_none words;
-      chance = omega arith;
-    };
-    leads = (Between 0, greets, refl);
-  }
+  greeted {document} {member} x = act_did (record {
+    knows = knows_none k;
+    fits = (tt, tt);
+    in_order = (omega arith, tt);
+    link = subst (λ (w : List ℕ). Exchanged a b w []) (sym (append-nil (spelled (to_server.Hello document member ∷ [])))) x;
+    words_are = words_none words;
+    chance = omega arith;
+  }) greets
 
   pub hello_sent : {document : List ℕ} {member : ℕ} {message : ToServer} {sent : Result ⊤ SessionFault} → message ≡ to_server.Hello document member
       → SendEnds a b message sent → DidOrStopped ready (stand k a words g) (stand k b words g) (Greeting document member) (Between 0) sent
   hello_sent {sent = Ok x} is s = record { ends = greeted (subst (λ (m : ToServer). Exchanged a b (spelled (m ∷ [])) []) is s.ok) }
-  hello_sent {sent = Err fault} is s = record { ends = ask_stopped refl not_greeting (unsent (subst (λ (m : ToServer). Unsent a b m fault) is s.err)) }
+  hello_sent {sent = Err fault} is s = record { ends = ask_stopped refl (unsent (subst (λ (m : ToServer). Unsent a b m fault) is s.err)) }
 
 -- Hello, and then the rounds
 pub first_then : {a b c : Stand} {rounds : ℕ} {all : Result ⊤ SessionFault}

@@ -1,14 +1,14 @@
 -- One round.
 use Rattle.std.proofs.Common.{◌≡◌, ◌≢◌, ◌≤◌, ◌+◌, ℕ, Bool, true, false, true≢false, not, ◌==◌, eq-eqb, eqb-true, List, [], ◌∷◌, length, Option, Some, None, Ok, Err, refl, sym, ap, ◌∙◌, subst, arith, append-nil}
 use Rattle.sporc_session.proofs.Common.{Result, IfOk, IfErr, ⊤, not-true, not-false, nil_from_length, Pass, Worn, known_of, Known, MAX_ENTRIES, Refusal, is_flight, Answered, IsCall, Item, Past}
-use Rattle.sporc_session.proofs.Common.{client_of, SessionFault, Pull, Send, ServerReply, Ordered, Rejected, handed_out, reply_message, AskFails, Gathered, IsReply, taking, Stand, stand, KnowsMore}
-use Rattle.sporc_session.proofs.Common.{Trace, IsSubmitting, Did, Stopped, TookAll, GatheredAll, SubmittedOne, DidOrStopped, Mode, Between, Pulling, Taking, Sending, Checking, Submits, Drains, Goes}
-use Rattle.sporc_session.proofs.Common.{pulls, drains, sends, rejected, plain_of, checked_of, Exchanged, LinkStand, spelled}
+use Rattle.sporc_session.proofs.Common.{client_of, SessionFault, Pull, Send, ServerReply, Ordered, Rejected, handed_out, reply_message, AskFails, Gathered, IsReply, taking, Stand, stand, Trace, Did}
+use Rattle.sporc_session.proofs.Common.{Stopped, TookAll, GatheredAll, SubmittedOne, DidOrStopped, Mode, Between, Pulling, Taking, Sending, Checking, Submits, Drains, Goes, pulls, drains, sends}
+use Rattle.sporc_session.proofs.Common.{rejected, plain_of, checked_of, Exchanged, LinkStand, spelled}
 use Rattle.sporc_wire.specs.declared.to_server.ToServer.TheVariants as to_server
 use Rattle.sporc_session.proofs.Knowing.{knows_none}
 use Rattle.sporc_session.proofs.Tracing.{words_none, did_then, did_stopped}
-use Rattle.sporc_session.proofs.Stepping.{ask_stopped, gathered_did, drained_did, gather_stopped, quiet_did, entry_did, submit_stopped, check_did, check_stopped, known_stopped}
-use Rattle.sporc_session.proofs.Taking.{WornAs, plain_case}
+use Rattle.sporc_session.proofs.Stepping.{act_did, ask_stopped, gathered_did, drained_did, gather_stopped, quiet_did, entry_did, submit_stopped, check_did, check_stopped, known_stopped}
+use Rattle.sporc_session.proofs.Taking.{WornAs, by_reply}
 
 -- ---- entries are pulled and accepted
 
@@ -24,16 +24,6 @@ gather_err {k} {k'} {at = at} entries is link h = record { ends = taking link (s
 
 -- ---- what that is in a round
 
--- no submission is due
-not_pulling : {n at : ℕ} → ¬ IsSubmitting (Pulling n at)
-not_pulling s = absurd cc
-
-not_draining : {n at : ℕ} {entry : List ℕ} {refusal : Refusal} → ¬ IsSubmitting (Taking n at [] (Drains entry refusal))
-not_draining s = absurd cc
-
-not_sending : {n at : ℕ} {entry : List ℕ} → ¬ IsSubmitting (Sending n at entry)
-not_sending s = absurd cc
-
 module _ {k k' : Known Item} {a b : LinkStand} {at : ℕ} {gathered : Result ℕ SessionFault} where
   pub now_small : {now : ℕ} → gathered ≡ Ok now → GatheredAll k k' a b at gathered → (at ≤ now) × (now ≤ MAX_ENTRIES)
   now_small is h = let t = (subst (GatheredAll k k' a b at) is h).ends in (omega (arith, t.1), t.2)
@@ -46,7 +36,7 @@ module _ {k k' : Known Item} {a b : LinkStand} {at : ℕ} {gathered : Result ℕ
         subst (λ x. Did ready (stand k a words g) (stand k' b words g) (Pulling n at) (Taking n x [] Submits)) (sym t.1) (gathered_did pulls t.3)
 
     pub pull_stopped : {fault : SessionFault} → gathered ≡ Err fault → GatheredAll k k' a b at gathered → Stopped ready (stand k a words g) (stand k' b words g) (Pulling n at) (n + 1) fault
-    pull_stopped is h = gather_stopped n Submits refl not_pulling refl (λ c cs. pulls) (subst (GatheredAll k k' a b at) is h).ends
+    pull_stopped is h = gather_stopped n Submits refl refl (λ c cs. pulls) (subst (GatheredAll k k' a b at) is h).ends
 
     -- pulls go on until no entries come
     module _ {entry : List ℕ} {refusal : Refusal} where
@@ -69,7 +59,7 @@ module _ {k k' : Known Item} {a b : LinkStand} {at : ℕ} {gathered : Result ℕ
           goes (c ∷ cs) some = drains
 
       pub drain_stopped : {fault : SessionFault} → gathered ≡ Err fault → GatheredAll k k' a b at gathered → Stopped ready (stand k a words g) (stand k' b words g) (Taking n at [] (Drains entry refusal)) (n + 1) fault
-      drain_stopped is h = gather_stopped n (Drains entry refusal) refl not_draining refl (λ c cs. drains) (subst (GatheredAll k k' a b at) is h).ends
+      drain_stopped is h = gather_stopped n (Drains entry refusal) refl refl (λ c cs. drains) (subst (GatheredAll k k' a b at) is h).ends
 
 -- pulls go on, or are done
 abbrev pub draining : Bool → ℕ → ℕ → List ℕ → Refusal → Mode
@@ -135,7 +125,7 @@ module _ {ready : ℕ → ℕ → Bool} {n at : ℕ} {words : Option (List (List
   sent_ordered is ok = by (subst (λ r. IfOk r (SentFor a b entry)) is ok)
     where
       by : SentFor a b entry None → Did ready (stand k a words g) (stand k b words g) (Sending n at entry) (Between (n + 1))
-      by (Ordered place, t, x) = record { acts = Send entry (Ordered place) ∷ []; trace = sent_trace (Ordered place) x; leads = (Between (n + 1), sends, refl) }
+      by (Ordered place, t, x) = act_did (sent_trace (Ordered place) x) sends
       by (Rejected r, t, x) = absurd t
 
   pub sent_rejected : {back : List ℕ} {refusal : Refusal} {answer : Result (Option Refusal) SessionFault} → back ≡ entry → answer ≡ Ok (Some refusal)
@@ -147,11 +137,11 @@ module _ {ready : ℕ → ℕ → Bool} {n at : ℕ} {words : Option (List (List
       by : SentFor a b entry (Some refusal) → Did ready (stand k a words g) (stand k b words g) (Sending n at entry) (Taking n at [] (Drains entry refusal))
       by (Ordered place, t, x) = absurd t
       by (Rejected r, t, x) = subst (λ y. Did ready (stand k a words g) (stand k b words g) (Sending n at entry) (Taking n at [] (Drains entry y))) t
-          (record { acts = Send entry (Rejected r) ∷ []; trace = sent_trace (Rejected r) x; leads = (Taking n at [] (Drains entry r), rejected, refl) })
+          (act_did (sent_trace (Rejected r) x) rejected)
 
   pub sent_stopped : {fault : SessionFault} {answer : Result (Option Refusal) SessionFault} → answer ≡ Err fault → IfErr answer (AskFails a b (to_server.Submit entry))
       → Stopped ready (stand k a words g) (stand k b words g) (Sending n at entry) (n + 1) fault
-  sent_stopped is err = ask_stopped refl not_sending (subst (λ r. IfErr r (AskFails a b (to_server.Submit entry))) is err)
+  sent_stopped is err = ask_stopped refl (subst (λ r. IfErr r (AskFails a b (to_server.Submit entry))) is err)
 
 -- ---- it is seen whether an entry is still on its way
 
@@ -160,22 +150,14 @@ pub check_made : {k : Known Item} {entry : List ℕ} {refusal : Refusal} (reply 
     → IfOk reply (λ r. (before : Past) × IsCall k (known_of r.pass) before [] × (r.answer ≡ is_flight (client_of before) entry)) → WornAs k reply
     → (ready : ℕ → ℕ → Bool) (n : ℕ) (link : LinkStand) (words : Option (List (List ℕ))) (g : ℕ)
     → DidOrStopped ready (stand k link words g) (stand (known_of plain.1) link words g) (Checking n entry refusal) (Between (n + 1)) result
-check_made {k} {entry} {refusal} reply {plain} {result} zero' is is' call err ready n link words g =
-    subst (P (known_of plain.1)) (sym is') (plain_case reply plain is (λ answer k'. P k' (checked_of refusal answer)) here worn)
+check_made {k} {entry} {refusal} reply {plain} zero' is is' call err ready n link words g =
+    subst (P (known_of plain.1)) (sym is')
+    (by_reply (λ k' answer. (before : Past) × IsCall k k' before [] × (answer ≡ is_flight (client_of before) entry)) reply is call err (λ k' a. P k' (checked_of refusal a)) by
+    (λ ticket h. record { ends = known_stopped (knows_none k) h }))
   where
     P : Known Item → Result ⊤ SessionFault → Type 0
     P k' r = DidOrStopped ready (stand k link words g) (stand k' link words g) (Checking n entry refusal) (Between (n + 1)) r
 
-    by : (answer : Bool) (k' : Known Item) (before : Past) → IsCall k k' before [] → answer ≡ is_flight (client_of before) entry → P k' (checked_of refusal (Ok answer))
-    by true k' before c is = record { ends = check_stopped zero' c is }
-    by false k' before c is = record { ends = check_did zero' c is }
-
-    here : (r : Answered Bool) → reply ≡ Ok r → P (known_of r.pass) (checked_of refusal (Ok r.answer))
-    here r e =
-        let t = subst (λ x. IfOk x (λ r. (before : Past) × IsCall k (known_of r.pass) before [] × (r.answer ≡ is_flight (client_of before) entry))) e call in
-        by r.answer (known_of r.pass) t.0 t.1 t.2
-
-    worn : (e : Pass Item × Worn) → reply ≡ Err e → P (known_of e.0) (checked_of refusal (Err e.1.0))
-    worn e x =
-        let h = subst (WornAs k) x err in
-        record { ends = known_stopped (subst (λ (z : Known Item). KnowsMore k z []) (sym h.2) (knows_none k)) h.0 }
+    by : (answer : Bool) (k' : Known Item) → (before : Past) × IsCall k k' before [] × (answer ≡ is_flight (client_of before) entry) → P k' (checked_of refusal (Ok answer))
+    by true k' h = record { ends = check_stopped zero' h.1 h.2 }
+    by false k' h = record { ends = check_did zero' h.1 h.2 }

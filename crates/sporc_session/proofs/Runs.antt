@@ -10,8 +10,7 @@ use Rattle.sporc_line.specs.Good.{Meets}
 use Rattle.sporc_client.specs.Allowed.{can_log, can_log_all, is_allowed}
 use Rattle.sporc_client.specs.Calls.{LeadTo, events_of}
 use Rattle.sporc_client.specs.Run.{Setup, World, Move, Open, Happen, Give, Restart, IsRun, May, after, opening_of, start}
-use Rattle.sporc_client.proofs.Worlds.{happens_to}
-use Rattle.sporc_client.proofs.Reached.{put_same}
+use Rattle.sporc_client.proofs.Reached.{happens_to, put_same}
 use Rattle.sporc_session.specs.Runs.{IsJournal, device_of, moves_of}
 use Rattle.sporc_session.proofs.Pasts.{past_goes_on}
 
@@ -77,12 +76,9 @@ moved s w (Happen who event) rest (Some c) at g = record {
   goes = subst (λ (o : Option PlainClient). Goes s who o rest) (sym (ap (λ (o : Option PlainClient). (happens_to w who event o).clients who) at ∙ put_same w.clients who (step c event))) g.1;
   others = λ other differs. ap (λ (o : Option PlainClient). (happens_to w who event o).clients other) at ∙ put_other w.clients who (step c event) other (λ is. differs (sym is));
 }
-moved s w (Open who ring) rest (Some c) at g = absurd g
-moved s w (Happen who event) rest None at g = absurd g
 moved s w (Give who position bytes) rest None at g = absurd g
-moved s w (Give who position bytes) rest (Some c) at g = absurd g
 moved s w (Restart who k) rest None at g = absurd g
-moved s w (Restart who k) rest (Some c) at g = absurd g
+moved s w _ rest _ at g = absurd g
 
 all_run : (s : Setup) (w : World) (moves : List Move) → AllGo s w moves → IsRun s w moves
 all_run s w [] all = tt

@@ -1,8 +1,9 @@
 -- A whole session.
 use Rattle.std.proofs.Common.{◌≡◌, ◌≢◌, ℕ, ◌+◌, ◌≤◌, ◌<◌, ◌==◌, ne_eqb, List, [], ◌∷◌, ◌++◌, length, take, drop, Option, Some, None, Err, refl, sym, ap, ◌∙◌, subst, append-nil, arith, cond}
-use Rattle.sporc_session.proofs.Common.{All, Result, ⊤, All-cons, All-head, All-nil, All-tail, first_of, EditorLine, Known, Agrees, StartsWith, own, Item, by_of, SessionFault, all_of, items_by}
-use Rattle.sporc_session.proofs.Common.{CountsSame, IsAllowedLog, KnowsMore, Stand, stand, AreLinesDone, LineEnd, EditorsDid, FirstPhase, IsSession, SecondPhase, SessionEnds, doesnt_settle, settles}
-use Rattle.sporc_session.proofs.Common.{stops, InboxModel, empty_inbox, link_stand}
+use Rattle.sporc_session.proofs.Common.{All, Result, ⊤, All-head, All-tail, first_of, EditorLine, Known, Agrees, StartsWith, own, Item, by_of, SessionFault, all_of, items_by, CountsSame, IsAllowedLog}
+use Rattle.sporc_session.proofs.Common.{KnowsMore, Stand, stand, AreLinesDone, LineEnd, EditorsDid, FirstPhase, IsSession, SecondPhase, SessionEnds, doesnt_settle, settles, stops, InboxModel}
+use Rattle.sporc_session.proofs.Common.{empty_inbox, link_stand}
+use Rattle.std.proofs.lemmas.List.Elements.{All-weaker}
 use Rattle.std.specs.List.{filter}
 use Rattle.sporc_turn.specs.declared.known.Joined.{Joined}
 use Rattle.sporc_turn.proofs.Extending.{only_first_adds}
@@ -46,11 +47,6 @@ few_joined log start number [] ends js d = omega (arith, ap length d.1)
 few_joined log start number (script ∷ scripts) [] js d = omega (arith, ap length d)
 few_joined log start number (script ∷ scripts) (end ∷ ends) [] d = absurd d
 few_joined log start number (script ∷ scripts) (end ∷ ends) (j ∷ js) d = omega (arith, few_joined log start (number + 1) scripts ends js d.2)
-
-all_low : (n m : ℕ) (items : List Item) → n ≤ m → All (λ item. by_of item ≤ n) items → All (λ item. by_of item ≤ m) items
-all_low n m [] low all = All-nil (λ (x : Item). by_of x ≤ m)
-all_low n m (item ∷ items) low all =
-    All-cons (λ (x : Item). by_of x ≤ m) item items (omega (arith, low, All-head (λ (x : Item). by_of x ≤ n) item items all)) (all_low n m items low (All-tail (λ (x : Item). by_of x ≤ n) item items all))
 
 single : (fault : Option SessionFault) → first_of (fault ∷ []) ≡ fault
 single (Some fault) = refl
@@ -121,7 +117,8 @@ module _ (a middle b : Stand) (rounds until : ℕ) (scripts : List (List EditorL
       begins = subst (λ (l : List Item). StartsWith l a.known.seen) allowed_b.log_is (starts_then a.known.seen middle.known.seen b.known.seen first.begins second.begins);
       mine_are = ap (own by_of 0 a.known.start) (sym allowed_b.log_is) ∙ subst (λ (z : ℕ × ℕ). own by_of z.0 z.1 b.known.seen ≡ b.known.mine) (λ i. (number_b i, start_b i)) agrees_b.mine;
     };
-    others = all_low b.known.splits (length scripts) (drop a.known.start b.known.seen) (omega (arith, splits_b, few_joined b.known.seen a.known.start 1 scripts crowd.ends crowd.joined did)) numbers;
+    others = All-weaker (λ item. by_of item ≤ b.known.splits) (λ item. by_of item ≤ length scripts)
+        (λ item low. omega (arith, low, splits_b, few_joined b.known.seen a.known.start 1 scripts crowd.ends crowd.joined did)) (drop a.known.start b.known.seen) numbers;
     alone = (
       second.begins.0,
       second.begins.1,

@@ -1,7 +1,8 @@
 -- The client that a session leaves, if it is Ok or didn't settle.
-use Rattle.std.proofs.Common.{◌≡◌, ⊎_elim, ◌≤◌, ℕ, ◌+◌, Bool, true, false, List, [], ◌∷◌, length, drop, Option, Some, None, refl, sym, ap, ◌∙◌, subst, arith, nat_lt, ◌||◌}
+use Rattle.std.proofs.Common.{◌≡◌, ⊎_elim, ◌≤◌, ℕ, ◌+◌, true, false, List, [], ◌∷◌, length, drop, Option, Some, None, refl, sym, ap, ◌∙◌, subst, arith, nat_lt}
 use Rattle.sporc_session.proofs.Common.{Result, Ok, Err, ⊤, ltb-false, take_all, first_of, EditorLine, PlainClient, Item, Past, client_of, items_of, SessionFault, Looked, Stand, Cause, LineCause}
 use Rattle.sporc_session.proofs.Common.{IsClientAt, is_unsettled, EditorsDid, FirstPhase, IsSession, Rounds, SecondPhase, SessionEnds, settles, doesnt_settle, stops}
+use Rattle.std.proofs.lemmas.Bool.{or_parts}
 use Rattle.sporc_session.specs.declared.fault.SessionFault.TheVariants as faults
 use Rattle.sporc_session.proofs.Pasts.{items_same}
 
@@ -9,31 +10,16 @@ use Rattle.sporc_session.proofs.Pasts.{items_same}
 abbrev Settled : PlainClient → ℕ → Result ⊤ SessionFault → Type 0
 Settled client until (Ok done) = (length client.pending ≡ 0) × (until ≤ length client.entries)
 Settled client until (Err (faults.NotSettled pending at)) = (pending ≡ length client.pending) × (at ≡ length client.entries) × (is_unsettled until at pending ≡ true)
-Settled client until (Err faults.LinkFault) = ⊤
-Settled client until (Err (faults.Refused position refusal)) = ⊤
-Settled client until (Err (faults.BadMessage place)) = ⊤
-Settled client until (Err (faults.Leaf fault)) = ⊤
-Settled client until (Err faults.HistoryFull) = ⊤
-Settled client until (Err (faults.ServerRejected refusal)) = ⊤
-Settled client until (Err faults.JournalFull) = ⊤
-Settled client until (Err (faults.EditRefused editor line fault)) = ⊤
-Settled client until (Err (faults.Worn ticket)) = ⊤
-Settled client until (Err faults.ChanceFault) = ⊤
-Settled client until (Err (faults.LinkEnded taken)) = ⊤
-Settled client until (Err faults.Memory) = ⊤
+Settled client until _ = ⊤
 
 -- the client at the end of a log is that of its past
 at_end : (log : List Item) (past : Past) (client : PlainClient) → log ≡ items_of past → IsClientAt log (length log) client → client ≡ client_of past
 at_end log past client is at =
     sym at.client_is ∙ ap client_of (items_same at.past past (sym at.past_is ∙ take_all (length log) log (omega arith) ∙ is))
 
-or_false : (a b : Bool) → (a || b) ≡ false → (a ≡ false) × (b ≡ false)
-or_false true b is = absurd cc
-or_false false b is = (refl, is)
-
 settled_low : (until at pending : ℕ) → is_unsettled until at pending ≡ false → (pending ≡ 0) × (until ≤ at)
 settled_low until at pending is =
-    let t = or_false (nat_lt 0 pending) (nat_lt at until) is in
+    let t = or_parts (nat_lt 0 pending) (nat_lt at until) is in
     (omega (arith, ltb-false 0 pending t.0), ltb-false at until t.1)
 
 module _ (past : Past) (until : ℕ) where
@@ -52,18 +38,7 @@ module _ (past : Past) (until : ℕ) where
     where
       by : (f : SessionFault) → Cause m b s.reached s.written s.answers s.words f → Settled (client_of past) until (Err f)
       by (faults.NotSettled pending at) c = absurd c
-      by faults.LinkFault c = tt
-      by (faults.Refused position refusal) c = tt
-      by (faults.BadMessage place) c = tt
-      by (faults.Leaf fault) c = tt
-      by faults.HistoryFull c = tt
-      by (faults.ServerRejected refusal) c = tt
-      by faults.JournalFull c = tt
-      by (faults.EditRefused editor line f) c = tt
-      by (faults.Worn ticket) c = tt
-      by faults.ChanceFault c = tt
-      by (faults.LinkEnded taken) c = tt
-      by faults.Memory c = tt
+      by _ c = tt
 
 -- no line of an editor ends with NotSettled
 line_settles : (log : List Item) (start number : ℕ) (mine : List Item) (lines : List EditorLine) (pending at : ℕ) → ¬ LineCause log start number mine lines (faults.NotSettled pending at)

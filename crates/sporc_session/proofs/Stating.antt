@@ -1,7 +1,7 @@
 -- An editor's steps, as the replies of a shared client tell of them.
 use Rattle.std.proofs.Common.{◌≡◌, ◌≢◌, ◌⊎◌, ◌≤◌, ◌+◌, ℕ, Bool, true, false, List, [], ◌∷◌, ◌++◌, length, Option, Some, Ok, Err, refl, sym, ap, ◌∙◌, subst, arith, append-nil, inl, inr, ⊎_elim, nat_le, nat_lt, not, ◌==◌, ◌-◌, min, le-leb, eq-eqb, take_all}
 use Rattle.sporc_session.proofs.Common.{Result, IfOk, IfErr, MatchResult, ⊤, AnswersUnless, first_of, unless, Mark, base_len, remove_marks, insertion, insert_marks, removal, keep_marks, Known, Pass}
-use Rattle.sporc_session.proofs.Common.{Worn, StartsWith, known_of, EditFault, added, has_right, is_out, Edit, Change, PlainClient, shown_after, Answered, IsCall, Item, Happened, Past, client_of}
+use Rattle.sporc_session.proofs.Common.{Worn, StartsWith, known_of, EditFault, added, has_right, is_out, Edit, Change, PlainClient, line_of, shown_after, Answered, IsCall, Item, Happened, Past, client_of}
 use Rattle.sporc_session.proofs.Common.{items_of, IsLookAt, HasFront, Seen, SessionFault, CountsSame, KnowsMore, AskedDid, IsAtFront, IsWornFault, StatedDid, seen_of, AnswersAt, Asked, Changes, Edits}
 use Rattle.sporc_session.proofs.Common.{IsDone, IsEditAt, IsOfLine, LineFails, LineGives, IsPoint, edited_of, plain_of, worn_of}
 use Rattle.sporc_delta.specs.Format.{delta_bytes}
@@ -16,7 +16,7 @@ use Rattle.sporc_session.specs.declared.fault.SessionFault.TheVariants as faults
 use Rattle.sporc_session.proofs.Knowing.{call_client, call_counts, call_knows, call_point, client_later, knows_none, knows_then, point_later, seen_after}
 use Rattle.sporc_session.proofs.Lining.{fails_as}
 use Rattle.sporc_session.proofs.Pasts.{ShowsLater, shows_later}
-use Rattle.sporc_session.proofs.Taking.{WornAs, plain_case}
+use Rattle.sporc_session.proofs.Taking.{WornAs, by_reply}
 
 -- ---- which answers the client gives to a line
 
@@ -41,7 +41,7 @@ late_edit true true true true true seen len fault is = absurd cc
 stated_late : (c : PlainClient) (seen : ℕ) (marks : List Mark) (fault : EditFault) → seen ≤ length c.shown → base_len marks ≡ length (shown_after seen c) → edit_fault c seen marks ≡ Some fault → IsLate fault
 unfolding edit_fault
 stated_late c seen marks fault low stated is =
-    let right = has_right c 1 in
+    let right = has_right (line_of c) 1 in
     let bytes = nat_le (length (delta_bytes marks)) MAX_EDIT_BYTES in
     let pending = nat_lt (length c.pending) MAX_PENDING in
     let journal = nat_lt (length c.shown) MAX_EVENTS in
@@ -61,7 +61,7 @@ late_change true true true true fault is = absurd cc
 
 changing_late : (c : PlainClient) (fault : EditFault) → change_fault c ≡ Some fault → IsLate fault
 unfolding change_fault
-changing_late c fault is = late_change (not (is_out c)) (has_right c 2) (nat_lt (length c.pending) MAX_PENDING) (nat_lt (length c.shown) MAX_EVENTS) fault is
+changing_late c fault is = late_change (not (is_out c)) (has_right (line_of c) 2) (nat_lt (length c.pending) MAX_PENDING) (nat_lt (length c.shown) MAX_EVENTS) fault is
 
 -- ---- a call that wasn't Ok
 
@@ -70,14 +70,11 @@ FailedFor k k' number line Gives fault = KnowsMore k k' [] × LineFails number l
 
 failed_for : (k k' : Known Item) (number line : ℕ) (Gives : EditFault → Type 0) (P : ⊤ → Type 0) (fault : EditFault) → KnowsMore k k' [] → (fault ≢ edits.Memory → Gives fault × IsLate fault)
     → MatchResult (edited_of number line (Ok (Err fault))) P (FailedFor k k' number line Gives)
-failed_for k k' number line Gives P edits.Removed knows h = (knows, (refl, refl, tt, (h (λ e. absurd cc)).0))
-failed_for k k' number line Gives P edits.NoRight knows h = (knows, (refl, refl, tt, (h (λ e. absurd cc)).0))
 failed_for k k' number line Gives P (edits.SeenAhead len) knows h = ⊎_elim (λ (never : ⊥). absurd never) (λ (is : edits.SeenAhead len ≡ edits.JournalFull). absurd cc) (h (λ e. absurd cc)).1
 failed_for k k' number line Gives P edits.WrongLength knows h = ⊎_elim (λ (never : ⊥). absurd never) (λ (is : edits.WrongLength ≡ edits.JournalFull). absurd cc) (h (λ e. absurd cc)).1
-failed_for k k' number line Gives P (edits.TooLong len) knows h = (knows, (refl, refl, tt, (h (λ e. absurd cc)).0))
-failed_for k k' number line Gives P edits.PendingFull knows h = (knows, (refl, refl, tt, (h (λ e. absurd cc)).0))
 failed_for k k' number line Gives P edits.JournalFull knows h = (knows, (h (λ e. absurd cc)).0)
 failed_for k k' number line Gives P edits.Memory knows h = (knows, tt)
+failed_for k k' number line Gives P _ knows h = (knows, (refl, refl, tt, (h (λ e. absurd cc)).0))
 
 -- the client was found at a point after the pass's items
 found_at : (k k' : Known Item) (before : Past) (answers : PlainClient → Option EditFault) (fault : EditFault) → IsCall k k' before [] → answers (client_of before) ≡ Some fault → AnswersAt k'.seen k.start k.number k.mine answers fault
@@ -156,29 +153,15 @@ module _ (k : Known Item) (number line : ℕ) (same : number ≡ k.number) (repl
       → IfOk reply (λ r. Call (known_of r.pass) r.answer) → MatchResult result (λ x. P x (known_of plain.1)) (FailedFor k (known_of plain.1) k.number line (Gives (known_of plain.1)))
   replied Call P Gives by ok =
       subst (λ (r : Result ⊤ SessionFault). Did r (known_of plain.1)) (sym (is' ∙ ap (λ (n : ℕ). edited_of n line plain.0) same))
-      (plain_case reply plain is (λ a k'. Did (edited_of k.number line a) k') here worn)
+      (by_reply Call reply is ok err (λ k' a. Did (edited_of k.number line a) k') by (λ ticket h. (knows_none k, h)))
     where
       Did : Result ⊤ SessionFault → Known Item → Type 0
       Did r k' = MatchResult r (λ x. P x k') (FailedFor k k' k.number line (Gives k'))
 
-      here : (r : Answered (Result ℕ EditFault)) → reply ≡ Ok r → Did (edited_of k.number line (Ok r.answer)) (known_of r.pass)
-      here r e = by r.answer (known_of r.pass) (subst (λ (x : Result (Answered (Result ℕ EditFault)) (Pass Item × Worn)). IfOk x (λ r. Call (known_of r.pass) r.answer)) e ok)
-
-      worn : (e : Pass Item × Worn) → reply ≡ Err e → Did (edited_of k.number line (Err e.1.0)) (known_of e.0)
-      worn e x = let h = subst (WornAs k) x err in (subst (λ (z : Known Item). KnowsMore k z []) (sym h.2) (knows_none k), h.0)
-
-  -- it is the same pass, whatever the reply
-  replied_counts : (Call : Known Item → Result ℕ EditFault → Type 0) → ((answer : Result ℕ EditFault) (k' : Known Item) → Call k' answer → CountsSame k k') → IfOk reply (λ r. Call (known_of r.pass) r.answer) → CountsSame k (known_of plain.1)
-  replied_counts Call by ok = plain_case reply plain is (λ a k'. CountsSame k k') here worn
-    where
-      here : (r : Answered (Result ℕ EditFault)) → reply ≡ Ok r → CountsSame k (known_of r.pass)
-      here r e = by r.answer (known_of r.pass) (subst (λ (x : Result (Answered (Result ℕ EditFault)) (Pass Item × Worn)). IfOk x (λ r. Call (known_of r.pass) r.answer)) e ok)
-
-      worn : (e : Pass Item × Worn) → reply ≡ Err e → CountsSame k (known_of e.0)
-      worn e x = subst (CountsSame k) (sym (subst (WornAs k) x err).2) (record { number = refl; splits = refl; joined = refl })
-
   pub stated_counts : (events : ℕ) (marks : List Mark) → IfOk reply (λ r. EditCall k events marks (known_of r.pass) r.answer) → CountsSame k (known_of plain.1)
-  stated_counts events marks ok = replied_counts (EditCall k events marks) (λ answer k' h. call_counts k k' h.0 (added answer (Edit k.number events marks)) h.1) ok
+  stated_counts events marks ok =
+      by_reply (EditCall k events marks) reply is ok err (λ k' a. CountsSame k k')
+      (λ answer k' h. call_counts k k' h.0 (added answer (Edit k.number events marks)) h.1) (λ ticket h. record { number = refl; splits = refl; joined = refl })
 
   pub stated : (events len : ℕ) (marks : List Mark) → IsAtFront k events len → base_len marks ≡ len → IfOk reply (λ r. EditCall k events marks (known_of r.pass) r.answer) → StatedDid k (known_of plain.1) line events marks result
   stated events len marks front base ok =
@@ -195,7 +178,9 @@ module _ (k : Known Item) (number line : ℕ) (same : number ≡ k.number) (repl
       (call_knows k k' h.0 [] h.1) (λ other. (found_at k k' h.0 change_fault fault h.1 (h.2 other), changing_late (client_of h.0) fault (h.2 other)))
 
   pub changed_counts : (change : MemberChange) → IfOk reply (λ r. ChangeCall change (known_of r.pass) r.answer) → CountsSame k (known_of plain.1)
-  changed_counts change ok = replied_counts (ChangeCall change) (λ answer k' h. call_counts k k' h.0 (added answer (Change k.number change)) h.1) ok
+  changed_counts change ok =
+      by_reply (ChangeCall change) reply is ok err (λ k' a. CountsSame k k')
+      (λ answer k' h. call_counts k k' h.0 (added answer (Change k.number change)) h.1) (λ ticket h. record { number = refl; splits = refl; joined = refl })
 
   pub changed : (change : MemberChange) → IfOk reply (λ r. ChangeCall change (known_of r.pass) r.answer) → AskedDid k (known_of plain.1) line (Changes change) result
   changed change ok =

@@ -10,6 +10,7 @@ use Rattle.lms_leaf.specs.declared.faults.LeafFault.TheVariants as leaves
 use Rattle.sporc_wire.specs.declared.to_server.ToServer.TheVariants as to_server
 use Rattle.sporc_client.specs.declared.fault.AcceptFault.TheVariants as accepts
 use Rattle.sporc_client.specs.declared.submitted.Submitted.TheVariants as submitted
+use Rattle.sporc_session.specs.Endings.{IsBeside}
 use Rattle.sporc_session.specs.declared.fault.SessionFault.TheVariants as faults
 use Rattle.sporc_session.proofs.Tracing.{words_none}
 use Rattle.sporc_session.proofs.Exchanging.{exchanged_none}
@@ -23,6 +24,31 @@ abbrev Came : Mode → List ToClient → Type 0
 Came m answers =
     (answers ≡ [])
     ⊎ ((message : ToServer) × (answer : ToClient) × (message_due m ≡ message ∷ []) × (answers ≡ answer ∷ []) × ¬ IsAnswer message answer)
+
+-- nothing was written, nothing came and nothing was drawn
+none_beside : (m : Mode) → IsBeside m [] [] []
+none_beside m = record { sent_due = (0, refl); came = inl refl; few = omega arith; drawn = λ _. refl }
+
+-- one act leads there
+pub act_did : {ready : ℕ → ℕ → Bool} {a b : Stand} {m m' : Mode} {act : Act} → Trace a b (act ∷ []) [] [] [] → Goes ready m act m' → Did ready a b m m'
+act_did {m' = m'} {act = act} trace goes = record { acts = act ∷ []; trace = trace; leads = (m', goes, refl) }
+
+-- it stops where it is, after no act
+stops_here : {ready : ℕ → ℕ → Bool} {a b : Stand} {m : Mode} {written : List ℕ} {answers : List ToClient} {words : List (List ℕ)} {fault : SessionFault}
+    → KnowsMore a.known b.known [] → Exchanged a.link b.link written answers → AppendsItems a.words b.words words → a.chance_faults ≤ b.chance_faults
+    → IsBeside m written answers words → Cause a b m written answers words fault → Stopped ready a b m (rounds_begun m) fault
+stops_here {m = m} {written = written} {answers = answers} {words = words} knows link drew low beside cause = record {
+  acts = [];
+  reached = m;
+  written = written;
+  answers = answers;
+  words = words;
+  trace = record { knows = knows; fits = tt; in_order = tt; link = link; words_are = drew; chance = low };
+  leads = refl;
+  within = omega arith;
+  beside = beside;
+  cause = cause;
+}
 
 point_zero : {k k' : Known Item} {before : Past} {events : List Logged} → k.number ≡ 0 → IsCall k k' before events → IsPoint k'.seen k.start 0 k.mine (length (items_of before))
 point_zero {k} {k'} {before} {events} zero' c =
@@ -47,33 +73,13 @@ module _ {link : LinkStand} {words : Option (List (List ℕ))} {g : ℕ} where
   pub known_stopped : {ready : ℕ → ℕ → Bool} {k k' : Known Item} {m : Mode} {fault : SessionFault} → KnowsMore k k' []
       → Cause (stand k link words g) (stand k' link words g) m [] [] [] fault
       → Stopped ready (stand k link words g) (stand k' link words g) m (rounds_begun m) fault
-  known_stopped {m = m} knows cause = record {
-    acts = [];
-    reached = m;
-    written = [];
-    answers = [];
-    words = [];
-    trace = record {
-      knows = knows;
-      fits = tt;
-      in_order = tt;
-      link = exchanged_none link;
-      words_are = words_none words;
-      chance = omega arith;
-    };
-    leads = refl;
-    within = omega arith;
-    beside = record { sent_due = (0, refl); came = inl refl; few = omega arith; drawn = λ _. refl };
-    cause = cause;
-  }
+  known_stopped {m = m} knows cause = stops_here knows (exchanged_none link) (words_none words) (omega arith) (none_beside m) cause
 
   pub ask_did : {ready : ℕ → ℕ → Bool} {k k' : Known Item} {before : Past} → IsCall k k' before []
       → Did ready (stand k link words g) (stand k' link words g) Asking (Greeting before.opening.genesis.document before.opening.kit.me.member)
-  ask_did {k = k} {k' = k'} {before = before} c = record {
-    acts = Ask before.opening.genesis.document before.opening.kit.me.member ∷ [];
-    trace = known_trace (call_knows k k' before [] c) (before.opening, before.first_leaf, (map Happened before.log ++ [], seen_after k k' before [] c), refl, refl) (at_most (length k.seen)) refl refl refl;
-    leads = (Greeting before.opening.genesis.document before.opening.kit.me.member, asks, refl);
-  }
+  ask_did {k = k} {k' = k'} {before = before} c =
+      act_did {act = Ask before.opening.genesis.document before.opening.kit.me.member}
+      (known_trace (call_knows k k' before [] c) (before.opening, before.first_leaf, (map Happened before.log ++ [], seen_after k k' before [] c), refl, refl) (at_most (length k.seen)) refl refl refl) asks
 
   pub look_trace : {k k' : Known Item} {before : Past} {at pending : ℕ} → k.number ≡ 0 → IsCall k k' before [] → Looked (client_of before) at pending
       → Trace (stand k link words g) (stand k' link words g) (Look (length (items_of before)) at pending ∷ []) [] [] []
@@ -82,11 +88,7 @@ module _ {link : LinkStand} {words : Option (List (List ℕ))} {g : ℕ} where
 
   pub look_did : {ready : ℕ → ℕ → Bool} {n : ℕ} {k k' : Known Item} {before : Past} {at pending : ℕ} → k.number ≡ 0 → IsCall k k' before [] → Looked (client_of before) at pending
       → ready at pending ≡ true → Did ready (stand k link words g) (stand k' link words g) (Between n) (Pulling n at)
-  look_did {n = n} {before = before} {at = at} {pending = pending} zero' c looked is_ready = record {
-    acts = Look (length (items_of before)) at pending ∷ [];
-    trace = look_trace zero' c looked;
-    leads = (Pulling n at, looks is_ready, refl);
-  }
+  look_did zero' c looked is_ready = act_did (look_trace zero' c looked) (looks is_ready)
 
   check_trace : {k k' : Known Item} {before : Past} {entry : List ℕ} {stays : Bool} → k.number ≡ 0 → IsCall k k' before [] → stays ≡ is_flight (client_of before) entry
       → Trace (stand k link words g) (stand k' link words g) (Check (length (items_of before)) entry stays ∷ []) [] [] []
@@ -95,11 +97,7 @@ module _ {link : LinkStand} {words : Option (List (List ℕ))} {g : ℕ} where
 
   pub check_did : {ready : ℕ → ℕ → Bool} {n : ℕ} {r : Refusal} {k k' : Known Item} {before : Past} {entry : List ℕ} → k.number ≡ 0 → IsCall k k' before [] → false ≡ is_flight (client_of before) entry
       → Did ready (stand k link words g) (stand k' link words g) (Checking n entry r) (Between (n + 1))
-  check_did {n = n} {before = before} {entry = entry} zero' c is = record {
-    acts = Check (length (items_of before)) entry false ∷ [];
-    trace = check_trace zero' c is;
-    leads = (Between (n + 1), is_gone, refl);
-  }
+  check_did zero' c is = act_did (check_trace zero' c is) is_gone
 
   pub check_stopped : {ready : ℕ → ℕ → Bool} {n : ℕ} {r : Refusal} {k k' : Known Item} {before : Past} {entry : List ℕ} → k.number ≡ 0 → IsCall k k' before [] → true ≡ is_flight (client_of before) entry
       → Stopped ready (stand k link words g) (stand k' link words g) (Checking n entry r) (n + 1) (faults.ServerRejected r)
@@ -112,7 +110,7 @@ module _ {link : LinkStand} {words : Option (List (List ℕ))} {g : ℕ} where
     trace = check_trace zero' c is;
     leads = (Stuck n r, is_there, refl);
     within = omega arith;
-    beside = record { sent_due = (0, refl); came = inl refl; few = omega arith; drawn = λ _. refl };
+    beside = none_beside (Stuck n r);
     cause = (n, refl);
   }
 
@@ -137,10 +135,9 @@ leads_takes ready n at (e ∷ es) rest next =
 
 module _ {words : Option (List (List ℕ))} {g : ℕ} {a b : LinkStand} where
   -- no answer came to the message that was due
-  pub ask_stopped : {ready : ℕ → ℕ → Bool} {k : Known Item} {m : Mode} {message : ToServer} {fault : SessionFault} → message_due m ≡ message ∷ [] → ¬ IsSubmitting m → AskFails a b message fault
+  pub ask_stopped : {ready : ℕ → ℕ → Bool} {k : Known Item} {m : Mode} {message : ToServer} {fault : SessionFault} → message_due m ≡ message ∷ [] → AskFails a b message fault
       → Stopped ready (stand k a words g) (stand k b words g) m (rounds_begun m) fault
-  ask_stopped {ready} {k} {m} {message} {fault} due other (unsent h) =
-      stopped (take h.n (spelled (message ∷ []))) [] h.did (h.n, ap (λ (ms : List ToServer). take h.n (spelled ms)) (sym due)) (inl refl) (unsent_cause fault h.cause)
+  ask_stopped {ready} {k} {m} {message} {fault} due fails = by fails
     where
       A : Stand
       A = stand k a words g
@@ -150,96 +147,33 @@ module _ {words : Option (List (List ℕ))} {g : ℕ} {a b : LinkStand} where
 
       due_some : message_due m ≢ []
       due_some e = absurd cc
-
-      stopped : (written : List ℕ) (answers : List ToClient) → Exchanged a b written answers → (n : ℕ) × (written ≡ take n (spelled (message_due m))) → Came m answers → Cause A B m written answers [] fault
-          → Stopped ready A B m (rounds_begun m) fault
-      stopped written answers did part came cause = record {
-        acts = [];
-        reached = m;
-        written = written;
-        answers = answers;
-        words = [];
-        trace = record { knows = knows_none k; fits = tt; in_order = tt; link = did; words_are = words_none words; chance = omega arith };
-        leads = refl;
-        within = omega arith;
-        beside = record { sent_due = part; came = came; few = omega arith; drawn = λ _. refl };
-        cause = cause;
-      }
-
-      unsent_cause : (f : SessionFault) → UnsentFor a b f → Cause A B m (take h.n (spelled (message ∷ []))) [] [] f
-      unsent_cause faults.LinkFault c = (c, due_some)
-      unsent_cause faults.Memory c = tt
-      unsent_cause (faults.LinkEnded taken) c = absurd c
-      unsent_cause (faults.BadMessage place) c = absurd c
-      unsent_cause (faults.Refused position refusal) c = absurd c
-      unsent_cause (faults.NotSettled pending at) c = absurd c
-      unsent_cause (faults.Leaf (leaves.Exhausted next)) c = absurd c
-      unsent_cause (faults.Leaf leaves.DiskFault) c = absurd c
-      unsent_cause faults.HistoryFull c = absurd c
-      unsent_cause (faults.ServerRejected refusal) c = absurd c
-      unsent_cause faults.JournalFull c = absurd c
-      unsent_cause (faults.EditRefused editor line f) c = absurd c
-      unsent_cause (faults.Worn ticket) c = absurd c
-      unsent_cause faults.ChanceFault c = absurd c
-  ask_stopped {ready} {k} {m} {message} {fault} due other (silent h) = record {
-    acts = [];
-    reached = m;
-    written = spelled (message ∷ []);
-    answers = [];
-    words = [];
-    trace = record { knows = knows_none k; fits = tt; in_order = tt; link = h.did; words_are = words_none words; chance = omega arith };
-    leads = refl;
-    within = omega arith;
-    beside = record { sent_due = (length (spelled (message ∷ [])), whole); came = inl refl; few = omega arith; drawn = λ _. refl };
-    cause = silent_cause fault h.cause;
-  }
-    where
-      A : Stand
-      A = stand k a words g
-
-      B : Stand
-      B = stand k b words g
-
-      due_some : message_due m ≢ []
-      due_some e = absurd cc
-
-      sent : spelled (message ∷ []) ≡ spelled (message_due m)
-      sent = ap spelled (sym due)
 
       whole : spelled (message ∷ []) ≡ take (length (spelled (message ∷ []))) (spelled (message_due m))
-      whole = sym (take_all (length (spelled (message ∷ []))) (spelled (message ∷ [])) (omega arith)) ∙ ap (take (length (spelled (message ∷ [])))) sent
+      whole = sym (take_all (length (spelled (message ∷ []))) (spelled (message ∷ [])) (omega arith)) ∙ ap (λ (ms : List ToServer). take (length (spelled (message ∷ []))) (spelled ms)) (sym due)
+
+      stopped : {written : List ℕ} {answers : List ToClient} → Exchanged a b written answers → (n : ℕ) × (written ≡ take n (spelled (message_due m))) → Came m answers → Cause A B m written answers [] fault
+          → Stopped ready A B m (rounds_begun m) fault
+      stopped did part came cause = stops_here (knows_none k) did (words_none words) (omega arith) (record { sent_due = part; came = came; few = omega arith; drawn = λ _. refl }) cause
+
+      unsent_cause : (written : List ℕ) (f : SessionFault) → UnsentFor a b f → Cause A B m written [] [] f
+      unsent_cause written faults.LinkFault c = (c, due_some)
+      unsent_cause written faults.Memory c = tt
+      unsent_cause written _ c = absurd c
 
       silent_cause : (f : SessionFault) → SilentFor a b f → Cause A B m (spelled (message ∷ [])) [] [] f
       silent_cause faults.LinkFault c = (c, due_some)
       silent_cause faults.Memory c = tt
-      silent_cause (faults.LinkEnded taken) c = (c.0, due_some, sent, refl, c.1, c.2)
-      silent_cause (faults.BadMessage place) c = inr (record { due = due_some; sent = sent; came = refl; frame = c })
-      silent_cause (faults.Refused position refusal) c = absurd c
-      silent_cause (faults.NotSettled pending at) c = absurd c
-      silent_cause (faults.Leaf (leaves.Exhausted next)) c = absurd c
-      silent_cause (faults.Leaf leaves.DiskFault) c = absurd c
-      silent_cause faults.HistoryFull c = absurd c
-      silent_cause (faults.ServerRejected refusal) c = absurd c
-      silent_cause faults.JournalFull c = absurd c
-      silent_cause (faults.EditRefused editor line f) c = absurd c
-      silent_cause (faults.Worn ticket) c = absurd c
-      silent_cause faults.ChanceFault c = absurd c
-  ask_stopped {ready} {k} {m} {message} {fault} due other (wrong h) = record {
-    acts = [];
-    reached = m;
-    written = spelled (message ∷ []);
-    answers = h.answer ∷ [];
-    words = [];
-    trace = record { knows = knows_none k; fits = tt; in_order = tt; link = h.did; words_are = words_none words; chance = omega arith };
-    leads = refl;
-    within = omega arith;
-    beside = record { sent_due = (length (spelled (message ∷ [])), whole); came = inr (message, h.answer, due, refl, h.wrong); few = omega arith; drawn = λ _. refl };
-    cause = subst (Cause (stand k a words g) (stand k b words g) m (spelled (message ∷ [])) (h.answer ∷ []) []) (sym h.is)
-        (inl (record { message = message; answer = h.answer; due = due; sent = refl; came = refl; wrong = h.wrong; starts = h.starts }));
-  }
-    where
-      whole : spelled (message ∷ []) ≡ take (length (spelled (message ∷ []))) (spelled (message_due m))
-      whole = sym (take_all (length (spelled (message ∷ []))) (spelled (message ∷ [])) (omega arith)) ∙ ap (λ (ms : List ToServer). take (length (spelled (message ∷ []))) (spelled ms)) (sym due)
+      silent_cause (faults.LinkEnded taken) c = (c.0, due_some, ap spelled (sym due), refl, c.1, c.2)
+      silent_cause (faults.BadMessage place) c = inr (record { due = due_some; sent = ap spelled (sym due); came = refl; frame = c })
+      silent_cause _ c = absurd c
+
+      by : AskFails a b message fault → Stopped ready A B m (rounds_begun m) fault
+      by (unsent h) = stopped h.did (h.n, ap (λ (ms : List ToServer). take h.n (spelled ms)) (sym due)) (inl refl) (unsent_cause (take h.n (spelled (message ∷ []))) fault h.cause)
+      by (silent h) = stopped h.did (length (spelled (message ∷ [])), whole) (inl refl) (silent_cause fault h.cause)
+      by (wrong h) =
+          stopped h.did (length (spelled (message ∷ [])), whole) (inr (message, h.answer, due, refl, h.wrong))
+          (subst (Cause A B m (spelled (message ∷ [])) (h.answer ∷ []) []) (sym h.is)
+          (inl (record { message = message; answer = h.answer; due = due; sent = refl; came = refl; wrong = h.wrong; starts = h.starts })))
 
   -- entries were pulled and accepted
   gathered_trace : {k k' : Known Item} {at : ℕ} (came front : List (List ℕ)) → Exchanged a b (spelled (to_server.Pull at ∷ [])) (handed_out at came ∷ []) → KnowsMore k k' (all_of items_by (takes_of at front))
@@ -266,20 +200,16 @@ module _ {words : Option (List (List ℕ))} {g : ℕ} {a b : LinkStand} where
   -- no entry came
   pub drained_did : {ready : ℕ → ℕ → Bool} {n : ℕ} {k k' : Known Item} {at : ℕ} {entry : List ℕ} {r : Refusal} → Gathered k k' a b at []
       → Did ready (stand k a words g) (stand k' b words g) (Taking n at [] (Drains entry r)) (Checking n entry r)
-  drained_did {n = n} {at = at} {entry = entry} {r = r} h = record {
-    acts = Pull at [] ∷ [];
-    trace = gathered_trace [] [] h.link h.knows;
-    leads = (Checking n entry r, drained, refl);
-  }
+  drained_did h = act_did (gathered_trace [] [] h.link h.knows) drained
 
-  pub gather_stopped : {ready : ℕ → ℕ → Bool} {k k' : Known Item} {m : Mode} {at : ℕ} {fault : SessionFault} (n : ℕ) (next : Then) → message_due m ≡ to_server.Pull at ∷ [] → ¬ IsSubmitting m
+  pub gather_stopped : {ready : ℕ → ℕ → Bool} {k k' : Known Item} {m : Mode} {at : ℕ} {fault : SessionFault} (n : ℕ) (next : Then) → message_due m ≡ to_server.Pull at ∷ []
       → rounds_begun m ≡ n + 1 → ((c : List ℕ) (cs : List (List ℕ)) → Goes ready m (Pull at (c ∷ cs)) (Taking n at (c ∷ cs) next)) → GatherStopped k k' a b at fault
       → Stopped ready (stand k a words g) (stand k' b words g) m (n + 1) fault
-  gather_stopped {ready} {k} {m = m} {fault = fault} n next due other begun goes (asking same fails) =
-      subst (λ (z : Known Item × ℕ). Stopped ready (stand k a words g) (stand z.0 b words g) m z.1 fault) (λ i. (sym same i, begun i)) (ask_stopped due other fails)
-  gather_stopped {ready} {k} {k'} {m} {at} {fault} n next due other begun goes (taking {came} link h) = record {
+  gather_stopped {ready} {k} {m = m} {fault = fault} n next due begun goes (asking same fails) =
+      subst (λ (z : Known Item × ℕ). Stopped ready (stand k a words g) (stand z.0 b words g) m z.1 fault) (λ i. (sym same i, begun i)) (ask_stopped due fails)
+  gather_stopped {ready} {k} {k'} {m} {at} {fault} n next due begun goes (taking {came} link h) = record {
     acts = Pull at came ∷ takes_of at h.front;
-    reached = Taking n (at + length h.front) (h.entry ∷ h.rest) next;
+    reached = M;
     written = [];
     answers = [];
     words = [];
@@ -287,7 +217,7 @@ module _ {words : Option (List (List ℕ))} {g : ℕ} {a b : LinkStand} where
     leads = subst (λ l. Leads ready m (Pull at l ∷ takes_of at h.front) (Taking n (at + length h.front) (h.entry ∷ h.rest) next)) (sym h.are)
         (Taking n at (h.front ++ h.entry ∷ h.rest) next, starts h.front, leads_takes ready n at h.front (h.entry ∷ h.rest) next);
     within = omega arith;
-    beside = record { sent_due = (0, refl); came = inl refl; few = omega arith; drawn = λ _. refl };
+    beside = none_beside M;
     cause = cause_of fault h.cause;
   }
     where
@@ -306,16 +236,7 @@ module _ {words : Option (List (List ℕ))} {g : ℕ} {a b : LinkStand} where
       cause_of faults.JournalFull c = inl (at + length h.front + 1, h.entry, is_taking (at + length h.front + 1) refl, c)
       cause_of (faults.Worn ticket) c = c
       cause_of faults.Memory c = tt
-      cause_of faults.LinkFault c = absurd c
-      cause_of (faults.LinkEnded taken) c = absurd c
-      cause_of (faults.BadMessage place) c = absurd c
-      cause_of faults.HistoryFull c = absurd c
-      cause_of (faults.Leaf (leaves.Exhausted next')) c = absurd c
-      cause_of (faults.Leaf leaves.DiskFault) c = absurd c
-      cause_of faults.ChanceFault c = absurd c
-      cause_of (faults.ServerRejected refusal) c = absurd c
-      cause_of (faults.NotSettled pending at') c = absurd c
-      cause_of (faults.EditRefused editor line f) c = absurd c
+      cause_of _ c = absurd c
 
 -- a submission
 module _ {link : LinkStand} {w w' : Option (List (List ℕ))} {c c' : ℕ} (low : c ≤ c') where
@@ -332,34 +253,17 @@ module _ {link : LinkStand} {w w' : Option (List (List ℕ))} {c c' : ℕ} (low 
 
   pub quiet_did : {ready : ℕ → ℕ → Bool} {n at : ℕ} {k k' : Known Item} {drawn : List (List ℕ)} {answer : Result Submitted SubmitFault} → Submission k k' drawn answer → AppendsItems w w' drawn → IsQuiet answer
       → Did ready (stand k link w c) (stand k' link w' c') (Taking n at [] Submits) (Between (n + 1))
-  quiet_did {n = n} {answer = answer} s drew quiet = record {
-    acts = Submit s.point s.first s.second answer ∷ [];
-    trace = submission_trace s drew;
-    leads = (Between (n + 1), submits_none quiet, refl);
-  }
+  quiet_did s drew quiet = act_did (submission_trace s drew) (submits_none quiet)
 
   pub entry_did : {ready : ℕ → ℕ → Bool} {n at : ℕ} {k k' : Known Item} {drawn : List (List ℕ)} {answer : Result Submitted SubmitFault} {e : List ℕ} → Submission k k' drawn answer → AppendsItems w w' drawn → answer ≡ Ok (submitted.Entry e)
       → Did ready (stand k link w c) (stand k' link w' c') (Taking n at [] Submits) (Sending n at e)
-  entry_did {ready} {n} {at} {answer = answer} {e = e} s drew is = record {
-    acts = Submit s.point s.first s.second answer ∷ [];
-    trace = submission_trace s drew;
-    leads = (Sending n at e, subst (λ a. Goes ready (Taking n at [] Submits) (Submit s.point s.first s.second a) (Sending n at e)) (sym is) submits_entry, refl);
-  }
+  entry_did {ready} {n} {at} {e = e} s drew is =
+      act_did (submission_trace s drew) (subst (λ a. Goes ready (Taking n at [] Submits) (Submit s.point s.first s.second a) (Sending n at e)) (sym is) submits_entry)
 
   pub submit_stopped : {ready : ℕ → ℕ → Bool} {n at : ℕ} {k k' : Known Item} {fault : SessionFault} (drawn : List (List ℕ)) → length drawn ≤ 2 → AppendsItems w w' drawn → KnowsMore k k' [] → SubmitCause k' drawn c c' fault
       → Stopped ready (stand k link w c) (stand k' link w' c') (Taking n at [] Submits) (n + 1) fault
-  submit_stopped {n = n} {at = at} {k = k} {k' = k'} {fault = fault} drawn few drew knows cause = record {
-    acts = [];
-    reached = M;
-    written = [];
-    answers = [];
-    words = drawn;
-    trace = record { knows = knows; fits = tt; in_order = tt; link = exchanged_none link; words_are = drew; chance = low };
-    leads = refl;
-    within = at_most (n + 1);
-    beside = record { sent_due = (0, refl); came = inl refl; few = few; drawn = λ no. absurd (no is) };
-    cause = cause_of fault cause;
-  }
+  submit_stopped {n = n} {at = at} {k = k} {k' = k'} {fault = fault} drawn few drew knows cause =
+      stops_here knows (exchanged_none link) drew low (record { sent_due = (0, refl); came = inl refl; few = few; drawn = λ no. absurd (no is) }) (cause_of fault cause)
     where
       M : Mode
       M = Taking n at [] Submits
@@ -368,17 +272,11 @@ module _ {link : LinkStand} {w w' : Option (List (List ℕ))} {c c' : ℕ} (low 
       is = (n, at, refl)
 
       cause_of : (x : SessionFault) → SubmitCause k' drawn c c' x → Cause (stand k link w c) (stand k' link w' c') M [] [] drawn x
-      cause_of (faults.Refused position refusal) h = absurd h
       cause_of faults.JournalFull h = inr (is, h)
       cause_of (faults.Worn ticket) h = h
       cause_of faults.Memory h = tt
-      cause_of faults.LinkFault h = absurd h
-      cause_of (faults.LinkEnded taken) h = absurd h
-      cause_of (faults.BadMessage place) h = absurd h
       cause_of faults.HistoryFull h = (is, h)
       cause_of (faults.Leaf (leaves.Exhausted next')) h = (is, h)
       cause_of (faults.Leaf leaves.DiskFault) h = (is, h)
       cause_of faults.ChanceFault h = (is, h)
-      cause_of (faults.ServerRejected refusal) h = absurd h
-      cause_of (faults.NotSettled pending at') h = absurd h
-      cause_of (faults.EditRefused editor line x) h = absurd h
+      cause_of _ h = absurd h

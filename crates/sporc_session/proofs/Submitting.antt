@@ -1,18 +1,16 @@
 -- Submissions.
 use Rattle.std.proofs.Common.{◌≡◌, ◌≢◌, ◌+◌, ℕ, List, [], ◌∷◌, ◌++◌, length, map, take, Option, None, Some, Ok, Err, refl, sym, ap, ◌∙◌, subst, append_assoc, arith, append-nil}
-use Rattle.sporc_session.proofs.Common.{take_all, IfOk-weaker, ◌<◌, Result, IfOk, IfSome, Rose, AppendsItem, AppendsItems, MAX_BODY, Known, Pass, Worn, known_of, SubmitFault, Submitted, submission}
-use Rattle.sporc_session.proofs.Common.{submission_added, Answered, IsCall, SubmitsAt, Item, Happened, Past, client_of, items_of, SessionFault, CountsSame, KnowsMore, SubmitGives, Submission, Drew}
-use Rattle.sporc_session.proofs.Common.{DrewFew, SubmittedOne, IsPoint, made_of, plain_of}
-use Rattle.lms_leaf.specs.declared.faults.LeafFault.{LeafFault}
+use Rattle.sporc_session.proofs.Common.{take_all, ◌<◌, Result, IfOk, IfSome, Rose, AppendsItem, AppendsItems, MAX_BODY, Known, Pass, Worn, known_of, SubmitFault, Submitted, submission}
+use Rattle.sporc_session.proofs.Common.{submission_added, Answered, IsCall, SubmitsAt, Item, Happened, Past, client_of, items_of, SessionFault, CountsSame, SubmitGives, Submission, Drew, DrewFew}
+use Rattle.sporc_session.proofs.Common.{SubmittedOne, IsPoint, made_of, plain_of}
 use Rattle.sporc_base.specs.Outcome.{GivesUnless}
 use Rattle.sporc_client.specs.declared.fault.SubmitFault.TheVariants as submits
 use Rattle.sporc_client.specs.declared.submitted.Submitted.TheVariants as submitted
-use Rattle.sporc_client.specs.Drawing.{MayDraw}
 use Rattle.sporc_session.specs.declared.fault.SessionFault.TheVariants as faults
 use Rattle.sporc_session.proofs.Tracing.{words_none}
 use Rattle.sporc_session.proofs.EntryLengths.{submitted_len}
 use Rattle.sporc_session.proofs.Knowing.{call_client, call_counts, call_drop, call_knows, call_later, call_point, knows_none}
-use Rattle.sporc_session.proofs.Taking.{WornAs, none_point, plain_case, plain_counts}
+use Rattle.sporc_session.proofs.Taking.{WornAs, by_reply, none_point}
 
 -- two words that were put into a buffer, one after the other
 pub both_put : (half both first second : List ℕ) → length first ≡ 32 → length second ≡ 32 → length both ≡ 64
@@ -50,87 +48,67 @@ given : (answer answer' : Result Submitted SubmitFault) → answer ≢ Err submi
 given (Ok s) answer' other h = sym h
 given (Err fault) answer' other h = sym (h (λ is. other (ap Err is)))
 
-module _ (k k' : Known Item) (before : Past) (first second : List ℕ) (leaf : Result ℕ LeafFault) (may : MayDraw (client_of before) leaf) (zero' : k.number ≡ 0) where
-  sub_fits : (answer : Result Submitted SubmitFault) → IsCall k k' before (submission_added k.number answer) → answer ≡ submission (client_of before) (first ++ second) leaf → Submission k k' (first ∷ second ∷ []) answer
-  sub_fits answer c gives =
-      let events = submission_added 0 answer in
-      let c0 : IsCall k k' before events = subst (λ (n : ℕ). IsCall k k' before (submission_added n answer)) zero' c in
-      record {
-        point = length (items_of before);
-        later = call_later k k' before events c0;
-        first = first;
-        second = second;
-        knows = call_knows k k' before events c0;
-        fits = (
-          subst (λ (n : ℕ). IsPoint k'.seen k.start n k.mine (length (items_of before))) zero' (call_point k k' before events c0),
-          (client_of before, leaf, call_client k k' before events c0, may, gives),
-          ([], call_drop k k' before events c0 ∙ sym (append-nil (map Happened events))),
-        );
-        drawn_are = refl;
-      }
-
-  sub_gives : (fault : SubmitFault) → IsCall k k' before [] → Err fault ≡ submission (client_of before) (first ++ second) leaf → SubmitGives k' (first ∷ second ∷ []) fault
-  sub_gives fault c gives = record {
-    point = length (items_of before);
-    client = client_of before;
-    first = first;
-    second = second;
-    leaf = leaf;
-    is_point = none_point k k' before zero' c;
-    is_client = call_client k k' before [] c;
-    may = may;
-    drawn_are = refl;
-    gives = sym gives;
-  }
-
 abbrev SubmitCall : Known Item → List ℕ → Known Item → Result Submitted SubmitFault → Type 0
 SubmitCall k random k' answer = (before : Past) × IsCall k k' before (submission_added k.number answer) × SubmitsAt before random answer
 
 module _ (k : Known Item) (w w' : Option (List (List ℕ))) (n n' : ℕ) (first second : List ℕ) (zero' : k.number ≡ 0) (drew : AppendsItems w w' (first ∷ second ∷ [])) where
   kept : (k' : Known Item) (answer : Result Submitted SubmitFault) → answer ≢ Err submits.Memory → SubmitCall k (first ++ second) k' answer → Submission k k' (first ∷ second ∷ []) answer
   kept k' answer other h =
-      sub_fits k k' h.0 first second h.2.leaf h.2.may zero' answer h.1 (given answer (submission (client_of h.0) (first ++ second) h.2.leaf) other h.2.gives)
+      let before = h.0 in
+      let events = submission_added 0 answer in
+      let c : IsCall k k' before events = subst (λ (n : ℕ). IsCall k k' before (submission_added n answer)) zero' h.1 in
+      record {
+        point = length (items_of before);
+        later = call_later k k' before events c;
+        first = first;
+        second = second;
+        knows = call_knows k k' before events c;
+        fits = (
+          subst (λ (n : ℕ). IsPoint k'.seen k.start n k.mine (length (items_of before))) zero' (call_point k k' before events c),
+          (client_of before, h.2.leaf, call_client k k' before events c, h.2.may, given answer (submission (client_of before) (first ++ second) h.2.leaf) other h.2.gives),
+          ([], call_drop k k' before events c ∙ sym (append-nil (map Happened events))),
+        );
+        drawn_are = refl;
+      }
 
   stops : (k' : Known Item) (fault : SubmitFault) → fault ≢ submits.Memory → SubmitCall k (first ++ second) k' (Err fault) → SubmitGives k' (first ∷ second ∷ []) fault
-  stops k' fault other h = sub_gives k k' h.0 first second h.2.leaf h.2.may zero' fault h.1 (sym (h.2.gives other))
+  stops k' fault other h = record {
+    point = length (items_of h.0);
+    client = client_of h.0;
+    first = first;
+    second = second;
+    leaf = h.2.leaf;
+    is_point = none_point k k' h.0 zero' h.1;
+    is_client = call_client k k' h.0 [] h.1;
+    may = h.2.may;
+    drawn_are = refl;
+    gives = h.2.gives other;
+  }
 
   submitted_by : (answer : Result Submitted SubmitFault) (k' : Known Item) → SubmitCall k (first ++ second) k' answer → SubmittedOne k k' w w' n n' (made_of (Ok answer))
   submitted_by (Ok (submitted.Entry entry)) k' h = (Ok (submitted.Entry entry), first ∷ second ∷ [], kept k' (Ok (submitted.Entry entry)) (λ e. absurd cc) h, drew, refl)
-  submitted_by (Ok submitted.Waiting) k' h = (Ok submitted.Waiting, first ∷ second ∷ [], kept k' (Ok submitted.Waiting) (λ e. absurd cc) h, drew, tt)
-  submitted_by (Ok submitted.Nothing) k' h = (Ok submitted.Nothing, first ∷ second ∷ [], kept k' (Ok submitted.Nothing) (λ e. absurd cc) h, drew, tt)
-  submitted_by (Ok (submitted.Dropped fault)) k' h = (Ok (submitted.Dropped fault), first ∷ second ∷ [], kept k' (Ok (submitted.Dropped fault)) (λ e. absurd cc) h, drew, tt)
-  submitted_by (Err submits.Removed) k' h = (Err submits.Removed, first ∷ second ∷ [], kept k' (Err submits.Removed) (λ e. absurd cc) h, drew, tt)
-  submitted_by (Err submits.NoRight) k' h = (Err submits.NoRight, first ∷ second ∷ [], kept k' (Err submits.NoRight) (λ e. absurd cc) h, drew, tt)
-  submitted_by (Err (submits.HeadTooLong len)) k' h = (Err (submits.HeadTooLong len), first ∷ second ∷ [], kept k' (Err (submits.HeadTooLong len)) (λ e. absurd cc) h, drew, tt)
-  submitted_by (Err (submits.NoPairKey member)) k' h = (Err (submits.NoPairKey member), first ∷ second ∷ [], kept k' (Err (submits.NoPairKey member)) (λ e. absurd cc) h, drew, tt)
   submitted_by (Err submits.HistoryFull) k' h = (first ∷ second ∷ [], omega arith, drew, call_knows k k' h.0 [] h.1, stops k' submits.HistoryFull (λ e. absurd cc) h)
   submitted_by (Err submits.JournalFull) k' h = (first ∷ second ∷ [], omega arith, drew, call_knows k k' h.0 [] h.1, stops k' submits.JournalFull (λ e. absurd cc) h)
   submitted_by (Err (submits.Exhausted next)) k' h = (first ∷ second ∷ [], omega arith, drew, call_knows k k' h.0 [] h.1, stops k' (submits.Exhausted next) (λ e. absurd cc) h)
   submitted_by (Err submits.LeafFault) k' h = (first ∷ second ∷ [], omega arith, drew, call_knows k k' h.0 [] h.1, stops k' submits.LeafFault (λ e. absurd cc) h)
   submitted_by (Err submits.Memory) k' h = (first ∷ second ∷ [], omega arith, drew, call_knows k k' h.0 [] h.1, tt)
-
-  submitted_worn : (reply : Result (Answered (Result Submitted SubmitFault)) (Pass Item × Worn)) → WornAs k reply → (e : Pass Item × Worn) → reply ≡ Err e → SubmittedOne k (known_of e.0) w w' n n' (made_of (Err e.1.0))
-  submitted_worn reply err e x =
-      let h = subst (WornAs k) x err in
-      (first ∷ second ∷ [], omega arith, drew, subst (λ (z : Known Item). KnowsMore k z []) (sym h.2) (knows_none k), h.0)
+  submitted_by answer k' h = (answer, first ∷ second ∷ [], kept k' answer (λ e. absurd cc) h, drew, tt)
 
 pub submitted_one : (k : Known Item) (reply : Result (Answered (Result Submitted SubmitFault)) (Pass Item × Worn)) (plain : Result (Result Submitted SubmitFault) ℕ × Pass Item) (result : Result (Option (List ℕ)) SessionFault)
     (w w' : Option (List (List ℕ))) (n n' : ℕ) (random : List ℕ) → k.number ≡ 0
     → plain ≡ plain_of reply → result ≡ made_of plain.0 → Drew w w' random
     → IfOk reply (λ r. SubmitCall k random (known_of r.pass) r.answer) → WornAs k reply → SubmittedOne k (known_of plain.1) w w' n n' result
 submitted_one k reply plain result w w' n n' random zero' is is' drew ok err =
-    subst (SubmittedOne k (known_of plain.1) w w' n n') (sym is') (plain_case reply plain is (λ a k'. SubmittedOne k k' w w' n n' (made_of a)) here (submitted_worn k w w' n n' drew.0 drew.1 zero' drew.3 reply err))
-  where
-    here : (r : Answered (Result Submitted SubmitFault)) → reply ≡ Ok r → SubmittedOne k (known_of r.pass) w w' n n' (made_of (Ok r.answer))
-    here r e =
-        let call : SubmitCall k random (known_of r.pass) r.answer = subst (λ x. IfOk x (λ r. SubmitCall k random (known_of r.pass) r.answer)) e ok in
-        submitted_by k w w' n n' drew.0 drew.1 zero' drew.3 r.answer (known_of r.pass) (subst (λ (s : List ℕ). SubmitCall k s (known_of r.pass) r.answer) drew.2 call)
+    subst (SubmittedOne k (known_of plain.1) w w' n n') (sym is')
+    (by_reply (SubmitCall k random) reply is ok err (λ k' a. SubmittedOne k k' w w' n n' (made_of a))
+    (λ answer k' h. submitted_by k w w' n n' drew.0 drew.1 zero' drew.3 answer k' (subst (λ (s : List ℕ). SubmitCall k s k' answer) drew.2 h))
+    (λ ticket h. (drew.0 ∷ drew.1 ∷ [], omega arith, drew.3, knows_none k, h)))
 
 pub submitted_counts : (k : Known Item) (random : List ℕ) (reply : Result (Answered (Result Submitted SubmitFault)) (Pass Item × Worn)) (plain : Result (Result Submitted SubmitFault) ℕ × Pass Item)
     → plain ≡ plain_of reply → IfOk reply (λ r. SubmitCall k random (known_of r.pass) r.answer) → WornAs k reply → CountsSame k (known_of plain.1)
 submitted_counts k random reply plain is ok err =
-    plain_counts k reply plain is
-    (IfOk-weaker reply (λ r. SubmitCall k random (known_of r.pass) r.answer) (λ r. CountsSame k (known_of r.pass)) (λ r h. call_counts k (known_of r.pass) h.0 (submission_added k.number r.answer) h.1) ok) err
+    by_reply (SubmitCall k random) reply is ok err (λ k' a. CountsSame k k')
+    (λ answer k' h. call_counts k k' h.0 (submission_added k.number answer) h.1) (λ ticket h. record { number = refl; splits = refl; joined = refl })
 
 -- the chance failed before both words were drawn
 pub not_drawn : (k : Known Item) (u v : Option (List (List ℕ))) (n n' : ℕ) (fault : SessionFault) → DrewFew u v fault → Rose n n' → SubmittedOne k k u v n n' (Err fault)
@@ -143,22 +121,9 @@ IsShort result = IfOk result (λ made. IfSome made (λ entry. length entry < MAX
 
 short_by : (k : Known Item) (random : List ℕ) (answer : Result Submitted SubmitFault) (k' : Known Item) → SubmitCall k random k' answer → IsShort (made_of (Ok answer))
 short_by k random (Ok (submitted.Entry entry)) k' h = submitted_len h.0 k.number entry h.1.legal.allowed
-short_by k random (Ok submitted.Waiting) k' h = tt
-short_by k random (Ok submitted.Nothing) k' h = tt
-short_by k random (Ok (submitted.Dropped fault)) k' h = tt
-short_by k random (Err submits.Removed) k' h = tt
-short_by k random (Err submits.NoRight) k' h = tt
-short_by k random (Err (submits.HeadTooLong len)) k' h = tt
-short_by k random (Err (submits.NoPairKey member)) k' h = tt
-short_by k random (Err submits.HistoryFull) k' h = tt
-short_by k random (Err submits.JournalFull) k' h = tt
-short_by k random (Err (submits.Exhausted next)) k' h = tt
-short_by k random (Err submits.LeafFault) k' h = tt
 short_by k random (Err submits.Memory) k' h = tt
+short_by k random _ k' h = tt
 
 pub submitted_short : (k : Known Item) (reply : Result (Answered (Result Submitted SubmitFault)) (Pass Item × Worn)) (plain : Result (Result Submitted SubmitFault) ℕ × Pass Item) (result : Result (Option (List ℕ)) SessionFault) (random : List ℕ)
-    → plain ≡ plain_of reply → result ≡ made_of plain.0 → IfOk reply (λ r. SubmitCall k random (known_of r.pass) r.answer) → IsShort result
-submitted_short k reply plain result random is is' ok = subst IsShort (sym is') (plain_case reply plain is (λ a k'. IsShort (made_of a)) here (λ e x. tt))
-  where
-    here : (r : Answered (Result Submitted SubmitFault)) → reply ≡ Ok r → IsShort (made_of (Ok r.answer))
-    here r e = short_by k random r.answer (known_of r.pass) (subst (λ x. IfOk x (λ r. SubmitCall k random (known_of r.pass) r.answer)) e ok)
+    → plain ≡ plain_of reply → result ≡ made_of plain.0 → IfOk reply (λ r. SubmitCall k random (known_of r.pass) r.answer) → WornAs k reply → IsShort result
+submitted_short k reply plain result random is is' ok err = subst IsShort (sym is') (by_reply (SubmitCall k random) reply is ok err (λ k' a. IsShort (made_of a)) (short_by k random) (λ ticket h. tt))

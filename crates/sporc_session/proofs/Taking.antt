@@ -1,8 +1,7 @@
 -- Entries that are accepted one after the other.
 use Rattle.std.proofs.Common.{◌≡◌, ◌≢◌, ◌+◌, ℕ, List, [], ◌∷◌, length, Some, Ok, Err, refl, sym, ap, ◌∙◌, subst, arith, append-nil}
-use Rattle.sporc_session.proofs.Common.{Result, IfOk, IfErr, ⊤, IfOk-weaker, Known, Pass, Worn, known_of, read_of, AcceptFault, accept_fault, added, Accept, Answered, CallGives, IsCall, Item}
-use Rattle.sporc_session.proofs.Common.{Happened, Past, client_of, items_of, SessionFault, all_of, items_by, CountsSame, KnowsMore, AcceptGives, TakeCause, TakingStopped, takes_of, TookAll, TookOne}
-use Rattle.sporc_session.proofs.Common.{IsPoint, plain_of, taken_of}
+use Rattle.sporc_session.proofs.Common.{Result, IfOk, IfErr, ⊤, Known, Pass, Worn, known_of, read_of, AcceptFault, accept_fault, added, Accept, Answered, CallGives, IsCall, Item, Happened, Past}
+use Rattle.sporc_session.proofs.Common.{client_of, items_of, SessionFault, all_of, items_by, CountsSame, KnowsMore, AcceptGives, TakeCause, takes_of, TookAll, TookOne, IsPoint, plain_of, taken_of}
 use Rattle.sporc_turn.specs.declared.limits.TheConstants.{MAX_TICKETS}
 use Rattle.sporc_client.specs.declared.fault.AcceptFault.TheVariants as accepts
 use Rattle.sporc_session.proofs.Knowing.{call_client, call_counts, call_knows, call_point, knows_none, knows_then}
@@ -30,53 +29,21 @@ accept_stops k k' position number entry fault zero' other h = (
   },
 )
 
--- the first entry isn't accepted
-pub stop_first : (k k' : Known Item) (at : ℕ) (entries : List (List ℕ)) (e : List ℕ) (es : List (List ℕ)) (fault : SessionFault) → entries ≡ e ∷ es
-    → KnowsMore k k' [] → TakeCause k' (at + 1) e fault → TakingStopped k k' at entries fault
-stop_first k k' at entries e es fault is knows cause = record {
-  front = [];
-  entry = e;
-  rest = es;
-  are = is;
-  knows = knows;
-  cause = subst (λ (n : ℕ). TakeCause k' n e fault) (omega arith) cause;
-}
-
--- a later one isn't
-pub stop_later : (k k1 k' : Known Item) (at : ℕ) (entries : List (List ℕ)) (e : List ℕ) (es : List (List ℕ)) (fault : SessionFault) → entries ≡ e ∷ es
-    → KnowsMore k k1 (Happened (Accept 0 e) ∷ []) → TakingStopped k1 k' (at + 1) es fault → TakingStopped k k' at entries fault
-stop_later k k1 k' at entries e es fault is knows s = record {
-  front = e ∷ s.front;
-  entry = s.entry;
-  rest = s.rest;
-  are = is ∙ ap (λ (l : List (List ℕ)). e ∷ l) s.are;
-  knows = knows_then k k1 k' (Happened (Accept 0 e) ∷ []) (all_of items_by (takes_of (at + 1) s.front)) knows s.knows;
-  cause = subst (λ (n : ℕ). TakeCause k' n s.entry fault) (omega arith) s.cause;
-}
-
 -- ---- replies
-
--- a fact of an answer, and of a pass that is the same if a ticket wasn't drawn
-module _ {A : Type 0} (reply : Result (Answered A) (Pass Item × Worn)) (plain : Result A ℕ × Pass Item) (is : plain ≡ plain_of reply) where
-  pub plain_case : (P : Result A ℕ → Known Item → Type 0) → ((r : Answered A) → reply ≡ Ok r → P (Ok r.answer) (known_of r.pass)) → ((e : Pass Item × Worn) → reply ≡ Err e → P (Err e.1.0) (known_of e.0)) → P plain.0 (known_of plain.1)
-  plain_case P f g = subst (λ (p : Result A ℕ × Pass Item). P p.0 (known_of p.1)) (sym is) (by reply f g)
-    where
-      by : (x : Result (Answered A) (Pass Item × Worn)) → ((r : Answered A) → x ≡ Ok r → P (Ok r.answer) (known_of r.pass)) → ((e : Pass Item × Worn) → x ≡ Err e → P (Err e.1.0) (known_of e.0)) → P (plain_of x).0 (known_of (plain_of x).1)
-      by (Ok r) f g = f r refl
-      by (Err e) f g = g e refl
 
 -- what a reply without a ticket says
 abbrev pub WornAs : {A : Type 0} → Known Item → Result (Answered A) (Pass Item × Worn) → Type 0
 WornAs k reply = IfErr reply (λ e. (e.1.0 ≡ MAX_TICKETS) × (read_of e.0 ≡ e.1.0) × (known_of e.0 ≡ k))
 
--- the pass is the same one, whatever the reply
-pub plain_counts : {A : Type 0} (k : Known Item) (reply : Result (Answered A) (Pass Item × Worn)) (plain : Result A ℕ × Pass Item)
-    → plain ≡ plain_of reply → IfOk reply (λ r. CountsSame k (known_of r.pass)) → WornAs k reply → CountsSame k (known_of plain.1)
-plain_counts {A} k reply plain is ok err = subst (λ (p : Result A ℕ × Pass Item). CountsSame k (known_of p.1)) (sym is) (by reply ok err)
-  where
-    by : (x : Result (Answered A) (Pass Item × Worn)) → IfOk x (λ r. CountsSame k (known_of r.pass)) → WornAs k x → CountsSame k (known_of (plain_of x).1)
-    by (Ok r) ok err = ok
-    by (Err e) ok err = subst (CountsSame k) (sym err.2) (record { number = refl; splits = refl; joined = refl })
+-- what is so of each answer of a call, and of the same pass if no ticket was left, is so of its reply
+module _ {A : Type 0} (Call : Known Item → A → Type 0) (reply : Result (Answered A) (Pass Item × Worn)) {plain : Result A ℕ × Pass Item} (is : plain ≡ plain_of reply)
+    (ok : IfOk reply (λ r. Call (known_of r.pass) r.answer)) {k : Known Item} (worn : WornAs k reply) where
+  pub by_reply : (P : Known Item → Result A ℕ → Type 0) → ((answer : A) (k' : Known Item) → Call k' answer → P k' (Ok answer)) → ((ticket : ℕ) → ticket ≡ MAX_TICKETS → P k (Err ticket)) → P (known_of plain.1) plain.0
+  by_reply P here none = subst (λ (p : Result A ℕ × Pass Item). P (known_of p.1) p.0) (sym is) (by reply ok worn)
+    where
+      by : (r : Result (Answered A) (Pass Item × Worn)) → IfOk r (λ r. Call (known_of r.pass) r.answer) → WornAs k r → P (known_of (plain_of r).1) (plain_of r).0
+      by (Ok r) call worn' = here r.answer (known_of r.pass) call
+      by (Err e) call worn' = subst (λ (z : Known Item). P z (Err e.1.0)) (sym worn'.2) (none e.1.0 worn'.0)
 
 -- ---- one entry
 
@@ -97,27 +64,31 @@ pub took_one : (k : Known Item) (at : ℕ) (entry : List ℕ) (reply : Result (A
     → plain ≡ plain_of reply → result ≡ taken_of (at + 1) plain.0
     → IfOk reply (λ r. AcceptCall k (at + 1) entry (known_of r.pass) r.answer) → WornAs k reply → TookOne k (known_of plain.1) at entry result
 took_one k at entry reply plain result zero' is is' ok err =
-    subst (TookOne k (known_of plain.1) at entry) (sym is') (plain_case reply plain is (λ a k'. TookOne k k' at entry (taken_of (at + 1) a)) here worn)
-  where
-    here : (r : Answered (Result ℕ AcceptFault)) → reply ≡ Ok r → TookOne k (known_of r.pass) at entry (taken_of (at + 1) (Ok r.answer))
-    here r e = took_by k at entry zero' r.answer (known_of r.pass) (subst (λ x. IfOk x (λ r. AcceptCall k (at + 1) entry (known_of r.pass) r.answer)) e ok)
-
-    worn : (e : Pass Item × Worn) → reply ≡ Err e → TookOne k (known_of e.0) at entry (taken_of (at + 1) (Err e.1.0))
-    worn e x = let h = subst (WornAs k) x err in (subst (λ (z : Known Item). KnowsMore k z []) (sym h.2) (knows_none k), h.0)
+    subst (TookOne k (known_of plain.1) at entry) (sym is')
+    (by_reply (AcceptCall k (at + 1) entry) reply is ok err (λ k' a. TookOne k k' at entry (taken_of (at + 1) a)) (took_by k at entry zero') (λ ticket h. (knows_none k, h)))
 
 pub took_counts : (k : Known Item) (at : ℕ) (entry : List ℕ) (reply : Result (Answered (Result ℕ AcceptFault)) (Pass Item × Worn)) (plain : Result (Result ℕ AcceptFault) ℕ × Pass Item)
     → plain ≡ plain_of reply → IfOk reply (λ r. AcceptCall k (at + 1) entry (known_of r.pass) r.answer) → WornAs k reply → CountsSame k (known_of plain.1)
 took_counts k at entry reply plain is ok err =
-    plain_counts k reply plain is
-    (IfOk-weaker reply (λ r. AcceptCall k (at + 1) entry (known_of r.pass) r.answer) (λ r. CountsSame k (known_of r.pass)) (λ r h. call_counts k (known_of r.pass) h.0 (added r.answer (Accept k.number entry)) h.1) ok) err
+    by_reply (AcceptCall k (at + 1) entry) reply is ok err (λ k' a. CountsSame k k')
+    (λ answer k' h. call_counts k k' h.0 (added answer (Accept k.number entry)) h.1) (λ ticket h. record { number = refl; splits = refl; joined = refl })
 
 -- ---- the first entry, and then the others
 
 pub took_first : (k k1 : Known Item) (at : ℕ) (entries : List (List ℕ)) (e : List ℕ) (es : List (List ℕ)) (fault : SessionFault) (one : Result ⊤ SessionFault) → one ≡ Err fault → entries ≡ e ∷ es → TookOne k k1 at e one → TookAll k k1 at entries (Err fault)
-took_first k k1 at entries e es fault one is entries_are h = let t = subst (TookOne k k1 at e) is h in stop_first k k1 at entries e es fault entries_are t.0 t.1
+took_first k k1 at entries e es fault one is entries_are h =
+    let t = subst (TookOne k k1 at e) is h in
+    record { front = []; entry = e; rest = es; are = entries_are; knows = t.0; cause = subst (λ (n : ℕ). TakeCause k1 n e fault) (omega arith) t.1 }
 
 pub took_rest : (k k1 k' : Known Item) (at : ℕ) (entries : List (List ℕ)) (e : List ℕ) (es : List (List ℕ)) (x : ⊤) (one result : Result ⊤ SessionFault) → one ≡ Ok x → entries ≡ e ∷ es → TookOne k k1 at e one → TookAll k1 k' (at + 1) es result → TookAll k k' at entries result
 took_rest k k1 k' at entries e es x one (Ok y) is entries_are h rest =
     let t = subst (TookOne k k1 at e) is h in
     subst (λ (l : List (List ℕ)). TookAll k k' at l (Ok y)) (sym entries_are) (knows_then k k1 k' (Happened (Accept 0 e) ∷ []) (all_of items_by (takes_of (at + 1) es)) t.0 rest.0, omega (arith, rest.1))
-took_rest k k1 k' at entries e es x one (Err fault) is entries_are h rest = stop_later k k1 k' at entries e es fault entries_are (subst (TookOne k k1 at e) is h).0 rest
+took_rest k k1 k' at entries e es x one (Err fault) is entries_are h s = record {
+  front = e ∷ s.front;
+  entry = s.entry;
+  rest = s.rest;
+  are = entries_are ∙ ap (λ (l : List (List ℕ)). e ∷ l) s.are;
+  knows = knows_then k k1 k' (Happened (Accept 0 e) ∷ []) (all_of items_by (takes_of (at + 1) s.front)) (subst (TookOne k k1 at e) is h).0 s.knows;
+  cause = subst (λ (n : ℕ). TakeCause k' n s.entry fault) (omega arith) s.cause;
+}

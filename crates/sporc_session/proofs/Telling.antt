@@ -6,7 +6,7 @@ use Rattle.sporc_turn.specs.declared.limits.TheConstants.{MAX_TICKETS}
 use Rattle.sporc_session.specs.declared.fault.SessionFault.TheVariants as faults
 use Rattle.sporc_session.proofs.Knowing.{call_counts, call_knows, knows_none}
 use Rattle.sporc_session.proofs.Stepping.{known_stopped}
-use Rattle.sporc_session.proofs.Taking.{WornAs}
+use Rattle.sporc_session.proofs.Taking.{WornAs, by_reply}
 
 -- a call found the client with this past, and its answer is so there
 pub record Tells {A : Type 0} (P : Past → A → Type 0) (k k' : Known Item) (answer : A) : Type 0 where
@@ -24,11 +24,9 @@ pub told : {A : Type 0} (P : Past → A → Type 0) {k : Known Item} (reply : Re
     → IfOk reply (λ r. (before : Past) × IsCall k (known_of r.pass) before [] × P before r.answer)
     → WornAs k reply → TellsOr P k (known_of plain.1) result
 told {A} P {k} reply {plain} is is' call worn =
-    subst (TellsOr P k (known_of plain.1)) (sym is') (subst (λ (p : Result A ℕ × Pass Item). TellsOr P k (known_of p.1) (worn_of p.0)) (sym is) (by reply call worn))
-  where
-    by : (r : Result (Answered A) (Pass Item × Worn)) → IfOk r (λ r. (before : Past) × IsCall k (known_of r.pass) before [] × P before r.answer) → WornAs k r → TellsOr P k (known_of (plain_of r).1) (worn_of (plain_of r).0)
-    by (Ok r) call worn = record { ends = record { before = call.0; call = call.1; is_so = call.2 } }
-    by (Err e) call worn = record { ends = (worn.2, (e.1.0, refl, worn.0)) }
+    subst (TellsOr P k (known_of plain.1)) (sym is')
+    (by_reply (λ k' answer. (before : Past) × IsCall k k' before [] × P before answer) reply is call worn (λ k' a. TellsOr P k k' (worn_of a))
+    (λ answer k' h. record { ends = record { before = h.0; call = h.1; is_so = h.2 } }) (λ ticket h. record { ends = (refl, (ticket, refl, h)) }))
 
 pub was_told : {A : Type 0} {P : Past → A → Type 0} {k k' : Known Item} {answer : A} {result : Result A SessionFault} → result ≡ Ok answer → TellsOr P k k' result → Tells P k k' answer
 was_told {P = P} {k = k} {k' = k'} is h = (subst (TellsOr P k k') is h).ends

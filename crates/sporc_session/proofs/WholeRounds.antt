@@ -17,23 +17,6 @@ after n at e r [] = Checking n e r
 after n at e r (c ∷ cs) = Taking n at (c ∷ cs) (Drains e r)
 
 module _ (ready : ℕ → ℕ → Bool) where
-  -- ---- one act
-
-  asked : {act : Act} {k : Mode} → Goes ready Asking act k → (document : List ℕ) × (member : ℕ) × (act ≡ Ask document member) × (k ≡ Greeting document member)
-  asked (asks {document = document} {member = member}) = (document, member, refl, refl)
-
-  greeted : {document : List ℕ} {member : ℕ} {act : Act} {k : Mode} → Goes ready (Greeting document member) act k → (act ≡ Greet document member) × (k ≡ Between 0)
-  greeted greets = (refl, refl)
-
-  looked : {n : ℕ} {act : Act} {k : Mode} → Goes ready (Between n) act k → (point : ℕ) × (at : ℕ) × (pending : ℕ) × (act ≡ Look point at pending) × (k ≡ Pulling n at) × (ready at pending ≡ true)
-  looked (looks {point = point} {at = at} {pending = pending} is) = (point, at, pending, refl, refl, is)
-
-  pulled_one : {n at : ℕ} {act : Act} {k : Mode} → Goes ready (Pulling n at) act k → (came : List (List ℕ)) × (act ≡ Pull at came) × (k ≡ Taking n at came Submits)
-  pulled_one (pulls {came = came}) = (came, refl, refl)
-
-  took : {n at : ℕ} {e : List ℕ} {es : List (List ℕ)} {next : Then} {act : Act} {k : Mode} → Goes ready (Taking n at (e ∷ es) next) act k → (act ≡ Take (at + 1) e) × (k ≡ Taking n (at + 1) es next)
-  took takes = (refl, refl)
-
   stuck : {n : ℕ} {r : Refusal} {act : Act} {k : Mode} → Goes ready (Stuck n r) act k → ⊥
   stuck goes = elim goes [ ]
 
@@ -51,9 +34,7 @@ module _ (ready : ℕ → ℕ → Bool) where
   taken_in : (n at : ℕ) (es : List (List ℕ)) (next : Then) (acts : List Act) (m : ℕ) → Leads ready (Taking n at es next) acts (Between m) → Taken n at es next acts m
   taken_in n at [] next acts m l = record { rest = acts; are = refl; leads = subst (λ x. Leads ready (Taking n x [] next) acts (Between m)) (omega arith) l }
   taken_in n at (e ∷ es) next [] m l = absurd cc
-  taken_in n at (e ∷ es) next (act ∷ acts) m (k, goes, l) =
-      let t = took goes in
-      subst (λ a. Taken n at (e ∷ es) next (a ∷ acts) m) (sym t.0) (taken_first (taken_in n (at + 1) es next acts m (subst (λ x. Leads ready x acts (Between m)) t.1 l)))
+  taken_in n at (e ∷ es) next (act ∷ acts) m (k, takes, l) = taken_first (taken_in n (at + 1) es next acts m l)
 
   -- ---- pulls until no more entries come
 
@@ -188,15 +169,12 @@ module _ (ready : ℕ → ℕ → Bool) where
 
   begins_by : (n point at pending : ℕ) (acts : List Act) (m : ℕ) → ready at pending ≡ true → Leads ready (Pulling n at) acts (Between m) → Begun n (Look point at pending ∷ acts) m
   begins_by n point at pending [] m is l = absurd cc
-  begins_by n point at pending (act ∷ acts) m is (k, goes, l) =
-      let p = pulled_one goes in
-      let t = taken_in n at p.0 Submits acts m (subst (λ x. Leads ready x acts (Between m)) p.2 l) in
-      subst (λ a. Begun n (Look point at pending ∷ a ∷ acts) m) (sym p.1) (begun_with is t (submitted_in n (at + length p.0) t.rest m t.leads))
+  begins_by n point at pending (act ∷ acts) m is (k, pulls {came = came}, l) =
+      let t = taken_in n at came Submits acts m l in
+      begun_with is t (submitted_in n (at + length came) t.rest m t.leads)
 
   begun : (n : ℕ) (act : Act) (acts : List Act) (m : ℕ) → Leads ready (Between n) (act ∷ acts) (Between m) → Begun n (act ∷ acts) m
-  begun n act acts m (k, goes, l) =
-      let t = looked goes in
-      subst (λ a. Begun n (a ∷ acts) m) (sym t.3) (begins_by n t.0 t.1 t.2 acts m t.5 (subst (λ x. Leads ready x acts (Between m)) t.4 l))
+  begun n act acts m (k, looks {point = point} {at = at} {pending = pending} is, l) = begins_by n point at pending acts m is l
 
   rounds_first : {n count m : ℕ} {acts : List Act} (b : Begun n acts m) → AreRounds ready count b.rest → AreRounds ready (count + 1) acts
   rounds_first b r = record {
@@ -277,15 +255,13 @@ module _ (ready : ℕ → ℕ → Bool) where
 
   greeted_in : (document : List ℕ) (member : ℕ) (acts : List Act) (n : ℕ) → Leads ready (Greeting document member) acts (Between n) → (rest : List Act) × (acts ≡ Greet document member ∷ rest) × AreRounds ready n rest
   greeted_in document member [] n l = absurd cc
-  greeted_in document member (act ∷ acts) n (k, goes, l) =
-      let t = greeted goes in (acts, ap (λ a. a ∷ acts) t.0, whole_rounds (subst (λ x. Leads ready x acts (Between n)) t.1 l))
+  greeted_in document member (act ∷ acts) n (k, greets, l) = (acts, refl, whole_rounds l)
 
   pub whole_phase : (acts : List Act) (n : ℕ) → Leads ready Asking acts (Between n) → IsFirstPhase ready n acts
   whole_phase [] n l = absurd cc
-  whole_phase (act ∷ acts) n (k, goes, l) =
-      let t = asked goes in
-      let g = greeted_in t.0 t.1 acts n (subst (λ x. Leads ready x acts (Between n)) t.3 l) in
-      record { document = t.0; member = t.1; rest = g.0; rounds = g.2; are = ap (λ a. a ∷ acts) t.2 ∙ ap (λ l. Ask t.0 t.1 ∷ l) g.1 }
+  whole_phase (act ∷ acts) n (k, asks {document = document} {member = member}, l) =
+      let g = greeted_in document member acts n l in
+      record { document = document; member = member; rest = g.0; rounds = g.2; are = ap (λ l. Ask document member ∷ l) g.1 }
 
   pub phase_leads : {acts : List Act} {n : ℕ} → IsFirstPhase ready n acts → Leads ready Asking acts (Between n)
   phase_leads {n = n} p =

@@ -5,7 +5,7 @@ use Rattle.sporc_client.specs.Drawing.{gives_entry, kept_after}
 use Rattle.sporc_client.specs.LeafUses.{IsUse, leaf_given, supply_of}
 use Rattle.sporc_client.specs.declared.fault.SubmitFault.{SubmitFault}
 use Rattle.sporc_client.specs.declared.submitted.Submitted.{Submitted}
-use Rattle.sporc_client.proofs.FirstLeaf.{first_leaf-same, first_leaf-submitted}
+use Rattle.sporc_client.proofs.Leaves.{first_leaf-same, first_leaf-submitted}
 
 no_leaves : {X F : Type 0} (answer : Result X F) (event : Logged) → leaf_in event ≡ None → leaves_of (added answer event) ≡ []
 no_leaves (Ok x) event none = rw none refl

@@ -36,11 +36,9 @@ added_by (Ok x) event n is = all_one event n is
 added_by (Err fault) event n is = all_none n
 
 pub submission_by : (answer : Result Submitted SubmitFault) (by n : ℕ) → by ≡ n → All (λ (i : Item). by_of i ≡ n) (map Happened (submission_added by answer))
-submission_by (Ok submitted.Waiting) by n is = all_none n
-submission_by (Ok submitted.Nothing) by n is = all_none n
 submission_by (Ok (submitted.Dropped fault)) by n is = all_one _ n is
 submission_by (Ok (submitted.Entry entry)) by n is = all_one _ n is
-submission_by (Err fault) by n is = all_none n
+submission_by _ by n is = all_none n
 
 -- ---- a call
 

@@ -1,7 +1,6 @@
 -- How long a client's journal is, and what it has shown.
 use Rattle.std.proofs.Common.{◌≡◌, ℕ, ◌+◌, ◌≤◌, Bool, true, false, cond, List, [], ◌∷◌, ◌++◌, length, refl, ap, ◌∙◌, arith, length-append}
-use Rattle.sporc_shared.proofs.Common.{take_all, change_in, Logged, Edit, Change, Submit, Dropped, Accept, Discard, entries_by, journal_from, journal_of, Opening, PlainClient, opened, shown_after}
-use Rattle.sporc_shared.proofs.Common.{shown_of}
+use Rattle.sporc_shared.proofs.Common.{take_all, change_in, Logged, Accept, entries_by, journal_from, journal_of, Opening, PlainClient, opened, shown_after, shown_of}
 use Rattle.std.specs.Option.{is_some}
 use Rattle.sporc_delta.specs.Marks.{Mark}
 use Rattle.sporc_line.specs.Document.{text_after}
@@ -20,22 +19,15 @@ one_more : (shown : List (List Mark)) (form : List Mark) → length (shown ++ fo
 one_more shown form = omega (arith, length-append shown (form ∷ []))
 
 accepted_shows : (c : PlainClient) (bytes : List ℕ) → length (accepted c bytes).shown ≡ length c.shown + 1
-accepted_shows c bytes =
-    elim (is_flight c bytes) as (λ (b : Bool). length (cond b (own_comes c bytes) (cond (is_some (change_in bytes)) (change_comes c bytes) (edit_comes c bytes))).shown ≡ length c.shown + 1) [
-      | true ↦ one_more c.shown _
-      | false ↦ elim (is_some (change_in bytes)) as (λ (b : Bool). length (cond b (change_comes c bytes) (edit_comes c bytes)).shown ≡ length c.shown + 1) [
-        | true ↦ one_more c.shown _
-        | false ↦ one_more c.shown _
-      ]
-    ]
+accepted_shows c bytes = go (is_flight c bytes) (is_some (change_in bytes))
+  where
+    go : (own change : Bool) → length (cond own (own_comes c bytes) (cond change (change_comes c bytes) (edit_comes c bytes))).shown ≡ length c.shown + 1
+    go false true = one_more c.shown _
+    go own change = one_more c.shown _
 
 step_shows : (c : PlainClient) (event : Logged) → length (step c event).shown ≡ length c.shown + 1
-step_shows c (Edit by seen marks) = one_more c.shown _
-step_shows c (Change by change) = one_more c.shown _
-step_shows c (Submit by bytes) = one_more c.shown _
-step_shows c (Dropped by fault) = one_more c.shown _
 step_shows c (Accept by bytes) = accepted_shows c bytes
-step_shows c (Discard by) = one_more c.shown _
+step_shows c _ = one_more c.shown _
 
 replay_shows : (c : PlainClient) (log : List Logged) → length (replay_from c log).shown ≡ length c.shown + length log
 replay_shows c [] = omega arith

@@ -1,40 +1,30 @@
 -- The shown text of a client is short, since each of its edits is.
-use Rattle.std.proofs.Common.{◌≡◌, ℕ, ◌*◌, ◌^◌, ◌≤◌, Bool, true, false, cond, List, [], ◌∷◌, length, drop, Option, None, Some, refl, arith}
+use Rattle.std.proofs.Common.{◌≡◌, ℕ, ◌*◌, ◌^◌, ◌≤◌, Bool, true, false, cond, List, [], ◌∷◌, length, drop, arith}
 use Rattle.sporc_shared.proofs.Common.{change_in, Logged, Edit, Change, Submit, Dropped, Accept, Discard, Opening, PlainClient, committed_of, opened, shown_of}
 use Rattle.std.proofs.lemmas.Bool.{and_parts}
 use Rattle.std.proofs.Math.Nat.{mul-le-mul_left}
 use Rattle.std.specs.Option.{is_some}
-use Rattle.std.specs.Prelude.{is_none}
-use Rattle.sporc_base.specs.FirstFault.{first_of}
 use Rattle.sporc_line.proofs.FormLengths.{inserted_len-over}
 use Rattle.sporc_client.specs.declared.limits.TheConstants.{MAX_EDIT_BYTES, MAX_PENDING}
 use Rattle.sporc_client.specs.Allowed.{can_log, can_log_all, is_allowed}
-use Rattle.sporc_client.specs.Answers.{edit_checks, edit_fault}
 use Rattle.sporc_client.specs.Small.{AreShort}
 use Rattle.sporc_client.specs.Soundness.{IsSound}
 use Rattle.sporc_client.specs.Step.{accepted, change_comes, edit_comes, form_coming, is_flight, own_comes, replay, replay_from, restated, step}
-use Rattle.sporc_client.proofs.Checked.{edit_passed}
+use Rattle.sporc_client.proofs.Checked.{edit_may}
 use Rattle.sporc_client.proofs.Small.{inserted_by-short, inserted_len-bytes, length-shown, short_change, short_drop, short_edit, short_rebased}
 
-none_of : {A : Type 0} (found : Option A) → is_none found ≡ true → found ≡ None
-none_of None is = refl
-none_of (Some x) is = absurd cc
-
 accepted_short : (c : PlainClient) (bytes : List ℕ) → AreShort c.pending → AreShort (accepted c bytes).pending
-accepted_short c bytes short =
-    elim (is_flight c bytes) as (λ (b : Bool). AreShort (cond b (own_comes c bytes) (cond (is_some (change_in bytes)) (change_comes c bytes) (edit_comes c bytes))).pending) [
-      | true ↦ short_drop c.pending short
-      | false ↦ elim (is_some (change_in bytes)) as (λ (b : Bool). AreShort (cond b (change_comes c bytes) (edit_comes c bytes)).pending) [
-        | true ↦ short
-        | false ↦ short_rebased (form_coming c bytes) c.pending short
-      ]
-    ]
+accepted_short c bytes short = go (is_flight c bytes) (is_some (change_in bytes))
+  where
+    go : (own change : Bool) → AreShort (cond own (own_comes c bytes) (cond change (change_comes c bytes) (edit_comes c bytes))).pending
+    go true change = short_drop c.pending short
+    go false true = short
+    go false false = short_rebased (form_coming c bytes) c.pending short
 
 -- each event that a client allows leaves its pending edits short
 step_short : (c : PlainClient) (event : Logged) → AreShort c.pending → can_log c event ≡ true → AreShort (step c event).pending
-unfolding can_log edit_fault
 step_short c (Edit by seen marks) short may =
-    let passed = edit_passed c seen marks (none_of (first_of (edit_checks c seen marks)) may) in
+    let passed = edit_may c by seen marks may in
     short_edit c.pending (restated c seen marks) short (omega (arith, passed.bytes, inserted_len-bytes marks, inserted_len-over marks (drop seen c.shown)))
 step_short c (Change by change) short may = short_change c.pending change short
 step_short c (Submit by bytes) short may = short

@@ -1,5 +1,5 @@
 -- The names of this crate and of those below that many of its proofs cite, passed on from one place.
-pub use Rattle.std.proofs.Math.Seq.{take-append-add, take-nil}
+pub use Rattle.std.proofs.Math.Seq.{drop-nil, take-append-add, take-nil}
 pub use Rattle.std.proofs.lemmas.Bool.{and_parts, cases_lt, eq-eqb, eqb-true, le-leb, le-ltb, leb-true, lt-ltb, ltb-false}
 pub use Rattle.std.proofs.lemmas.Bool.Decides.{Decides-eqb, nat_tests}
 pub use Rattle.std.proofs.lemmas.List.{append-nil, drop-map, drop_all, drop_at, drop_more, get_or-take, length-append, length-drop, length-map, length-take, length-take-le, nil_from_length}
@@ -17,6 +17,11 @@ pub use Rattle.sporc_outside.specs.declared.file_fault.TheConstants.{MAX_FILE}
 pub use Rattle.sporc_entry.specs.declared.genesis.Genesis.{Genesis}
 pub use Rattle.sporc_head.specs.declared.examined.Verdict.{Verdict}
 pub use Rattle.sporc_head.specs.declared.limits.TheConstants.{MAX_ENTRIES}
+pub use Rattle.sporc_entry.specs.declared.limits.TheConstants.{MAX_ENTRY}
+pub use Rattle.sporc_head.specs.declared.refusal.Refusal.{Refusal}
+pub use Rattle.sporc_base.proofs.ByteLemmas.{IsBytes-drop}
+pub use Rattle.sporc_outside.specs.LeafDisk.{CrashStep, IsSame}
+pub use Rattle.sporc_outside.specs.Uses.{use_of}
 pub use Rattle.sporc_store.specs.Loading.{AppendsPart, AppendsSome, AreAccepted, Checker, accepted, accepted_behind, accepted_from, an_order, loaded}
 pub use Rattle.sporc_store.specs.SavedFile.{IsPrefix, IsUnchecked, Taken, entries_at, entry_and, first_and, head_bytes, listed, read_to, saved_bytes, saved_file, saved_in, stop_behind}
 pub use Rattle.sporc_store.specs.TailBytes.{Agree, FitsRecord, Gives, GivesSame, GoesOn, IsTail, IsUnread, Recovers, TailTaken, behind_head, record_bytes, records_behind, records_bytes}
@@ -29,3 +34,4 @@ pub use Rattle.sporc_store.specs.declared.stop.Stop.TheVariants.{Cut, End, Forei
 pub use Rattle.sporc_store.specs.declared.tail_fault.TailFault.{TailFault}
 pub use Rattle.sporc_store.specs.declared.tail_fault.TailFault.TheVariants.{Malformed}
 pub use Rattle.sporc_store.specs.declared.tail_head.TheConstants.{TAIL_HEAD_LEN}
+pub use Rattle.sporc_store.specs.declared.head.TheConstants.{HEAD_LEN}

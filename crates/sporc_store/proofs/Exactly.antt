@@ -6,9 +6,8 @@ use Rattle.sporc_head.specs.Examined.{IsExact}
 -- those on some entries, and those on others behind them
 pub exact_both : (vs ws : List (Option Verdict)) (es fs : List (List ℕ)) → AreExact vs es → AreExact ws fs → AreExact (vs ++ ws) (es ++ fs)
 exact_both [] ws [] fs one two = two
-exact_both [] ws (e ∷ es) fs one two = absurd one
-exact_both (v ∷ vs) ws [] fs one two = absurd one
 exact_both (v ∷ vs) ws (e ∷ es) fs one two = (one.0, exact_both vs ws es fs one.1 two)
+exact_both vs ws es fs one two = absurd one
 
 -- one more
 pub exact_more : (vs ws : List (Option Verdict)) (es : List (List ℕ)) (i : ℕ) (v : Option Verdict) (e : List ℕ) → ws ≡ vs ++ v ∷ [] → i < length es → e ≡ get_or es i e
@@ -24,17 +23,15 @@ exact_all vs es i le so_far = subst (AreExact vs) (take_all i es le) so_far
 
 pub exact_len : (vs : List (Option Verdict)) (es : List (List ℕ)) → AreExact vs es → length vs ≡ length es
 exact_len [] [] exact = refl
-exact_len [] (e ∷ es) exact = absurd exact
-exact_len (v ∷ vs) [] exact = absurd exact
 exact_len (v ∷ vs) (e ∷ es) exact = ap suc (exact_len vs es exact.1)
+exact_len vs es exact = absurd exact
 
 -- that on the entry at a place
 pub exact_at : (vs : List (Option Verdict)) (es : List (List ℕ)) (i : ℕ) (v : Option Verdict) (e : List ℕ) → AreExact vs es → i < length es → IfSome (get_or vs i v) (λ verdict. IsExact verdict (get_or es i e))
 exact_at [] [] i v e exact lt = absurd (omega arith)
-exact_at [] (f ∷ es) i v e exact lt = absurd exact
-exact_at (w ∷ vs) [] i v e exact lt = absurd exact
 exact_at (w ∷ vs) (f ∷ es) zero v e exact lt = exact.0
 exact_at (w ∷ vs) (f ∷ es) (suc i) v e exact lt = exact_at vs es i v e exact.1 (omega arith)
+exact_at vs es i v e exact lt = absurd exact
 
 -- those on the first few of some entries
 pub exact_first : (vs : List (Option Verdict)) (es : List (List ℕ)) (n i : ℕ) (v : Option Verdict) (e : List ℕ) → AreExact vs (take n es) → n ≤ length es → i < n

@@ -1,9 +1,8 @@
 -- A history that was accepted and saved is loaded whole.
 use Rattle.std.proofs.Common.{◌≡◌, ℕ, zero, suc, ◌+◌, ◌<◌, ◌≤◌, ◌^◌, ◌⊎◌, inl, inr, List, [], ◌∷◌, ◌++◌, length, take, None, Some, refl, sym, ap, ◌∙◌, subst, arith, length-append}
 use Rattle.sporc_store.proofs.Common.{All, slice_get, length-take-le, take-append-le, take-append-add, Genesis, MAX_ENTRIES, End, Taken, read_to, saved_bytes, AreAccepted, Checker, an_order, accepted}
-use Rattle.sporc_store.proofs.Common.{accepted_from, loaded}
+use Rattle.sporc_store.proofs.Common.{accepted_from, loaded, MAX_ENTRY}
 use Rattle.std.proofs.lemmas.Option.{slice_get_within}
-use Rattle.sporc_entry.specs.declared.limits.TheConstants.{MAX_ENTRY}
 use Rattle.sporc_entry.specs.Genesis.{IsGenesis}
 use Rattle.sporc_head.specs.HeadChecks.{head_fault}
 use Rattle.sporc_line.proofs.Lists.{slice_get_push, take_front}

@@ -1,7 +1,6 @@
 -- What is loaded is the longest prefix that is accepted.
 use Rattle.std.proofs.Common.{◌≡◌, ℕ, zero, suc, ◌+◌, List, [], ◌∷◌, ◌++◌, length, take, Option, None, Some, refl, sym, ap, ◌∙◌, subst, append_assoc, arith, length-append}
-use Rattle.sporc_store.proofs.Common.{IsSomeAnd, slice_get, append-nil, Stop, Refused, Taken, read_to, first_and, IsPrefix, Checker}
-use Rattle.sporc_head.specs.declared.refusal.Refusal.{Refusal}
+use Rattle.sporc_store.proofs.Common.{IsSomeAnd, slice_get, append-nil, Stop, Refused, Taken, read_to, first_and, IsPrefix, Checker, Refusal}
 use Rattle.sporc_store.specs.Loading.{fault_behind, accepted_behind, unless_refused}
 
 -- behind these entries, these of those that follow are taken

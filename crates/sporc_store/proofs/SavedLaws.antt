@@ -2,9 +2,7 @@
 use Rattle.std.proofs.Common.{◌≡◌, ℕ, zero, suc, ◌+◌, ◌-◌, ◌^◌, ◌<◌, ◌≤◌, Bool, true, false, cond, leb, eqb, List, [], ◌∷◌, ◌++◌, length, drop, Result, Ok, Err, refl, sym, ap, ◌∙◌, subst, arith}
 use Rattle.sporc_store.proofs.Common.{le-leb, Decides-eqb, drop_at, All-head, All-tail, starts_is, All, flat_map, starts_with, w32, to_be_bytes, IsBytes, Reading, ◌>>=◌, fault_as, number_at, only_if}
 use Rattle.sporc_store.proofs.Common.{counted_at, counted, end_at, bind_ok, ok_is, only_if_ok, Takes, wide32, number_takes, u32_again, counted_takes, counted_again, MAX_ENTRIES, End, Foreign, Cut}
-use Rattle.sporc_store.proofs.Common.{Taken, read_to, first_and, stop_behind, entry_and, listed, head_bytes}
-use Rattle.sporc_base.proofs.ByteLemmas.{IsBytes-drop}
-use Rattle.sporc_store.specs.declared.head.TheConstants.{HEAD_LEN}
+use Rattle.sporc_store.proofs.Common.{Taken, read_to, first_and, stop_behind, entry_and, listed, head_bytes, IsBytes-drop, HEAD_LEN}
 use Rattle.sporc_store.specs.SavedFile.{entries_at, count_at, opened, saved_in, saved_bytes}
 
 -- ---- entries

@@ -1,6 +1,6 @@
 -- What is read of a tail's file and taken behind an order's entries, and why it is not.
 use Rattle.std.proofs.Common.{◌≡◌, ℕ, zero, suc, ◌+◌, ◌<◌, List, [], ◌∷◌, ◌++◌, length, Option, Some, None, Result, Ok, Err, refl, sym, ap, ◌∙◌, subst, arith, append-nil, length-append}
-use Rattle.sporc_store.proofs.Common.{IfSome, IsSome, OnErr, take_all, AppendTold, IsWholeFault, file_images, MAX_FILE, Stop, End, Foreign, Cut, RefusedAt, TailFault, AppendsPart, Checker}
+use Rattle.sporc_store.proofs.Common.{IfSome, IsSome, OnErr, take_all, AppendTold, IsWholeFault, file_images, MAX_FILE, Stop, End, RefusedAt, TailFault, AppendsPart, Checker}
 use Rattle.sporc_store.proofs.Common.{accepted_behind, accepted_from, Taken, read_to, Gives, AreSynced, IsFaultOf, IsRefusal, StaysFound, TellsStill}
 use Rattle.sporc_outside.specs.declared.file_fault.FileFault.TheVariants as files
 use Rattle.sporc_store.specs.declared.tail_fault.TailFault.TheVariants.{TooLong}
@@ -29,9 +29,7 @@ refused_at checker before part after refused (RefusedAt position refusal) fault 
     ap (λ (l : List (List ℕ)). (accepted_from checker before l End).stop) (sym (append-nil part))
     ∙ ap (λ (t : Taken). t.stop) ((subst (λ (r : Option Stop). AppendsPart checker before part r after) is a).taken [] End) in
     subst (IsRefusal (accepted_from checker before part End)) (sym same) stopped
-refused_at checker before part after refused End fault is a same = absurd same
-refused_at checker before part after refused Foreign fault is a same = absurd same
-refused_at checker before part after refused (Cut at) fault is a same = absurd same
+refused_at checker before part after refused stop fault is a same = absurd same
 
 -- ---- faults
 

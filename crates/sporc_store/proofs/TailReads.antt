@@ -1,8 +1,9 @@
 -- A tail that was written is read again behind a log, also where its last record is cut.
-use Rattle.std.proofs.Common.{◌≡◌, ℕ, zero, suc, ◌+◌, ◌-◌, ◌^◌, ◌<◌, ◌≤◌, ◌⊎◌, inl, inr, Bool, true, false, leb, eqb, List, [], ◌∷◌, ◌++◌, length, take, drop, Result, Ok, refl, sym, ap, ◌∙◌, subst, arith, append-nil, append_assoc}
+use Rattle.std.proofs.Common.{◌≡◌, ℕ, ◌+◌, ◌-◌, ◌^◌, ◌<◌, ◌≤◌, ◌⊎◌, inl, inr, true, false, leb, eqb, List, [], ◌∷◌, ◌++◌, length, take, drop, Ok, refl, sym, ap, ◌∙◌, subst, arith, append-nil, append_assoc}
 use Rattle.sporc_store.proofs.Common.{le-leb, cases_lt, Decides-eqb, length-append, length-take, take_all, take_at, drop_at, take-append-drop, All-append, All-cons, All-nil, starts_is}
-use Rattle.sporc_store.proofs.Common.{take-append-add, All, starts_with, w32, to_be_bytes, number_at, u32_again, TailFault, TAIL_HEAD_LEN, IsPrefix, Agree, FitsRecord, Gives, IsTail, Recovers}
-use Rattle.sporc_store.proofs.Common.{TailTaken, record_bytes, records_bytes, records_of, tail_head, taken_to, Between}
+use Rattle.sporc_store.proofs.Common.{take-append-add, All, starts_with, w32, to_be_bytes, number_at, u32_again, TAIL_HEAD_LEN, IsPrefix, Agree, FitsRecord, Gives, IsTail, Recovers}
+use Rattle.sporc_store.proofs.Common.{record_bytes, records_bytes, records_of, tail_head, taken_to, Between, drop-nil}
+use Rattle.std.proofs.lemmas.Bool.{false_from_ne_true}
 use Rattle.sporc_store.specs.TailBytes.{tail_behind, tail_bytes}
 use Rattle.sporc_store.proofs.TailRecords.{number_short, reading, record_len, records_again, records_few, records_more}
 
@@ -27,53 +28,41 @@ first_number position (e ∷ es) next k =
       append_assoc (record_bytes position e) (records_bytes (position + 1) es) more
           ∙ append_assoc (to_be_bytes w32 position) entry (records_bytes (position + 1) es ++ more),
     )
-first_number position [] next k = by (cases_lt k 4)
-  where
-    same : position + 0 ≡ position
-    same = omega arith
-
-    by : (k < 4) ⊎ (4 ≤ k) → ((length (records_and position [] next k) < 4) × (◌≡◌ {A = List (List ℕ)} [] [])) ⊎ ((rest : List ℕ) × (records_and position [] next k ≡ to_be_bytes w32 position ++ rest))
-    by (inl few) = inl (omega (arith, length-take k (record_bytes (position + 0) next), few), refl)
-    by (inr four) =
-        let entry = to_be_bytes w32 (length next) ++ next in
-        let split : k ≡ 4 + (k - 4) = omega (arith, four) in
-        inr (
-          take (k - 4) entry,
-          ap (λ (n : ℕ). take k (record_bytes n next)) same ∙ ap (λ (n : ℕ). take n (record_bytes position next)) split
-              ∙ take-append-add (to_be_bytes w32 position) entry (k - 4),
-        )
+first_number position [] next k =
+    let same : position + 0 ≡ position = omega arith in
+    elim (cases_lt k 4) [
+      | inl few ↦ inl (omega (arith, length-take k (record_bytes (position + 0) next), few), refl)
+      | inr four ↦
+          let entry = to_be_bytes w32 (length next) ++ next in
+          let split : k ≡ 4 + (k - 4) = omega (arith, four) in
+          inr (
+            take (k - 4) entry,
+            ap (λ (n : ℕ). take k (record_bytes n next)) same ∙ ap (λ (n : ℕ). take n (record_bytes position next)) split
+                ∙ take-append-add (to_be_bytes w32 position) entry (k - 4),
+          )
+    ]
 
 -- what is behind the head
 records_found : (log all : List (List ℕ)) (from : ℕ) (next : List ℕ) (k : ℕ) → from ≤ length log → Agree (drop from log) all → All FitsRecord all → FitsRecord next
     → from + length all + 1 < 2 ^ 32 → k < length (record_bytes (from + 1 + length all) next)
     → records_of log (reading (records_and (from + 1) all next k) TAIL_HEAD_LEN) (number_at w32 (reading (records_and (from + 1) all next k) TAIL_HEAD_LEN))
     ≡ Ok (taken_to (drop (length (drop from log)) all) (TAIL_HEAD_LEN + length (records_bytes (from + 1) all)))
-records_found log all from next k within agree fit next_fits below short = by (first_number (from + 1) all next k)
-  where
-    bytes : List ℕ
-    bytes = records_and (from + 1) all next k
-
-    result : Result TailTaken TailFault
-    result = Ok (taken_to (drop (length (drop from log)) all) (TAIL_HEAD_LEN + length (records_bytes (from + 1) all)))
-
-    none : (ahead : List (List ℕ)) → ◌≡◌ {A = List (List ℕ)} [] (drop (length ahead) [])
-    none [] = refl
-    none (a ∷ others) = refl
-
-    by : ((length bytes < 4) × (all ≡ [])) ⊎ ((rest : List ℕ) × (bytes ≡ to_be_bytes w32 (from + 1) ++ rest))
-        → records_of log (reading bytes TAIL_HEAD_LEN) (number_at w32 (reading bytes TAIL_HEAD_LEN)) ≡ result
-    by (inl few) =
-        rw (number_short bytes TAIL_HEAD_LEN few.0) (
-        ap (λ (l : List (List ℕ)). Ok (taken_to l TAIL_HEAD_LEN)) (none (drop from log))
-        ∙ ap (λ (l : List (List ℕ)). Ok (taken_to (drop (length (drop from log)) l) (TAIL_HEAD_LEN + length (records_bytes (from + 1) l)))) (sym few.1)
-        )
-    by (inr first) =
-        let size : length all ≤ length bytes = omega (arith, records_few (from + 1) all, length-append (records_bytes (from + 1) all) (take k (record_bytes (from + 1 + length all) next))) in
-        let number : number_at w32 (reading bytes TAIL_HEAD_LEN) ≡ Ok (from + 1, reading first.0 (TAIL_HEAD_LEN + 4)) =
-        ap (λ (bs : List ℕ). number_at w32 (reading bs TAIL_HEAD_LEN)) first.1 ∙ u32_again (from + 1) TAIL_HEAD_LEN first.0 (omega (arith, below)) in
-        let back : from + 1 - 1 ≡ from = omega arith in
-        rw (number, le-leb 1 (from + 1) (omega arith), le-leb (from + 1) (length log + 1) (omega (arith, within)), back)
-        (records_again all (drop from log) (length bytes) (from + 1) TAIL_HEAD_LEN next k agree fit next_fits (omega (arith, below)) short size)
+records_found log all from next k within agree fit next_fits below short =
+    let bytes = records_and (from + 1) all next k in
+    elim (first_number (from + 1) all next k) [
+      | inl few ↦
+          rw (number_short bytes TAIL_HEAD_LEN few.0) (
+          ap (λ (l : List (List ℕ)). Ok (taken_to l TAIL_HEAD_LEN)) (sym (drop-nil (length (drop from log))))
+          ∙ ap (λ (l : List (List ℕ)). Ok (taken_to (drop (length (drop from log)) l) (TAIL_HEAD_LEN + length (records_bytes (from + 1) l)))) (sym few.1)
+          )
+      | inr first ↦
+          let size : length all ≤ length bytes = omega (arith, records_few (from + 1) all, length-append (records_bytes (from + 1) all) (take k (record_bytes (from + 1 + length all) next))) in
+          let number : number_at w32 (reading bytes TAIL_HEAD_LEN) ≡ Ok (from + 1, reading first.0 (TAIL_HEAD_LEN + 4)) =
+          ap (λ (bs : List ℕ). number_at w32 (reading bs TAIL_HEAD_LEN)) first.1 ∙ u32_again (from + 1) TAIL_HEAD_LEN first.0 (omega (arith, below)) in
+          let back : from + 1 - 1 ≡ from = omega arith in
+          rw (number, le-leb 1 (from + 1) (omega arith), le-leb (from + 1) (length log + 1) (omega (arith, within)), back)
+          (records_again all (drop from log) (length bytes) (from + 1) TAIL_HEAD_LEN next k agree fit next_fits (omega (arith, below)) short size)
+    ]
 
 pub tail_again : (log all : List (List ℕ)) (document : List ℕ) (from : ℕ) (next : List ℕ) (k : ℕ) → length document ≡ 16 → from ≤ length log
     → Agree (drop from log) all → All FitsRecord all → FitsRecord next → from + length all + 1 < 2 ^ 32 → k < length (record_bytes (from + length all + 1) next)
@@ -135,13 +124,6 @@ gives_short log before behind front more document next kept image is b bytes fit
       all = ap (λ (l : List (List ℕ)). log ++ l) lacking ∙ all;
     }
 
--- a shorter prefix
-pub shorter_take : (n m : ℕ) (all : List (List ℕ)) → n ≤ m → take n (take m all) ≡ take n all
-shorter_take zero m all le = refl
-shorter_take (suc n) zero all le = absurd (omega (arith, le))
-shorter_take (suc n) (suc m) [] le = refl
-shorter_take (suc n) (suc m) (e ∷ es) le = ap (λ (l : List (List ℕ)). e ∷ l) (shorter_take n m es (omega (arith, le)))
-
 -- a record that is whole is one entry more
 pub tail_more : (document : List ℕ) (from : ℕ) (entries : List (List ℕ)) (next : List ℕ)
     → tail_bytes document from (entries ++ next ∷ []) ≡ tail_bytes document from entries ++ record_bytes (from + length entries + 1) next
@@ -156,29 +138,26 @@ tail_more document from entries next =
 pub gives : (log before behind front more : List (List ℕ)) (document next : List ℕ) (kept : ℕ) (image : List ℕ) → length document ≡ 16
     → Between log before behind front more → IsTail document (length before) behind next kept image
     → Gives log document image (before ++ behind) ⊎ ((0 < kept) × Gives log document image ((before ++ behind) ++ next ∷ []))
-gives log before behind front more document next kept image is b t = by (cases_lt kept (length (record_bytes (length before + length behind + 1) next)))
-  where
-    from : ℕ
-    from = length before
-
-    by : (kept < length (record_bytes (from + length behind + 1) next)) ⊎ (length (record_bytes (from + length behind + 1) next) ≤ kept)
-        → Gives log document image (before ++ behind) ⊎ ((0 < kept) × Gives log document image ((before ++ behind) ++ next ∷ []))
-    by (inl short) = inl (gives_short log before behind front more document next kept image is b t.bytes_are t.fit t.next_fits (omega (arith, t.positions)) short)
-    by (inr whole) =
-        let all = behind ++ next ∷ [] in
-        let size : length all ≡ length behind + 1 = length-append behind (next ∷ []) in
-        let bytes : image ≡ tail_bytes document from all ++ take 0 (record_bytes (from + length all + 1) []) =
-        t.bytes_are ∙ ap (λ (l : List ℕ). tail_bytes document from behind ++ l) (take_all kept (record_bytes (from + length behind + 1) next) whole)
-        ∙ sym (tail_more document from behind next) ∙ sym (append-nil (tail_bytes document from all)) in
-        let fit : All FitsRecord all = All-append FitsRecord behind (next ∷ []) t.fit (All-cons FitsRecord next [] t.next_fits (All-nil FitsRecord)) in
-        let between : Between log before all front (more ++ next ∷ []) = record {
-          log_is = b.log_is;
-          behind_is = ap (λ (l : List (List ℕ)). l ++ next ∷ []) b.behind_is ∙ append_assoc front more (next ∷ []);
-        } in
-        let found = gives_short log before all front (more ++ next ∷ []) document [] 0 image is between bytes fit (omega arith) (omega (arith, t.positions, size))
-        (omega (arith, record_len (from + length all + 1) [])) in
-        let longer : before ++ all ≡ (before ++ behind) ++ next ∷ [] = sym (append_assoc before behind (next ∷ [])) in
-        inr (omega (arith, whole, record_len (from + length behind + 1) next), subst (Gives log document image) longer found)
+gives log before behind front more document next kept image is b t =
+    let from = length before in
+    elim (cases_lt kept (length (record_bytes (length before + length behind + 1) next))) [
+      | inl short ↦ inl (gives_short log before behind front more document next kept image is b t.bytes_are t.fit t.next_fits (omega (arith, t.positions)) short)
+      | inr whole ↦
+          let all = behind ++ next ∷ [] in
+          let size : length all ≡ length behind + 1 = length-append behind (next ∷ []) in
+          let bytes : image ≡ tail_bytes document from all ++ take 0 (record_bytes (from + length all + 1) []) =
+          t.bytes_are ∙ ap (λ (l : List ℕ). tail_bytes document from behind ++ l) (take_all kept (record_bytes (from + length behind + 1) next) whole)
+          ∙ sym (tail_more document from behind next) ∙ sym (append-nil (tail_bytes document from all)) in
+          let fit : All FitsRecord all = All-append FitsRecord behind (next ∷ []) t.fit (All-cons FitsRecord next [] t.next_fits (All-nil FitsRecord)) in
+          let between : Between log before all front (more ++ next ∷ []) = record {
+            log_is = b.log_is;
+            behind_is = ap (λ (l : List (List ℕ)). l ++ next ∷ []) b.behind_is ∙ append_assoc front more (next ∷ []);
+          } in
+          let found = gives_short log before all front (more ++ next ∷ []) document [] 0 image is between bytes fit (omega arith) (omega (arith, t.positions, size))
+          (omega (arith, record_len (from + length all + 1) [])) in
+          let longer : before ++ all ≡ (before ++ behind) ++ next ∷ [] = sym (append_assoc before behind (next ∷ [])) in
+          inr (omega (arith, whole, record_len (from + length behind + 1) next), subst (Gives log document image) longer found)
+    ]
 
 -- a tail with nothing behind it
 pub gives_whole : (log before behind front more : List (List ℕ)) (document image : List ℕ) → length document ≡ 16
@@ -189,25 +168,17 @@ gives_whole log before behind front more document image is b t =
 
 pub recovers : (log before behind front more : List (List ℕ)) (document next : List ℕ) (kept : ℕ) (image : List ℕ) → length document ≡ 16
     → Between log before behind front more → IsTail document (length before) behind next kept image → Recovers log document image (before ++ behind)
-recovers log before behind front more document next kept image is b t = by (gives log before behind front more document next kept image is b t)
-  where
-    entries : List (List ℕ)
-    entries = before ++ behind
-
-    by : Gives log document image entries ⊎ ((0 < kept) × Gives log document image (entries ++ next ∷ [])) → Recovers log document image entries
-    by (inl found) = at_least log entries entries document image found (prefix_same entries)
-    by (inr (some, found)) = at_least log entries (entries ++ next ∷ []) document image found (is_prefix entries (next ∷ []))
+recovers log before behind front more document next kept image is b t = elim (gives log before behind front more document next kept image is b t) [
+  | inl found ↦ at_least log (before ++ behind) (before ++ behind) document image found (prefix_same (before ++ behind))
+  | inr (some, found) ↦ at_least log (before ++ behind) ((before ++ behind) ++ next ∷ []) document image found (is_prefix (before ++ behind) (next ∷ []))
+]
 
 -- ---- a head that is cut
 
 no_start : (xs head : List ℕ) → length xs < length head → starts_with eqb xs head ≡ false
-no_start xs head short = by (starts_with eqb xs head) refl
-  where
-    by : (b : Bool) → starts_with eqb xs head ≡ b → starts_with eqb xs head ≡ false
-    by false is = is
-    by true is =
-        let parts = (starts_is Decides-eqb xs head (starts_with eqb xs head) refl).0 is in
-        absurd (omega (arith, short, ap length parts, length-append head (drop (length head) xs)))
+no_start xs head short = false_from_ne_true (starts_with eqb xs head) (λ is.
+    let parts = (starts_is Decides-eqb xs head (starts_with eqb xs head) refl).0 is in
+    omega (arith, short, ap length parts, length-append head (drop (length head) xs)))
 
 pub head_reads : (log : List (List ℕ)) (document : List ℕ) (k : ℕ) → length document ≡ 16 → k < TAIL_HEAD_LEN
     → tail_behind log document (take k (tail_head document)) ≡ Ok (taken_to [] 0)

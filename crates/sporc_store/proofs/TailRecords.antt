@@ -2,10 +2,9 @@
 use Rattle.std.proofs.Common.{◌≡◌, ℕ, zero, suc, ◌+◌, ◌-◌, ◌^◌, ◌<◌, ◌≤◌, ◌⊎◌, inl, inr, Bool, true, false, cond, leb, eqb, List, [], ◌∷◌, ◌++◌, length, take, drop, Result, Ok, Err, refl, sym, ap, ◌∙◌, subst, arith, append-nil, append_assoc}
 use Rattle.sporc_store.proofs.Common.{le-leb, leb-true, lt-ltb, eq-eqb, eqb-true, cases_lt, length-append, length-take, All-head, All-tail, All-cons, All-nil, bytes_eq-Decides, take-append-add, All}
 use Rattle.sporc_store.proofs.Common.{w32, to_be_bytes, IsBytes, Reading, ◌>>=◌, fault_as, only_if, counted, bind_ok, fault_as_ok, ok_is, only_if_ok, Takes, Takes-then, wide32, number_takes}
-use Rattle.sporc_store.proofs.Common.{u32_again, bytes_again, bytes_takes, TailFault, Malformed, Agree, FitsRecord, TailTaken, record_bytes, records_bytes, taken_to}
+use Rattle.sporc_store.proofs.Common.{u32_again, bytes_again, bytes_takes, TailFault, Malformed, Agree, FitsRecord, TailTaken, record_bytes, records_bytes, taken_to, drop-nil, MAX_ENTRY}
 use Rattle.std.specs.Str.{bytes_eq}
 use Rattle.sporc_bytes.specs.Fields.{bytes_at, number_at}
-use Rattle.sporc_entry.specs.declared.limits.TheConstants.{MAX_ENTRY}
 use Rattle.sporc_store.specs.declared.tail_reading.RecordEnd.{RecordEnd}
 use Rattle.sporc_store.specs.declared.tail_reading.RecordEnd.TheVariants.{Cut, Misfit}
 use Rattle.sporc_store.specs.TailBytes.{entry_and_tail, kept_and, record_and, record_at, records_behind}
@@ -221,16 +220,12 @@ nothing_more ahead position r taken is = subst (SomeRecords ahead position r) is
   record {
     parts = refl;
     whole = omega arith;
-    lacking = none ahead;
+    lacking = sym (drop-nil (length ahead));
     agree = agreed ahead;
     fit = All-nil FitsRecord;
   },
 )
   where
-    none : (ahead : List (List ℕ)) → ◌≡◌ {A = List (List ℕ)} [] (drop (length ahead) [])
-    none [] = refl
-    none (a ∷ later) = refl
-
     agreed : (ahead : List (List ℕ)) → Agree ahead []
     agreed [] = tt
     agreed (a ∷ later) = tt
@@ -265,35 +260,27 @@ records_take (suc n) ahead position r taken h e = by (records_take n) (record_at
     Again = (ahead : List (List ℕ)) (position : ℕ) (r : Reading) (taken : TailTaken) → IsBytes r.rest
         → records_behind n ahead position r ≡ Ok taken → SomeRecords ahead position r taken
 
-    with_new : Again → (x : List ℕ × Reading) → Takes r (record_bytes position x.0) x.1 → FitsRecord x.0 → (others : Result TailTaken TailFault)
+    with_new : Again → (x : List ℕ × Reading) → Takes r (record_bytes position x.0) x.1 × FitsRecord x.0 × (position < 2 ^ 32) → (others : Result TailTaken TailFault)
         → records_behind n [] (position + 1) x.1 ≡ others → entry_and_tail x.0 others ≡ Ok taken → SomeRecords [] position r taken
-    with_new again x takes fits (Err fault) is e = absurd cc
-    with_new again x takes fits (Ok others) is e =
+    with_new again x t (Err fault) is e = absurd cc
+    with_new again x t (Ok others) is e =
         let same : taken_to (x.0 ∷ others.entries) others.whole ≡ taken = taken_is (taken_to (x.0 ∷ others.entries) others.whole) taken e in
-        with_record [] [] position r x others taken takes fits (λ es h. tt)
+        with_record [] [] position r x others taken t.0 t.1 (λ es h. tt)
         (λ es lacking. sym (ap (λ (t : TailTaken). t.entries) same) ∙ ap (λ (l : List (List ℕ)). x.0 ∷ l) lacking)
         (sym (ap (λ (t : TailTaken). t.whole) same))
-        (again [] (position + 1) x.1 others takes.bytes is)
+        (again [] (position + 1) x.1 others t.0.bytes is)
 
-    with_old : Again → (x : List ℕ × Reading) (a : List ℕ) (later : List (List ℕ)) → Takes r (record_bytes position x.0) x.1 → FitsRecord x.0 → (same : Bool)
+    with_old : Again → (x : List ℕ × Reading) (a : List ℕ) (later : List (List ℕ)) → Takes r (record_bytes position x.0) x.1 × FitsRecord x.0 × (position < 2 ^ 32) → (same : Bool)
         → bytes_eq a x.0 ≡ same → cond same (records_behind n later (position + 1) x.1) (Err (Malformed (r.at + 8))) ≡ Ok taken → SomeRecords (a ∷ later) position r taken
-    with_old again x a later takes fits false is e = absurd cc
-    with_old again x a later takes fits true is e =
+    with_old again x a later t false is e = absurd cc
+    with_old again x a later t true is e =
         let alike : a ≡ x.0 = (bytes_eq-Decides a x.0).0 is in
-        with_record (a ∷ later) later position r x taken taken takes fits (λ es h. (alike, h)) (λ es lacking. lacking) refl
-        (again later (position + 1) x.1 taken takes.bytes e)
-
-    with_one : Again → (x : List ℕ × Reading) → record_at position r ≡ Ok x → (ahead : List (List ℕ))
-        → kept_and ahead x.0 (r.at + 8) (λ more. records_behind n more (position + 1) x.1) ≡ Ok taken → SomeRecords ahead position r taken
-    with_one again x is [] e =
-        let t = record_takes position r x h is in
-        with_new again x t.0 t.1 (records_behind n [] (position + 1) x.1) refl e
-    with_one again x is (a ∷ later) e =
-        let t = record_takes position r x h is in
-        with_old again x a later t.0 t.1 (bytes_eq a x.0) refl e
+        with_record (a ∷ later) later position r x taken taken t.0 t.1 (λ es h. (alike, h)) (λ es lacking. lacking) refl
+        (again later (position + 1) x.1 taken t.0.bytes e)
 
     by : Again → (found : Result (List ℕ × Reading) RecordEnd) → record_at position r ≡ found → (ahead : List (List ℕ))
         → record_and r.at found ahead (λ more others. records_behind n more (position + 1) others) ≡ Ok taken → SomeRecords ahead position r taken
     by again (Err Cut) is ahead e = nothing_more ahead position r taken (taken_is (taken_to [] r.at) taken e)
     by again (Err (Misfit at)) is ahead e = absurd cc
-    by again (Ok x) is ahead e = with_one again x is ahead e
+    by again (Ok x) is [] e = with_new again x (record_takes position r x h is) (records_behind n [] (position + 1) x.1) refl e
+    by again (Ok x) is (a ∷ later) e = with_old again x a later (record_takes position r x h is) (bytes_eq a x.0) refl e

@@ -1,11 +1,12 @@
 -- Nothing that was ordered is lost in a run of a server over one log and its tail, and an order can always begin again.
 use Rattle.std.proofs.Common.{◌≡◌, ℕ, zero, suc, ◌+◌, ◌^◌, ◌<◌, ◌≤◌, ◌⊎◌, inl, inr, false, List, [], ◌∷◌, ◌++◌, length, take, Option, Some, None, Result, Ok, Err, refl, sym, ap, ◌∙◌, subst, arith, append-nil, append_assoc}
+use Rattle.std.proofs.lemmas.List.{take-take}
 use Rattle.sporc_store.proofs.Common.{IfSome, length-append, length-take, ok_is, Genesis, AppendTold, IsFileFound, file_images, AreAccepted, IsPrefix, FitsRecord, Gives, GivesSame, IsTail, Recovers}
 use Rattle.sporc_store.proofs.Common.{TailTaken, record_bytes, tail_behind, tail_bytes, Between, Keeps, OpensBehind, Puts, RecoversAt, StaysFound, TailFileModel, TakesTail}
 use Rattle.sporc_order.specs.declared.tail.Unkept.{Unkept}
 use Rattle.sporc_store.specs.TailRuns.{TailMove, Open, OpenFailed, OpenCut, Put, PutCut, Save, End, Remake, Stop, TailState, after_move, after_moves, held_then, MayOpen, MayMove, IsTailRun, IsChecked, IsCheckedRun, CanBegin, Begins}
 use Rattle.sporc_store.proofs.Loads.{accepted_more, takes_behind}
-use Rattle.sporc_store.proofs.TailReads.{at_least, gives, head_gives, is_prefix, prefix_same, shorter_take, tail_more}
+use Rattle.sporc_store.proofs.TailReads.{at_least, gives, head_gives, is_prefix, prefix_same, tail_more}
 use Rattle.sporc_store.proofs.TailRecords.{record_len}
 
 -- ---- prefixes
@@ -14,7 +15,7 @@ prefix_fits : (xs ys : List (List ℕ)) → IsPrefix xs ys → length xs ≤ len
 prefix_fits xs ys h = omega (arith, ap length h, length-take (length xs) ys)
 
 pub prefix_then : (xs ys zs : List (List ℕ)) → IsPrefix xs ys → IsPrefix ys zs → IsPrefix xs zs
-prefix_then xs ys zs h k = h ∙ ap (take (length xs)) k ∙ shorter_take (length xs) (length ys) zs (prefix_fits xs ys h)
+prefix_then xs ys zs h k = h ∙ ap (take (length xs)) k ∙ take-take (length xs) (length ys) zs (prefix_fits xs ys h)
 
 -- what is given is what is read
 pub gives_taken : (log entries : List (List ℕ)) (document bytes : List ℕ) (taken : TailTaken) → Gives log document bytes entries → tail_behind log document bytes ≡ Ok taken
@@ -386,15 +387,9 @@ any_goes s [] = tt
 any_goes {D} s (move ∷ run) = (one move, any_goes (after_move s move) run)
   where
     one : (move : TailMove D) → GoesOn Any s move
-    one (Open t entries) = tt
-    one (OpenFailed file) = tt
-    one (OpenCut file at found) = tt
     one (Put entry result t) = λ held. tt
     one (PutCut entry result t at found) = λ held. tt
-    one Save = tt
-    one End = tt
-    one (Remake file) = tt
-    one (Stop found) = tt
+    one move = tt
 
 module _ {D : Type 0} (file_told : D → AppendTold) (genesis : Genesis)
     (is_image : (file : D) → IfSome (file_told file).stored (file_images (file_told file))) (is16 : length genesis.document ≡ 16) where
@@ -403,15 +398,9 @@ module _ {D : Type 0} (file_told : D → AppendTold) (genesis : Genesis)
   checked_goes s (move ∷ run) (checked, more) = (one move checked, checked_goes (after_move s move) run more)
     where
       one : (move : TailMove D) → IsChecked file_told genesis s move → GoesOn (AreAccepted genesis) s move
-      one (Open t entries) checked = tt
-      one (OpenFailed file) checked = tt
-      one (OpenCut file at found) checked = tt
       one (Put entry result t) checked = λ held. accepted_more genesis s.held entry held checked
       one (PutCut entry result t at found) checked = λ held. accepted_more genesis s.held entry held checked
-      one Save checked = tt
-      one End checked = tt
-      one (Remake file) checked = tt
-      one (Stop found) checked = tt
+      one move checked = tt
 
   pub nothing_lost : (s : TailState D) (before after : List (TailMove D)) → Begins file_told genesis s → IsTailRun file_told genesis s (before ++ after)
       → IsPrefix (after_moves s before).held (after_moves s (before ++ after)).held

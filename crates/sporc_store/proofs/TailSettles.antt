@@ -3,13 +3,12 @@ use Rattle.std.proofs.Common.{◌≡◌, ℕ, zero, suc, ◌+◌, ◌-◌, ◌^�
 use Rattle.sporc_store.proofs.Common.{◌&&◌, OnOk, cases_lt, leb-true, and_parts, Decides-eqb, length-append, length-drop, length-take, take_all, take_at, drop_at, take-append-drop, take-nil, All-nil}
 use Rattle.sporc_store.proofs.Common.{starts_is, All, starts_with, w32, IsBytes, Reading, number_at, ok_is, MAX_ENTRIES, AppendTold, GrowsBy, MayBeCut, FileSteps, file_images, MAX_FILE, TailFault}
 use Rattle.sporc_store.proofs.Common.{Malformed, TAIL_HEAD_LEN, Agree, FitsRecord, Gives, GivesSame, IsTail, TailTaken, behind_head, records_behind, records_bytes, records_of, tail_head, taken_to}
-use Rattle.sporc_store.proofs.Common.{AreSynced, Between, Cuts, OpensBehind, Settles, StaysFound, Writes, counting, counting_of, head_behind, tail_on}
-use Rattle.sporc_base.proofs.ByteLemmas.{IsBytes-drop}
-use Rattle.sporc_outside.specs.LeafDisk.{IsSame}
-use Rattle.sporc_outside.specs.Uses.{use_of}
+use Rattle.sporc_store.proofs.Common.{AreSynced, Between, Cuts, OpensBehind, Settles, StaysFound, Writes, counting, counting_of, head_behind, tail_on, IsBytes-drop, IsSame, use_of}
 use Rattle.sporc_store.specs.TailBytes.{tail_behind, tail_bytes}
 use Rattle.sporc_store.proofs.TailReads.{gives_whole, head_gives, head_len, head_reads}
 use Rattle.sporc_store.proofs.TailRecords.{TakesRecords, records_few, records_take}
+use Rattle.sporc_store.proofs.TailRunning.{gives_taken}
+use Rattle.sporc_store.proofs.TailWrites.{step_then}
 use Rattle.sporc_store.proofs.TailRunning.{gives_taken}
 
 -- ---- what stays found from one moment to another
@@ -34,22 +33,8 @@ module _ {D : Type 0} (file_told : D → AppendTold) (log : List (List ℕ)) (do
   same_stays old new crash = step_stays old new IsSame crash (λ before after there same entries found. subst (λ (l : List ℕ). Gives log document l entries) (sym same) found)
 
   pub stays_then : (a b c : D) → StaysFound file_told log document a b → StaysFound file_told log document b c → StaysFound file_told log document a c
-  stays_then a b c one two = record {
-    later = omega (arith, one.later, two.later);
-    earlier = λ m image le.
-        let inner = one.earlier m image le in
-        let outer = two.earlier m image (omega (arith, le, one.later)) in
-        (λ h. inner.0 (outer.0 h), λ h. outer.1 (inner.1 h));
-    during = λ m image low high there. by m image low high there (cases_lt m (file_told b).moment);
-  }
-    where
-      by : (m : ℕ) (image : List ℕ) → (file_told a).moment ≤ m → m ≤ (file_told c).moment → (file_told c).images m image → (m < (file_told b).moment) ⊎ ((file_told b).moment ≤ m)
-          → (before : List ℕ) × file_images (file_told a) before × GivesSame log document before image
-      by m image low high there (inl early) = one.during m image low (omega (arith, early)) ((two.earlier m image (omega (arith, early))).0 there)
-      by m image low high there (inr late) =
-          let got = two.during m image late high there in
-          let was = one.during (file_told b).moment got.0 one.later (omega arith) got.1 in
-          (was.0, was.1, λ entries found. got.2 entries (was.2 entries found))
+  stays_then a b c one two =
+      step_then _ _ _ _ _ _ (GivesSame log document) (GivesSame log document) (λ x y z first second entries found. second entries (first entries found)) one two
 
 -- ---- a file that begins behind a part of a log
 
@@ -114,13 +99,12 @@ head_stands log document taken none few = record {
 -- any first part of it
 pub part_gives : (log : List (List ℕ)) (document : List ℕ) (k : ℕ) → length document ≡ 16 → length log ≤ MAX_ENTRIES
     → Gives log document (take k (tail_head document)) (log ++ [])
-part_gives log document k is few = by (cases_lt k TAIL_HEAD_LEN)
-  where
-    by : (k < TAIL_HEAD_LEN) ⊎ (TAIL_HEAD_LEN ≤ k) → Gives log document (take k (tail_head document)) (log ++ [])
-    by (inl short) = subst (Gives log document (take k (tail_head document))) (sym (append-nil log)) (head_gives log document k is short)
-    by (inr all) =
-        subst (λ (l : List ℕ). Gives log document l (log ++ [])) (sym (take_all k (tail_head document) (omega (arith, head_len document is, all))))
-        (stands_gives log document (tail_head document) (taken_to [] 0) is (head_stands log document (taken_to [] 0) refl few))
+part_gives log document k is few = elim (cases_lt k TAIL_HEAD_LEN) [
+  | inl short ↦ rw append-nil (head_gives log document k is short)
+  | inr all ↦
+      rw (take_all k (tail_head document) (omega (arith, head_len document is, all)))
+      (stands_gives log document (tail_head document) (taken_to [] 0) is (head_stands log document (taken_to [] 0) refl few))
+]
 
 -- ---- what is kept of a file that was read
 

@@ -1,10 +1,8 @@
 -- Entries of a saved history, taken one after another as a loop does.
-use Rattle.std.proofs.Common.{◌≡◌, ◌≢◌, ℕ, zero, suc, ◌+◌, ◌-◌, ◌^◌, ◌<◌, ◌≤◌, List, [], ◌∷◌, ◌++◌, length, drop, get_or, Bool, true, false, cond, eqb, Option, None, Some, Result, Ok, Err, refl, sym, ap, ◌∙◌, subst, append_assoc, length-append, arith}
+use Rattle.std.proofs.Common.{◌≡◌, ◌≢◌, ℕ, zero, suc, ◌+◌, ◌-◌, ◌^◌, ◌<◌, ◌≤◌, List, [], ◌∷◌, ◌++◌, length, drop, get_or, Bool, true, cond, eqb, Option, None, Some, Result, Ok, Err, refl, sym, ap, ◌∙◌, subst, append_assoc, length-append, arith}
 use Rattle.sporc_store.proofs.Common.{append-nil, drop_all, drop_more, IfOk, OnErr, starts_with, Reading, fault_as, counted_at, end_at, Stop, Foreign, Cut, Refused, Taken, read_to, first_and}
-use Rattle.sporc_store.proofs.Common.{stop_behind, entry_and, head_bytes, listed, IsPrefix, IsUnchecked, Checker, accepted, accepted_from, loaded, AppendsPart, AppendsSome}
-use Rattle.sporc_head.specs.declared.refusal.Refusal.{Refusal}
+use Rattle.sporc_store.proofs.Common.{stop_behind, entry_and, head_bytes, listed, IsPrefix, IsUnchecked, Checker, accepted, accepted_from, loaded, AppendsPart, AppendsSome, Refusal, HEAD_LEN}
 use Rattle.sporc_head.specs.declared.refusal.Refusal.TheVariants.{Memory}
-use Rattle.sporc_store.specs.declared.head.TheConstants.{HEAD_LEN}
 use Rattle.sporc_store.specs.SavedFile.{entries_at, count_at, opened, saved_in}
 use Rattle.sporc_store.specs.Loading.{fault_behind, appended, accepted_behind, nobody, taken_on}
 
@@ -201,8 +199,7 @@ saved_unchecked document bytes = by (starts_with eqb bytes (head_bytes document)
   where
     by : (own : Bool) (count : Result (ℕ × Reading) ℕ) → IsUnchecked (listed (cond own (fault_as Cut count) (Err Foreign))).stop
     by true (Ok found) = entries_unchecked found.0 found.1
-    by true (Err at) = tt
-    by false count = tt
+    by own count = tt
 
 -- ---- where reading stops, whoever checks the entries
 

@@ -11,14 +11,12 @@ left_over (f ∷ []) = f ∷ []
 left_over (f ∷ g ∷ fs) = left_over fs
 
 pub length-pairs : (fs : List (List Mark)) → length (pairs fs) + length (pairs fs) + length (left_over fs) ≡ length fs
-length-pairs [] = refl
-length-pairs (f ∷ []) = refl
 length-pairs (f ∷ g ∷ fs) = omega (arith, length-pairs fs)
+length-pairs fs = refl
 
 pub few_left : (fs : List (List Mark)) → length (left_over fs) ≤ 1
-few_left [] = omega arith
-few_left (f ∷ []) = omega arith
 few_left (f ∷ g ∷ fs) = few_left fs
+few_left fs = omega arith
 
 -- ---- one form more
 
@@ -39,12 +37,10 @@ joined base [] h = tt
 joined base (f ∷ fs) h = h.1
 
 pub Follow-pairs : (base : ℕ) (fs : List (List Mark)) → Follow base fs → Follow base (pairs fs)
-Follow-pairs base [] h = tt
-Follow-pairs base (f ∷ []) h = tt
 Follow-pairs base (f ∷ g ∷ fs) h =
     let c = composes f g (sym h.1.0) in
-    let P : ℕ → Type 0 = λ n. Follow n (pairs fs) in
-    (c.base ∙ h.0, subst P (sym c.out) (Follow-pairs (out_len g) fs h.1.1))
+    (c.base ∙ h.0, subst (λ (n : ℕ). Follow n (pairs fs)) (sym c.out) (Follow-pairs (out_len g) fs h.1.1))
+Follow-pairs base fs h = tt
 
 pub Joined-pairs : (fs : List (List Mark)) → Joined fs → Joined (pairs fs)
 Joined-pairs [] h = tt
@@ -57,16 +53,13 @@ Joined-runs (suc level) fs h = Joined-pairs (runs_of level fs) (Joined-runs leve
 -- ---- a composition inserts no more
 
 inserted_after : (q : List Mark) → inserted_len (compose [] q) ≤ inserted_len q
-inserted_after [] = omega arith
 inserted_after (Insert c ∷ q) = omega (arith, inserted_after q)
-inserted_after (Keep ∷ q) = omega arith
-inserted_after (Remove ∷ q) = omega arith
+inserted_after q = omega arith
 
 inserted_remove : (p : List Mark) → ((q : List Mark) → inserted_len (compose p q) ≤ inserted_len p + inserted_len q) → (q : List Mark) → inserted_len (compose (Remove ∷ p) q) ≤ inserted_len p + inserted_len q
 inserted_remove p ih [] = ih []
 inserted_remove p ih (Insert c ∷ q) = omega (arith, inserted_remove p ih q)
-inserted_remove p ih (Keep ∷ q) = ih (Keep ∷ q)
-inserted_remove p ih (Remove ∷ q) = ih (Remove ∷ q)
+inserted_remove p ih q = ih q
 
 inserted_keep : (p : List Mark) → ((q : List Mark) → inserted_len (compose p q) ≤ inserted_len p + inserted_len q) → (q : List Mark) → inserted_len (compose (Keep ∷ p) q) ≤ inserted_len p + inserted_len q
 inserted_keep p ih [] = omega arith
@@ -87,9 +80,8 @@ inserted_len-compose (Remove ∷ p) q = inserted_remove p (inserted_len-compose 
 inserted_len-compose (Insert c ∷ p) q = inserted_insert c p (inserted_len-compose p) q
 
 all_inserted-pairs : (fs : List (List Mark)) → all_inserted (pairs fs) ≤ all_inserted fs
-all_inserted-pairs [] = omega arith
-all_inserted-pairs (f ∷ []) = omega arith
 all_inserted-pairs (f ∷ g ∷ fs) = omega (arith, all_inserted-pairs fs, inserted_len-compose f g)
+all_inserted-pairs fs = omega arith
 
 -- ---- a delta that passes them
 

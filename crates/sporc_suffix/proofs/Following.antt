@@ -7,9 +7,8 @@ reached-append base [] gs = refl
 reached-append base (f ∷ fs) gs = reached-append (out_len f) fs gs
 
 pub Follow-take : (base n : ℕ) (fs : List (List Mark)) → Follow base fs → Follow base (take n fs)
-Follow-take base zero fs h = tt
-Follow-take base (suc n) [] h = tt
 Follow-take base (suc n) (f ∷ fs) h = (h.0, Follow-take (out_len f) n fs h.1)
+Follow-take base n fs h = tt
 
 pub Follow-at : (base : ℕ) (forms : List (List Mark)) (i : ℕ) (f : List Mark) → Follow base forms → slice_get forms i ≡ Some f → base_len f ≡ reached base (take i forms)
 Follow-at base [] i f h at = absurd cc

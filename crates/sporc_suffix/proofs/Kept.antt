@@ -1,7 +1,9 @@
 -- The runs that end with each form.
-use Rattle.std.proofs.Common.{◌≡◌, ℕ, zero, suc, ◌+◌, ◌-◌, ◌/◌, ◌%◌, ◌^◌, ◌≤◌, ◌<◌, List, [], ◌∷◌, ◌++◌, length, take, drop, get_or, refl, ap, sym, subst, ◌∙◌, arith, Some, option_map, ◌⊎◌, inl, inr, length-append}
-use Rattle.sporc_suffix.proofs.Common.{slice_get, map-append, drop_all, get_or_append_left, get_or_push, take-append-drop, drop-drop, take_all, length-drop, length-map, Mark, base_len, out_len}
-use Rattle.sporc_suffix.proofs.Common.{compose, Follow, Fits, TwoADigit, later_over, pairs, runs_of, last_of, EndWith, Joined, KeepRuns, ReadyModel, IsReadyAt, BlocksInvariant, forms_in}
+use Rattle.std.proofs.Common.{◌≡◌, ℕ, zero, suc, ◌+◌, ◌-◌, ◌/◌, ◌%◌, ◌^◌, ◌≤◌, ◌<◌, List, [], ◌∷◌, ◌++◌, length, take, drop, get_or, refl, ap, sym, subst, ◌∙◌, arith, Some, option_map, ◌⊎◌, inl, inr}
+use Rattle.std.proofs.Common.{length-append}
+use Rattle.sporc_suffix.proofs.Common.{slice_get, nil_from_length, map-append, drop_all, get_or_append_left, get_or_push, take-append-drop, drop-drop, take_all, length-drop, length-map, Mark}
+use Rattle.sporc_suffix.proofs.Common.{base_len, out_len, compose, Follow, Fits, TwoADigit, later_over, pairs, runs_of, last_of, EndWith, Joined, KeepRuns, ReadyModel, IsReadyAt, BlocksInvariant}
+use Rattle.sporc_suffix.proofs.Common.{forms_in}
 use Rattle.std.proofs.Math.Seq.{drop-cons}
 use Rattle.std.proofs.lemmas.Bool.{cases_lt}
 use Rattle.std.proofs.lemmas.Option.{get_or_from_slice_get, slice_get-get_or, slice_get-map, slice_get_read, slice_get_within}
@@ -17,9 +19,8 @@ slice_get_front (x ∷ xs) ys (suc i) h = slice_get_front xs ys i (omega (arith,
 
 slice_get_end : {X : Type 0} (xs : List X) (y : X) (i : ℕ) → i ≡ length xs → slice_get (xs ++ y ∷ []) i ≡ Some y
 slice_get_end [] y zero h = refl
-slice_get_end [] y (suc i) h = absurd (omega (arith, h))
-slice_get_end (x ∷ xs) y zero h = absurd (omega (arith, h))
 slice_get_end (x ∷ xs) y (suc i) h = slice_get_end xs y i (omega (arith, h))
+slice_get_end xs y i h = absurd (omega (arith, h))
 
 -- ---- where a run ends
 
@@ -76,8 +77,7 @@ stays fs x level place within last = go (more fs x level)
 pub keeps_more : (items : List ReadyModel) (r : ReadyModel) → KeepRuns items → EndWith (forms_in items ++ r.form ∷ []) (length items) r.runs → KeepRuns (items ++ r ∷ [])
 keeps_more items r keeps new i item at =
     let forms : forms_in (items ++ r ∷ []) ≡ forms_in items ++ r.form ∷ [] = map-append (λ (item : ReadyModel). item.form) items (r ∷ []) in
-    let P : List (List Mark) → Type 0 = λ fs. EndWith fs i item.runs in
-    subst P (sym forms) (go (cases_lt i (length items)))
+    subst (λ (fs : List (List Mark)). EndWith fs i item.runs) (sym forms) (go (cases_lt i (length items)))
   where
     few : length (forms_in items) ≡ length items
     few = length-map items (λ (item : ReadyModel). item.form)
@@ -90,9 +90,8 @@ keeps_more items r keeps new i item at =
     go (inr h) =
         let n : i ≡ length items = omega (arith, h, slice_get_within (items ++ r ∷ []) i item at, length-append items (r ∷ [])) in
         let item_is : r ≡ item = let e : Some r ≡ Some item = sym (slice_get_end items r i n) ∙ at in cc in
-        let P : ReadyModel → Type 0 = λ it. EndWith (forms_in items ++ r.form ∷ []) i it.runs in
         let Q : ℕ → Type 0 = λ k. EndWith (forms_in items ++ r.form ∷ []) k r.runs in
-        subst P item_is (subst Q (sym n) new)
+        subst (λ (it : ReadyModel). EndWith (forms_in items ++ r.form ∷ []) i it.runs) item_is (subst Q (sym n) new)
 
 -- ---- where a run is kept
 
@@ -158,37 +157,30 @@ ended_more fs form runs n y c ended odd is at composed = record { so_far = λ le
 
 -- the next two deltas to be composed follow each other
 joined_last : (L : List (List Mark)) (n : ℕ) (y x : List Mark) → suc n ≡ length L → slice_get L n ≡ Some y → Joined (L ++ x ∷ []) → out_len y ≡ base_len x
-joined_last [] n y x is at h = absurd (omega (arith, is))
 joined_last (f ∷ []) zero y x is at h = let same : f ≡ y = cc in ap out_len (sym same) ∙ sym h.0
-joined_last (f ∷ []) (suc n) y x is at h = absurd (omega (arith, is))
-joined_last (f ∷ g ∷ fs) zero y x is at h = absurd (omega (arith, is))
 joined_last (f ∷ g ∷ fs) (suc n) y x is at h = joined_last (g ∷ fs) n y x (omega (arith, is)) at h.1
+joined_last L n y x is at h = absurd (omega (arith, is))
 
 pub next_follow : (fs : List (List Mark)) (form : List Mark) (runs : List (List Mark)) (n : ℕ) (y : List Mark) → Joined (fs ++ form ∷ []) → Ended fs form runs → 0 < n → n ≡ length (runs_of (length runs) fs)
     → slice_get (runs_of (length runs) fs) (n - 1) ≡ Some y → out_len y ≡ base_len (get_or (form ∷ runs) (length runs) form)
 next_follow fs form runs n y joined ended some is at =
-    let P : List (List Mark) → Type 0 = λ rs. Joined rs in
-    let all = subst P (ended.so_far (length runs) (omega arith)) (Joined-runs (length runs) (fs ++ form ∷ []) joined) in
+    let all = subst Joined (ended.so_far (length runs) (omega arith)) (Joined-runs (length runs) (fs ++ form ∷ []) joined) in
     joined_last (runs_of (length runs) fs) (n - 1) y (get_or (form ∷ runs) (length runs) form) (omega (arith, is, some)) at all
 
 -- no run ends with the form above a level at which none does
 same_above : (fs gs : List (List Mark)) (k level : ℕ) → k ≤ level → runs_of k fs ≡ runs_of k gs → runs_of level fs ≡ runs_of level gs
-same_above fs gs k zero h e = let none : k ≡ 0 = omega (arith, h) in let P : ℕ → Type 0 = λ n. runs_of n fs ≡ runs_of n gs in subst P none e
+same_above fs gs k zero h e = let none : k ≡ 0 = omega (arith, h) in rw none at e
 same_above fs gs k (suc level) h e = go (λ l. same_above fs gs k level l e) (cases_lt level k)
   where
     go : (k ≤ level → runs_of level fs ≡ runs_of level gs) → (level < k) ⊎ (k ≤ level) → runs_of (suc level) fs ≡ runs_of (suc level) gs
-    go ih (inl l) = let top : k ≡ suc level = omega (arith, h, l) in let P : ℕ → Type 0 = λ n. runs_of n fs ≡ runs_of n gs in subst P top e
+    go ih (inl l) = let top : k ≡ suc level = omega (arith, h, l) in rw top at e
     go ih (inr l) = ap pairs (ih l)
 
 pub ended_all : (fs : List (List Mark)) (form : List Mark) (runs : List (List Mark)) (n at : ℕ) → Ended fs form runs → n % 2 ≡ 0 → n ≡ length (runs_of (length runs) fs) → at ≡ length fs → EndWith (fs ++ form ∷ []) at runs
 ended_all fs form runs n at ended even is at_is level place within last = go (cases_lt level (length runs))
   where
     none_left : left_over (runs_of (length runs) fs) ≡ []
-    none_left = nil (left_over (runs_of (length runs) fs)) (omega (arith, length-pairs (runs_of (length runs) fs), few_left (runs_of (length runs) fs), is, even))
-      where
-        nil : (xs : List (List Mark)) → length xs ≡ 0 → xs ≡ []
-        nil [] h = refl
-        nil (x ∷ xs) h = absurd (omega (arith, h))
+    none_left = nil_from_length (left_over (runs_of (length runs) fs)) (omega (arith, length-pairs (runs_of (length runs) fs), few_left (runs_of (length runs) fs), is, even))
 
     above : length runs ≤ level → ⊥
     above h =
@@ -227,8 +219,7 @@ halves q L from first last count is within f l fits =
     let last_even : last ≡ last / 2 + last / 2 = omega (arith, l) in
     let rest : drop (first - from) (drop from L) ≡ drop (first / 2 + first / 2) L = drop-drop (first - from) from L ∙ ap (λ (k : ℕ). drop k L) (omega (arith, f)) in
     let split : drop from L ≡ take (first - from) (drop from L) ++ drop (first / 2 + first / 2) L = sym (take-append-drop (first - from) (drop from L)) ∙ ap (λ (rs : List (List Mark)). take (first - from) (drop from L) ++ rs) rest in
-    let P : List (List Mark) → Type 0 = λ rs. Fits q rs in
-    let both = subst P split fits in
+    let both = subst (Fits q) split fits in
     let one = fits_front q (take (first - from) (drop from L)) (drop (first / 2 + first / 2) L) both in
     let q1 = later_over q (take (first - from) (drop from L)) in
     let two = by_pairs (later_over q (take (first - from) (drop from L))) (drop (first / 2 + first / 2) L) (fits_back q (take (first - from) (drop from L)) (drop (first / 2 + first / 2) L) both) in
@@ -262,10 +253,9 @@ no_steps before after n h b few = omega (arith, h)
 pub blocks_push : (base : ℕ) (items : List ReadyModel) (r : ReadyModel) → BlocksInvariant base items → IsReadyAt base (forms_in items) r → length items < 2 ^ 32 - 1 → BlocksInvariant base (items ++ r ∷ [])
 blocks_push base items r held ready few =
     let forms : forms_in (items ++ r ∷ []) ≡ forms_in items ++ r.form ∷ [] = map-append (λ (item : ReadyModel). item.form) items (r ∷ []) in
-    let P : List (List Mark) → Type 0 = λ fs. Follow base fs in
     let Q : ℕ → Type 0 = λ n. EndWith (forms_in items ++ r.form ∷ []) n r.runs in
     record {
-      follow = subst P (sym forms) (Follow-append base (forms_in items) r.form held.follow ready.base_is);
+      follow = subst (Follow base) (sym forms) (Follow-append base (forms_in items) r.form held.follow ready.base_is);
       few = omega (arith, few, length-append items (r ∷ []));
       runs = keeps_more items r held.runs (subst Q (length-map items (λ (item : ReadyModel). item.form)) ready.runs_are);
     }

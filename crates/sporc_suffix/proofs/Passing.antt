@@ -15,12 +15,11 @@ pub passes : (q f : List Mark) (rest : List (List Mark)) → Fits q (f ∷ rest)
 passes q f rest fits =
     let base : base_len q ≡ base_len f = sym fits.follow.0 in
     let after : base_len (later q f) ≡ out_len f = base_len-later f q (sym base) in
-    let P : ℕ → Type 0 = λ n. Follow n rest in
     record {
       base = base;
       limit = omega (arith, fits.limit);
       fits = record {
-        follow = subst P (sym after) fits.follow.1;
+        follow = subst (λ (n : ℕ). Follow n rest) (sym after) fits.follow.1;
         limit = omega (arith, fits.limit, inserted_len-later f q, out_len-le f);
       };
     }

@@ -1,12 +1,13 @@
 -- Lists of chunks.
-use Rattle.std.proofs.Common.{◌≡◌, ℕ, zero, suc, ◌+◌, ◌-◌, ◌*◌, ◌<◌, ◌≤◌, List, [], ◌∷◌, ◌++◌, length, take, drop, get_or, set, refl, ap, sym, ◌∙◌, append_assoc, append-nil, add-one, arith, length-append, inl, inr}
-use Rattle.sporc_text.proofs.Common.{get_or_default, cases_lt, concat, MAX_CHUNK, MAX_JOINED, MEAN_CHUNK, AreChunks, Joins}
+use Rattle.std.proofs.Common.{◌≡◌, ℕ, zero, suc, ◌+◌, ◌-◌, ◌*◌, ◌<◌, ◌≤◌, List, [], ◌∷◌, ◌++◌, length, take, drop, get_or, set, refl, ap, sym, ◌∙◌, append_assoc, append-nil, add-one, arith}
+use Rattle.std.proofs.Common.{length-append, inl, inr}
+use Rattle.std.proofs.lemmas.List.Folds.{concat-append}
+use Rattle.sporc_text.proofs.Common.{get_or_default, take-append-drop, cases_lt, concat, MAX_CHUNK, MAX_JOINED, MEAN_CHUNK, AreChunks, Joins}
 
 -- chunks are few, and not too few
 pub few_chunks : (cs : List (List ℕ)) → AreChunks cs → MEAN_CHUNK * length cs ≤ length (concat cs) + MEAN_CHUNK
-few_chunks [] h = omega arith
-few_chunks (c ∷ []) h = omega arith
 few_chunks (c ∷ d ∷ cs) h = omega (arith, few_chunks cs h.1.1, h.0.apart, length-append c (d ++ concat cs), length-append d (concat cs))
+few_chunks cs h = omega arith
 
 pub long_chunks : (cs : List (List ℕ)) → AreChunks cs → length (concat cs) ≤ MAX_CHUNK * length cs
 long_chunks [] h = omega arith
@@ -19,10 +20,9 @@ no_chunks (c ∷ cs) h e = absurd (omega (arith, h.0.some, ap length e, length-a
 -- ---- one chunk of a list
 
 pub chunks_apart : (cs : List (List ℕ)) (i : ℕ) → AreChunks cs → suc i < length cs → MAX_JOINED < length (get_or cs i []) + length (get_or cs (suc i) [])
-chunks_apart [] i h l = absurd (omega arith)
-chunks_apart (c ∷ []) zero h l = absurd (omega arith)
 chunks_apart (c ∷ d ∷ cs) zero h l = h.0.apart
 chunks_apart (c ∷ cs) (suc i) h l = chunks_apart cs i h.1 (omega arith)
+chunks_apart cs i h l = absurd (omega arith)
 
 -- one more chunk
 pub chunks-push : (cs : List (List ℕ)) (c : List ℕ) → AreChunks cs → 0 < length c → length c ≤ MAX_CHUNK → ((i : ℕ) → suc i ≡ length cs → MAX_JOINED < length (get_or cs i []) + length c) → AreChunks (cs ++ c ∷ [])
@@ -35,31 +35,23 @@ pub chunks-set : (cs : List (List ℕ)) (i : ℕ) (c : List ℕ) → AreChunks c
     → ((j : ℕ) → suc j ≡ i → MAX_JOINED < length (get_or cs j []) + length c)
     → (suc i < length cs → MAX_JOINED < length c + length (get_or cs (suc i) []))
     → AreChunks (set cs i c)
-chunks-set [] i c h l some most front back = absurd (omega arith)
 chunks-set (d ∷ []) zero c h l some most front back = (record { some = some; most = most; apart = tt }, tt)
 chunks-set (d ∷ e ∷ cs) zero c h l some most front back = (record { some = some; most = most; apart = back (omega arith) }, h.1)
-chunks-set (d ∷ []) (suc i) c h l some most front back = absurd (omega arith)
 chunks-set (d ∷ e ∷ cs) (suc zero) c h l some most front back =
     (record { some = h.0.some; most = h.0.most; apart = front 0 refl }, chunks-set (e ∷ cs) 0 c h.1 (omega arith) some most (λ j z. absurd (omega arith)) (λ z. back (omega arith)))
 chunks-set (d ∷ e ∷ cs) (suc (suc i)) c h l some most front back =
     (record { some = h.0.some; most = h.0.most; apart = h.0.apart }, chunks-set (e ∷ cs) (suc i) c h.1 (omega arith) some most (λ j z. front (suc j) (omega arith)) (λ z. back (omega arith)))
+chunks-set cs i c h l some most front back = absurd (omega arith)
 
 -- ---- the characters of chunks
 
-pub concat-append : (cs ds : List (List ℕ)) → concat (cs ++ ds) ≡ concat cs ++ concat ds
-concat-append [] ds = refl
-concat-append (c ∷ cs) ds = ap (λ (t : List ℕ). c ++ t) (concat-append cs ds) ∙ sym (append_assoc c (concat cs) (concat ds))
-
 pub concat-at : (cs : List (List ℕ)) (i : ℕ) → concat cs ≡ concat (take i cs) ++ concat (drop i cs)
-concat-at cs zero = refl
-concat-at [] (suc i) = refl
-concat-at (c ∷ cs) (suc i) = ap (λ (t : List ℕ). c ++ t) (concat-at cs i) ∙ sym (append_assoc c (concat (take i cs)) (concat (drop i cs)))
+concat-at cs i = ap concat (sym (take-append-drop i cs)) ∙ concat-append (take i cs) (drop i cs)
 
 pub concat-drop : (cs : List (List ℕ)) (i : ℕ) → concat (drop i cs) ≡ get_or cs i [] ++ concat (drop (suc i) cs)
 concat-drop [] zero = refl
-concat-drop [] (suc i) = refl
-concat-drop (c ∷ cs) zero = refl
 concat-drop (c ∷ cs) (suc i) = concat-drop cs i
+concat-drop cs i = refl
 
 pub concat-set : (cs : List (List ℕ)) (i : ℕ) (c : List ℕ) → i < length cs → concat (set cs i c) ≡ concat (take i cs) ++ (c ++ concat (drop (suc i) cs))
 concat-set [] i c l = absurd (omega arith)
@@ -78,11 +70,9 @@ length-take-more cs i c is l = rw add-one (take_more cs i c is l)
 -- ---- a chunk joined to the last one, or behind it
 
 last_joined : (cs : List (List ℕ)) (i : ℕ) (c : List ℕ) → suc i ≡ length cs → concat (set cs i (get_or cs i [] ++ c)) ≡ concat cs ++ c
-last_joined [] i c e = absurd (omega arith)
 last_joined (d ∷ []) zero c e = append-nil (d ++ c) ∙ ap (λ (t : List ℕ). t ++ c) (sym (append-nil d))
-last_joined (d ∷ f ∷ cs) zero c e = absurd (omega arith)
-last_joined (d ∷ []) (suc i) c e = absurd (omega arith)
 last_joined (d ∷ f ∷ cs) (suc i) c e = ap (λ (t : List ℕ). d ++ t) (last_joined (f ∷ cs) i c (omega arith)) ∙ sym (append_assoc d (concat (f ∷ cs)) c)
+last_joined cs i c e = absurd (omega arith)
 
 -- the last of some chunks with another one's characters behind its own, that are few together
 pub record AreJoined (cs : List (List ℕ)) (c : List ℕ) (ds : List (List ℕ)) : Type 0 where

@@ -5,10 +5,9 @@ use Rattle.std.proofs.Math.Seq.{take-append-add, drop-append-add}
 
 -- the first n, of two lists end to end, and those behind them
 pub take-append : (n m : ℕ) (xs ys : List ℕ) → m + length (take n xs) ≡ n → take n (xs ++ ys) ≡ take n xs ++ take m ys
-take-append zero m [] ys e = let z : m ≡ 0 = omega arith in rw z refl
-take-append zero m (x ∷ xs) ys e = let z : m ≡ 0 = omega arith in rw z refl
 take-append (suc n) m [] ys e = let z : m ≡ suc n = omega arith in rw z refl
 take-append (suc n) m (x ∷ xs) ys e = ap (λ (t : List ℕ). x ∷ t) (take-append n m xs ys (omega arith))
+take-append zero m xs ys e = let z : m ≡ 0 = omega arith in rw z refl
 
 pub drop-append : (n m : ℕ) (xs ys : List ℕ) → m + length xs ≡ n + length (drop n xs) → drop n (xs ++ ys) ≡ drop n xs ++ drop m ys
 drop-append zero m xs ys e = let z : m ≡ 0 = omega arith in rw z refl

@@ -1,5 +1,5 @@
 -- A delta is applied part by part.
-use Rattle.std.proofs.Common.{◌≡◌, ℕ, zero, suc, ◌+◌, ◌<◌, ◌≤◌, List, [], ◌∷◌, ◌++◌, length, take, drop, get_or, refl, ap, sym, ◌∙◌, append_assoc, append-nil, add-one, arith, drop-cons, length-drop}
+use Rattle.std.proofs.Common.{◌≡◌, ℕ, zero, suc, ◌+◌, ◌<◌, ◌≤◌, List, [], ◌∷◌, ◌++◌, length, take, drop, get_or, refl, ap, sym, ◌∙◌, append_assoc, add-one, arith, drop-cons, length-drop}
 use Rattle.sporc_text.proofs.Common.{drop-drop, Mark, Keep, Remove, Insert, base_len, out_len, apply, keep_marks, remove_marks, insert_marks, part_marks, marks_of, replaced}
 use Rattle.sporc_delta.specs.declared.part.Part.{Part}
 use Rattle.sporc_delta.specs.declared.part.Part.TheVariants.{Keep as KeepRun, Insert as InsertText, Remove as RemoveRun}
@@ -43,19 +43,11 @@ edit_begins parts text at out fits = record { reads = fits; writes = refl }
 -- the characters behind the last change are kept
 apply-last : (ms : List Mark) (n : ℕ) (s : List ℕ) → base_len ms + n ≡ length s → apply (ms ++ keep_marks n) s ≡ apply ms s ++ drop (base_len ms) s
 apply-last [] zero [] h = refl
-apply-last [] zero (c ∷ s) h = absurd (omega arith)
-apply-last [] (suc n) [] h = absurd (omega arith)
 apply-last [] (suc n) (c ∷ s) h = ap (λ l. c ∷ l) (apply-last [] n s (omega arith))
 apply-last (Insert c ∷ ms) n s h = ap (λ l. c ∷ l) (apply-last ms n s h)
-apply-last (Keep ∷ ms) n [] h = absurd (omega arith)
 apply-last (Keep ∷ ms) n (c ∷ s) h = ap (λ l. c ∷ l) (apply-last ms n s (omega arith))
-apply-last (Remove ∷ ms) n [] h = absurd (omega arith)
 apply-last (Remove ∷ ms) n (c ∷ s) h = apply-last ms n s (omega arith)
-
--- the marks of parts and of one behind them
-pub marks_of-keep : (ps : List Part) (n : ℕ) → marks_of (ps ++ KeepRun n ∷ []) ≡ marks_of ps ++ keep_marks n
-marks_of-keep [] n = append-nil (keep_marks n)
-marks_of-keep (p ∷ ps) n = ap (λ (ms : List Mark). part_marks p ++ ms) (marks_of-keep ps n) ∙ sym (append_assoc (part_marks p) (marks_of ps) (keep_marks n))
+apply-last ms n s h = absurd (omega arith)
 
 pub between : (delta marks others middle : List Mark) (kept left : ℕ) → marks ≡ delta → marks ≡ keep_marks kept ++ others → others ≡ middle ++ keep_marks left → IsBetween delta middle kept left
 between delta marks others middle kept left is front back =

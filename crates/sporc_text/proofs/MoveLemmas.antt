@@ -1,7 +1,9 @@
 -- Chunks that are moved from one list to another.
-use Rattle.std.proofs.Common.{◌≡◌, ℕ, zero, suc, ◌+◌, ◌-◌, ◌≤◌, List, [], ◌∷◌, ◌++◌, length, take, drop, get_or, set, refl, ap, sym, ◌∙◌, append_assoc, append-nil, add-one, arith, length-append, length-drop}
+use Rattle.std.proofs.Common.{◌≡◌, ℕ, zero, suc, ◌+◌, ◌-◌, ◌≤◌, List, [], ◌∷◌, ◌++◌, length, take, drop, get_or, set, refl, ap, sym, ◌∙◌, append_assoc, append-nil, add-one, arith, length-append}
+use Rattle.std.proofs.Common.{length-drop}
 use Rattle.sporc_text.proofs.Common.{drop-drop, get_or_default, take_all, take-append-le, drop-append-le, concat, AreChunks, IsAt, IsWithin, replaced}
 use Rattle.std.proofs.Math.Seq.{drop-append-add}
+use Rattle.std.proofs.lemmas.List as lists
 use Rattle.sporc_text.proofs.ChunkLemmas.{chunks-set, concat-at, concat-drop, concat-set}
 use Rattle.sporc_text.proofs.CutLemmas.{length-replaced, replaced-behind, replaced-front}
 
@@ -27,11 +29,9 @@ take-next (d ∷ from) (suc n) = ap (λ (t : List ℕ). d ++ t) (take-next from 
 
 -- the characters of fewer chunks are fewer
 pub length-take-fewer : (from : List (List ℕ)) (m n : ℕ) → m ≤ n → length (concat (take m from)) ≤ length (concat (take n from))
-length-take-fewer from zero n le = omega arith
-length-take-fewer [] (suc m) zero le = absurd (omega arith)
-length-take-fewer (c ∷ from) (suc m) zero le = absurd (omega arith)
-length-take-fewer [] (suc m) (suc n) le = omega arith
 length-take-fewer (c ∷ from) (suc m) (suc n) le = omega (arith, length-take-fewer from m n (omega arith), length-append c (concat (take m from)), length-append c (concat (take n from)))
+length-take-fewer from (suc m) zero le = absurd (omega arith)
+length-take-fewer from m n le = omega arith
 
 pub more_moved : (cs : List (List ℕ)) (before : ℕ) (from : List (List ℕ)) (n : ℕ) (ds : List (List ℕ)) (after : ℕ) (left : List (List ℕ)) (es : List (List ℕ)) (room : ℕ) (rest : List (List ℕ)) → AreMoved cs before from n ds after left
     → AreChunks es → concat es ≡ concat ds ++ get_or left 0 [] → rest ≡ drop 1 left → after ≤ room → AreMoved cs before from (n + 1) es room rest
@@ -86,10 +86,7 @@ rewritten_at cs place i offset removed middle at =
     sym (ap (λ (t : List ℕ). replaced place removed middle t) (concat-at cs i) ∙ replaced-behind (concat (take i cs)) (concat (drop i cs)) middle place offset removed at.before)
 
 pub get_or-drop : (cs : List (List ℕ)) (i : ℕ) → get_or (drop i cs) 0 [] ≡ get_or cs i []
-get_or-drop [] zero = refl
-get_or-drop [] (suc i) = refl
-get_or-drop (c ∷ cs) zero = refl
-get_or-drop (c ∷ cs) (suc i) = get_or-drop cs i
+get_or-drop cs i = lists.get_or-drop i cs 0 [] ∙ ap (λ (k : ℕ). get_or cs k []) (omega arith)
 
 -- what a text is moved to, piece by piece
 pub rebuilt_value : (cs ds : List (List ℕ)) (i kept removed more gone : ℕ) (front middle last whole : List ℕ) → kept ≤ length (get_or cs i []) → ds ≡ drop i cs → IsAt ds (kept + removed) more gone

@@ -1,24 +1,19 @@
 -- What each command of the program leaves of a leaf file.
 use Rattle.std.proofs.Common.{◌≡◌, ◌⊎◌, inl, inr, ℕ, List, [], ◌∷◌, Bool, true, false, Option, Some, None, IsSome, option_map, Result, Ok, Err, refl, ap, sym, subst, ◌∙◌}
-use Rattle.sporc_top.proofs.Common.{⊤, AllByRecursion, ChangesFile, HasNoFile, IsDiskOf, made_in, with_file, NamedFile, StreamTold, DiskTold, Device, Client, Command, Keygen, Fault, FileNames}
+use Rattle.sporc_top.proofs.Common.{⊤, AllByRecursion, ChangesFile, HasNoFile, IsDiskOf, with_file, NamedFile, StreamTold, DiskTold, Device, Client, Command, Keygen, Fault, FileNames}
 use Rattle.sporc_top.proofs.Common.{file_name, names_of_document, FoundOutcome, IsStoreFault, founding_files, by_command, file_at, if_over, leaf_name, over_its_disk, Performs, OutsideUse, client_use}
-use Rattle.std.specs.Str.{bytes_eq}
-use Rattle.std.proofs.lemmas.Slice.Eq.{bytes_eq-Decides}
-use Rattle.sporc_outside.specs.Uses.{Use}
-use Rattle.sporc_outside.specs.Folders.{FolderTold}
+use Rattle.sporc_top.proofs.Common.{bytes_eq, bytes_eq-Decides, Use, FolderTold, key_file_bytes, Found, StoresFirst, StoresPrefix, file_with, ClientRun, needs_of}
+use Rattle.std.proofs.lemmas.Bool.{cases_Bool}
 use Rattle.sporc_outside.specs.Chances.{ChanceTold}
 use Rattle.sporc_outside.specs.Nets.{NetTold}
 use Rattle.sporc_keys.specs.declared.founding.Founding.{Founding}
 use Rattle.sporc_keys.specs.declared.new_key.NewKey.{NewKey}
-use Rattle.sporc_keys.specs.KeyFile.{key_file_bytes}
 use Rattle.sporc_order.specs.OrderModel.{OrderModel}
 use Rattle.sporc_shared.specs.Items.{Past}
 use Rattle.sporc_words.specs.declared.command.Command.TheVariants as commands
-use Rattle.sporc_words.specs.declared.found.Found.{Found}
 use Rattle.sporc_files.specs.declared.fault.Fault.TheVariants as faults
 use Rattle.sporc_files.specs.declared.file.File.{File}
 use Rattle.sporc_files.specs.declared.file.File.TheVariants as files
-use Rattle.sporc_files.specs.Writing.{StoresFirst, StoresPrefix, file_with}
 use Rattle.sporc_commands.specs.KeyMaking.{IsFilesFault, IsThere, KeygenOutcome, Makes, StoresKey, StoresKeyFile, key_files}
 use Rattle.sporc_docs.specs.Hands.{Both}
 use Rattle.sporc_commands.specs.Moments.{Moment, at_end, folder_between, sink_between}
@@ -31,20 +26,10 @@ use Rattle.sporc_hosting.specs.OpenLogModel.{OpenLogModel}
 use Rattle.sporc_hosting.specs.Saving.{KeepsLogs}
 use Rattle.sporc_clients.specs.Concluding.{FilesUse, SaveOutcome}
 use Rattle.sporc_clients.specs.declared.member_files.MemberFiles.{MemberFiles}
-use Rattle.sporc_clients.specs.Lives.{ClientRun}
 use Rattle.sporc_clients.specs.Outcome.{ClientOutcome, ClientUse, DiskOutcome, files_of, names_of, no_disk, no_member, not_worked, over_disk, with_folder, worked}
-use Rattle.sporc_top.specs.Needs.{needs_of}
-use Rattle.sporc_top.proofs.LeafFiles.{Keeps, kept_back, kept_changes, kept_first, kept_made, kept_prefix, kept_removed, kept_stores, kept_taken, kept_with, not_genesis, not_history, not_key, not_log, not_tail, own_back, own_is, own_tells, rings_others}
+use Rattle.sporc_top.proofs.LeafFiles.{Keeps, kept_back, kept_changes, kept_first, kept_made, kept_prefix, kept_removed, kept_stores, kept_taken, kept_with, not_genesis, not_history, not_key, not_log, not_tail, own_back, own_is, own_tells, rings_others, told_by}
 
 -- ---- told files stay told
-
-told_with : (before after : Option (List NamedFile)) (name bytes : List ℕ) → IsSome before → after ≡ option_map (λ old. with_file old name bytes) before → IsSome after
-told_with None after name bytes told is = absurd cc
-told_with (Some fs) after name bytes told is = rw is refl
-
-told_made : (before after : Option (List NamedFile)) (name : List ℕ) → IsSome before → after ≡ option_map (λ old. made_in old name) before → IsSome after
-told_made None after name told is = absurd cc
-told_made (Some fs) after name told is = rw is refl
 
 told_changes : (before after : Option (List NamedFile)) (name : List ℕ) → IsSome before → ChangesFile before after name → IsSome after
 told_changes None after name told changes = absurd cc
@@ -52,7 +37,7 @@ told_changes (Some fs) None name told changes = absurd changes
 told_changes (Some fs) (Some more) name told changes = refl
 
 told_same : (before after : Option (List NamedFile)) → IsSome before → after ≡ before → IsSome after
-told_same before after told is = subst (λ (o : Option (List NamedFile)). IsSome o) (sym is) told
+told_same before after told is = rw is told
 
 one_lent : (lent : Option (List (List ℕ))) → IsSome lent → (rest : List (List ℕ)) × (lent ≡ Some rest)
 one_lent None told = absurd cc
@@ -61,6 +46,20 @@ one_lent (Some rest) told = (rest, refl)
 module _ (document : List ℕ) (device : Device) where
   abbrev name : List ℕ
   name = leaf_name document device
+
+  -- the leaf file is kept, and what is told of files stays told
+  abbrev Stays : Option (List NamedFile) → Option (List NamedFile) → Type 0
+  Stays before after = Keeps name before after × IsSome after
+
+  same_stays : (before after : Option (List NamedFile)) → IsSome before → after ≡ before → Stays before after
+  same_stays before after told is = (ap (file_at name) is, told_same before after told is)
+
+  with_stays : (before after : Option (List NamedFile)) (other bytes : List ℕ) → IsSome before → bytes_eq other name ≡ false
+      → after ≡ option_map (λ old. with_file old other bytes) before → Stays before after
+  with_stays before after other bytes told differs is = (kept_with name before after other bytes differs is, told_by (λ old. with_file old other bytes) before after told is)
+
+  changes_stays : (before after : Option (List NamedFile)) (other : List ℕ) → IsSome before → bytes_eq other name ≡ false → ChangesFile before after other → Stays before after
+  changes_stays before after other told differs changes = (kept_changes name before after other told differs changes, told_changes before after other told changes)
 
   -- ---- keygen
 
@@ -81,35 +80,24 @@ module _ (document : List ℕ) (device : Device) where
     named e = ap (λ (d : Device). leaf_name words.name d) (sym same) ∙ (bytes_eq-Decides leaf_of_key name).0 e
 
     keys_stored : StoresKey (names_of_document words.name) key before after → KeysLeave words before after answer
-    keys_stored stores = go (bytes_eq leaf_of_key name) refl
-      where
-        go : (b : Bool) → bytes_eq leaf_of_key name ≡ b → KeysLeave words before after answer
-        go true e = inr (named e, inl (subst (λ (n : List ℕ). HasNoFile before n) ((bytes_eq-Decides leaf_of_key name).0 e) stores.new_leaves))
-        go false e = inl (kept_stores name before after (key_files (names_of_document words.name) key) (not_key (names_of_document words.name) document device key.file.device, (e, tt)) stores.stored)
+    keys_stored stores = elim (cases_Bool (bytes_eq leaf_of_key name)) [
+      | inl e ↦ inr (named e, inl (subst (λ (n : List ℕ). HasNoFile before n) ((bytes_eq-Decides leaf_of_key name).0 e) stores.new_leaves))
+      | inr e ↦ inl (kept_stores name before after (key_files (names_of_document words.name) key) (not_key (names_of_document words.name) document device key.file.device, (e, tt)) stores.stored)
+    ]
 
     keys_failed : (between : Option (List NamedFile)) → IsSome before → answer ≡ Err faults.Outside → StoresKeyFile (names_of_document words.name) key before between
         → ChangesFile between after leaf_of_key → KeysLeave words before after answer
-    keys_failed between told outside stores changes = go (bytes_eq leaf_of_key name) refl
-      where
-        go : (b : Bool) → bytes_eq leaf_of_key name ≡ b → KeysLeave words before after answer
-        go true e = inr (named e, inr outside)
-        go false e =
-            inl (kept_changes name between after leaf_of_key (told_with before between _ _ told stores.stored) e changes
-            ∙ key_file_kept (names_of_document words.name) key before between stores)
+    keys_failed between told outside stores changes = elim (cases_Bool (bytes_eq leaf_of_key name)) [
+      | inl e ↦ inr (named e, inr outside)
+      | inr e ↦
+          inl (kept_changes name between after leaf_of_key (told_by _ before between told stores.stored) e changes
+          ∙ key_file_kept (names_of_document words.name) key before between stores)
+    ]
 
   there_kept : (names : FileNames) (key : NewKey) (before after : Option (List NamedFile)) (file : File) → IsThere names key before after file → Keeps name before after
   there_kept names key before after (files.Key m) there = ap (file_at name) there.2
   there_kept names key before after (files.Leaf m) there = key_file_kept names key before after there.2
-  there_kept names key before after files.Genesis never = absurd never
-  there_kept names key before after (files.Ring m) never = absurd never
-  there_kept names key before after (files.History m) never = absurd never
-  there_kept names key before after files.Log never = absurd never
-  there_kept names key before after (files.Script m) never = absurd never
-  there_kept names key before after (files.GenesisOf n) never = absurd never
-  there_kept names key before after (files.LogOf n) never = absurd never
-  there_kept names key before after (files.Document n) never = absurd never
-  there_kept names key before after files.Tail never = absurd never
-  there_kept names key before after (files.TailOf n) never = absurd never
+  there_kept names key before after file never = absurd never
 
   keys_by_fault : (words : Keygen) (key : NewKey) (before after : Option (List NamedFile)) (low high : ℕ) → key.file.device ≡ words.device → IsSome before
       → (fault : Fault) → IsFilesFault (names_of_document words.name) key before after low high fault → KeysLeave words before after (Err fault)
@@ -163,44 +151,31 @@ module _ (document : List ℕ) (device : Device) where
 
   -- ---- serve
 
-  log_kept : (names : FileNames) (folder : Use FolderTold) (out : Use StreamTold) (order : OrderModel) (line : List ℕ) → IsSome folder.before.files
-      → (fault : Fault) → KeepsLog names folder out order line {T = ⊤} (Err fault) → Keeps name folder.before.files folder.after.files
-  log_kept names folder out order line told faults.Memory kept = ap (file_at name) kept.0
-  log_kept names folder out order line told faults.FullFile (full, same, none) = ap (file_at name) same
-  log_kept names folder out order line told faults.Outside (inl (rose, changes, none)) =
-      kept_changes name folder.before.files folder.after.files _ told (not_log names document device) changes
-  log_kept names folder out order line told faults.Outside (inr (saves, rose, wrote)) = kept_with name folder.before.files folder.after.files _ _ (not_log names document device) saves.files
-  log_kept names folder out order line told fault never = absurd never
+  log_stays : (names : FileNames) (folder : Use FolderTold) (out : Use StreamTold) (order : OrderModel) (line : List ℕ) (kept : Result ⊤ Fault) → IsSome folder.before.files
+      → KeepsLog names folder out order line kept → Stays folder.before.files folder.after.files
+  log_stays names folder out order line (Ok done) told (saves, wrote) = with_stays folder.before.files folder.after.files _ _ told (not_log names document device) saves.files
+  log_stays names folder out order line (Err faults.Memory) told kept = same_stays folder.before.files folder.after.files told kept.0
+  log_stays names folder out order line (Err faults.FullFile) told (full, same, none) = same_stays folder.before.files folder.after.files told same
+  log_stays names folder out order line (Err faults.Outside) told (inl (rose, changes, none)) =
+      changes_stays folder.before.files folder.after.files _ told (not_log names document device) changes
+  log_stays names folder out order line (Err faults.Outside) told (inr (saves, rose, wrote)) =
+      with_stays folder.before.files folder.after.files _ _ told (not_log names document device) saves.files
+  log_stays names folder out order line (Err fault) told never = absurd never
 
-  log_keeps : (names : FileNames) (folder : Use FolderTold) (out : Use StreamTold) (order : OrderModel) (line : List ℕ) (kept : Result ⊤ Fault) → IsSome folder.before.files
-      → KeepsLog names folder out order line kept → Keeps name folder.before.files folder.after.files
-  log_keeps names folder out order line (Ok done) told (saves, wrote) = kept_with name folder.before.files folder.after.files _ _ (not_log names document device) saves.files
-  log_keeps names folder out order line (Err fault) told keeps = log_kept names folder out order line told fault keeps
+  -- rounds that each keep it, one behind another
+  rounds_stay : {A : Type 0} (R : Standing A → Round A → Type 0)
+      → ((a : Standing A) (r : Round A) → IsSome a.moment.folder.files → R a r → Stays a.moment.folder.files r.after.moment.folder.files)
+      → (a : Standing A) (rs : List (Round A)) (b : Standing A) → IsSome a.moment.folder.files → GoWell R a rs b → Stays a.moment.folder.files b.moment.folder.files
+  rounds_stay {A} R one a [] b told same = same_stays a.moment.folder.files b.moment.folder.files told (ap (λ (s : Standing A). s.moment.folder.files) same)
+  rounds_stay R one a (r ∷ rs) b told (is, good, others) =
+      let first = one a r told is in
+      let rest = rounds_stay R one r.after rs b first.1 others in
+      (rest.0 ∙ first.0, rest.1)
 
-  log_told : (names : FileNames) (folder : Use FolderTold) (out : Use StreamTold) (order : OrderModel) (line : List ℕ) (kept : Result ⊤ Fault) → IsSome folder.before.files
-      → KeepsLog names folder out order line kept → IsSome folder.after.files
-  log_told names folder out order line (Ok done) told (saves, wrote) = told_with folder.before.files folder.after.files _ _ told saves.files
-  log_told names folder out order line (Err faults.Memory) told kept = told_same folder.before.files folder.after.files told kept.0
-  log_told names folder out order line (Err faults.FullFile) told (full, same, none) = told_same folder.before.files folder.after.files told same
-  log_told names folder out order line (Err faults.Outside) told (inl (rose, changes, none)) = told_changes folder.before.files folder.after.files _ told changes
-  log_told names folder out order line (Err faults.Outside) told (inr (saves, rose, wrote)) = told_with folder.before.files folder.after.files _ _ told saves.files
-  log_told names folder out order line (Err fault) told never = absurd never
-
-  module _ (names : FileNames) (sessions : ℕ) where
-    round_keeps : (a : Standing OrderModel) (r : Round OrderModel) → IsSome a.moment.folder.files → IsRound names sessions a r
-        → Keeps name a.moment.folder.files r.after.moment.folder.files × IsSome r.after.moment.folder.files
-    round_keeps a r told is =
-        let folder = folder_between a.moment r.after.moment in
-        let out = sink_between a.moment r.after.moment in
-        (log_keeps names folder out r.after.held _ r.saved told is.keeps, log_told names folder out r.after.held _ r.saved told is.keeps)
-
-    rounds_keep : (a : Standing OrderModel) (rs : List (Round OrderModel)) (b : Standing OrderModel) → IsSome a.moment.folder.files
-        → GoWell (IsRound names sessions) a rs b → Keeps name a.moment.folder.files b.moment.folder.files × IsSome b.moment.folder.files
-    rounds_keep a [] b told same = (ap (λ (s : Standing OrderModel). file_at name s.moment.folder.files) same, subst (λ (s : Standing OrderModel). IsSome s.moment.folder.files) (sym same) told)
-    rounds_keep a (r ∷ rs) b told (is, good, others) =
-        let one = round_keeps a r told is in
-        let rest = rounds_keep r.after rs b one.1 others in
-        (rest.0 ∙ one.0, rest.1)
+  round_stays : (names : FileNames) (sessions : ℕ) (a : Standing OrderModel) (r : Round OrderModel) → IsSome a.moment.folder.files → IsRound names sessions a r
+      → Stays a.moment.folder.files r.after.moment.folder.files
+  round_stays names sessions a r told is =
+      log_stays names (folder_between a.moment r.after.moment) (sink_between a.moment r.after.moment) r.after.held _ r.saved told is.keeps
 
   tail_removed : (names : FileNames) (folder : Use FolderTold) (given : Result ⊤ Fault) → RemovesTail (file_name names files.Tail) folder given → Keeps name folder.before.files folder.after.files
   tail_removed names folder (Ok done) gone = kept_removed name folder.before.files folder.after.files _ (not_tail names document device) gone
@@ -228,9 +203,10 @@ module _ (document : List ℕ) (device : Device) where
   serve_keeps names sessions times folder out old new answer told (inr served) =
       let start : Standing OrderModel = record { held = served.before; moment = served.opened; net = old } in
       let made = kept_made name folder.before.files served.opened.folder.files _ (not_tail names document device) served.is_opened.files in
-      let told_then = told_made folder.before.files served.opened.folder.files _ told served.is_opened.files in
-      let rounds = rounds_keep names sessions start served.rounds.rounds served.rounds.before told_then served.rounds.well in
-      let last = round_keeps names sessions served.rounds.before served.last rounds.1 served.rounds.last_is in
+      let told_then = told_by _ folder.before.files served.opened.folder.files told served.is_opened.files in
+      let one = round_stays names sessions in
+      let rounds = rounds_stay (IsRound names sessions) one start served.rounds.rounds served.rounds.before told_then served.rounds.well in
+      let last = one served.rounds.before served.last rounds.1 served.rounds.last_is in
       tail_given names (folder_between served.last.after.moment (at_end folder out)) served.logged served.last.after.held.genesis.document served.last.after.held.entries
       served.last.saved served.given served.gives
       ∙ last.0 ∙ rounds.0 ∙ made
@@ -238,14 +214,13 @@ module _ (document : List ℕ) (device : Device) where
   -- ---- serve-all
 
   logs_keep : (names : List (List ℕ)) (orders : List OrderModel) (a b : Moment) (kept : Result ⊤ Fault) → IsSome a.folder.files → KeepsLogs names orders a b kept
-      → Keeps name a.folder.files b.folder.files × IsSome b.folder.files
-  logs_keep [] [] a b kept told (same, answer) = (ap (λ (m : Moment). file_at name m.folder.files) same, subst (λ (m : Moment). IsSome m.folder.files) (sym same) told)
-  logs_keep [] (o ∷ os) a b kept told never = absurd never
-  logs_keep (n ∷ ns) [] a b kept told never = absurd never
+      → Stays a.folder.files b.folder.files
+  logs_keep [] [] a b kept told (same, answer) = same_stays a.folder.files b.folder.files told (ap (λ (m : Moment). m.folder.files) same)
   logs_keep (n ∷ ns) (o ∷ os) a b kept told (mid, one, others, behind, keeps, rest, answer) =
-      let told_then = log_told (names_of_document n) (folder_between a mid) (sink_between a mid) o _ one told keeps in
-      let left = logs_keep ns os mid b others told_then rest in
-      (left.0 ∙ log_keeps (names_of_document n) (folder_between a mid) (sink_between a mid) o _ one told keeps, left.1)
+      let first = log_stays (names_of_document n) (folder_between a mid) (sink_between a mid) o _ one told keeps in
+      let left = logs_keep ns os mid b others first.1 rest in
+      (left.0 ∙ first.0, left.1)
+  logs_keep names orders a b kept told never = absurd never
 
   -- no tail is a leaf file
   no_tail : (names : List (List ℕ)) → IsNoTail names name
@@ -257,11 +232,11 @@ module _ (document : List ℕ) (device : Device) where
   tails_changed names (Some fs) None told changes = absurd changes
   tails_changed names (Some fs) (Some more) told changes = changes name (no_tail names)
 
-  tails_made : (names : List (List ℕ)) (before after : Option (List NamedFile)) → IsSome before → after ≡ with_tails_made names before → Keeps name before after × IsSome after
-  tails_made [] before after told is = (ap (file_at name) is, told_same before after told is)
+  tails_made : (names : List (List ℕ)) (before after : Option (List NamedFile)) → IsSome before → after ≡ with_tails_made names before → Stays before after
+  tails_made [] before after told is = same_stays before after told is
   tails_made (n ∷ ns) before after told is =
       let one = kept_made name before (with_tail_made n before) _ (not_tail (names_of_document n) document device) refl in
-      let told_then = told_made before (with_tail_made n before) _ told refl in
+      let told_then = told_by _ before (with_tail_made n before) told refl in
       let rest = tails_made ns (with_tail_made n before) after told_then is in
       (rest.0 ∙ one, rest.1)
 
@@ -269,28 +244,17 @@ module _ (document : List ℕ) (device : Device) where
       → Both (λ n log. log.name ≡ file_name (names_of_document n) files.Tail) names logs
       → GivesAllBack logs orders saved a b given → Keeps name a.files b.files
   tails_given [] [] [] saved given a b named (same, answer) = ap (λ (t : FolderTold). file_at name t.files) same
-  tails_given [] [] (o ∷ os) saved given a b named never = absurd never
   tails_given [] (l ∷ ls) orders saved given a b named gives = absurd named
   tails_given (n ∷ ns) [] orders saved given a b named gives = absurd named
-  tails_given (n ∷ ns) (l ∷ ls) [] saved given a b named never = absurd never
   tails_given (n ∷ ns) (l ∷ ls) (o ∷ os) saved given a b named (mid, others, one, rest, gives, answer) =
       tail_given (names_of_document n) (record { before = mid; after = b }) l.logged o.genesis.document o.entries saved one
       (subst (λ (m : List ℕ). GivesBack m (record { before = mid; after = b }) l.logged o.genesis.document o.entries saved one) named.0 gives)
       ∙ tails_given ns ls os saved others a mid named.1 rest
+  tails_given names logs orders saved given a b named never = absurd never
 
-  module _ (names : List (List ℕ)) (sessions : ℕ) where
-    all_keeps : (a : Standing (List OrderModel)) (r : Round (List OrderModel)) → IsSome a.moment.folder.files → IsRoundOfAll names sessions a r
-        → Keeps name a.moment.folder.files r.after.moment.folder.files × IsSome r.after.moment.folder.files
-    all_keeps a r told is = logs_keep names r.after.held a.moment r.after.moment r.saved told is.keeps
-
-    all_rounds_keep : (a : Standing (List OrderModel)) (rs : List (Round (List OrderModel))) (b : Standing (List OrderModel)) → IsSome a.moment.folder.files
-        → GoWell (IsRoundOfAll names sessions) a rs b → Keeps name a.moment.folder.files b.moment.folder.files × IsSome b.moment.folder.files
-    all_rounds_keep a [] b told same =
-        (ap (λ (s : Standing (List OrderModel)). file_at name s.moment.folder.files) same, subst (λ (s : Standing (List OrderModel)). IsSome s.moment.folder.files) (sym same) told)
-    all_rounds_keep a (r ∷ rs) b told (is, good, others) =
-        let one = all_keeps a r told is in
-        let rest = all_rounds_keep r.after rs b one.1 others in
-        (rest.0 ∙ one.0, rest.1)
+  all_stay : (names : List (List ℕ)) (sessions : ℕ) (a : Standing (List OrderModel)) (r : Round (List OrderModel)) → IsSome a.moment.folder.files
+      → IsRoundOfAll names sessions a r → Stays a.moment.folder.files r.after.moment.folder.files
+  all_stay names sessions a r told is = logs_keep names r.after.held a.moment r.after.moment r.saved told is.keeps
 
   serve_all_keeps : (names : List (List ℕ)) (sessions times : ℕ) (folder : Use FolderTold)
       (out : Use StreamTold) (old new : NetTold) (answer : Result ⊤ Fault) → IsSome folder.before.files
@@ -300,23 +264,21 @@ module _ (document : List ℕ) (device : Device) where
   serve_all_keeps names sessions times folder out old new answer told (inr served) =
       let start : Standing (List OrderModel) = record { held = served.before; moment = served.opened; net = old } in
       let made = tails_made names folder.before.files served.opened.folder.files told served.is_opened.files in
-      let rounds = all_rounds_keep names sessions start served.rounds.rounds served.rounds.before made.1 served.rounds.well in
-      let last = all_keeps names sessions served.rounds.before served.last rounds.1 served.rounds.last_is in
+      let one = all_stay names sessions in
+      let rounds = rounds_stay (IsRoundOfAll names sessions) one start served.rounds.rounds served.rounds.before made.1 served.rounds.well in
+      let last = one served.rounds.before served.last rounds.1 served.rounds.last_is in
       tails_given names served.logs served.last.after.held served.last.saved served.given served.last.after.moment.folder folder.after served.named served.gives
       ∙ last.0 ∙ rounds.0 ∙ made.0
 
   -- ---- client
 
   -- its history is saved, and nothing else changes while the disk is out
-  abbrev Stays : Option (List NamedFile) → Option (List NamedFile) → Type 0
-  Stays before after = IsSome after × Keeps name before after
-
   saved_stays : (past : Past) (other : List ℕ) (u : FilesUse) (saved : Result ⊤ Fault) → IsSome u.before → bytes_eq other name ≡ false → SaveOutcome past other u saved
       → Stays u.before u.after
-  saved_stays past other u (Ok done) told differs is = (told_with u.before u.after other _ told is, kept_with name u.before u.after other _ differs is)
-  saved_stays past other u (Err faults.Outside) told differs (rose, changes) = (told_changes u.before u.after other told changes, kept_changes name u.before u.after other told differs changes)
-  saved_stays past other u (Err faults.FullFile) told differs (long, same) = (told_same u.before u.after told same, ap (file_at name) same)
-  saved_stays past other u (Err faults.Memory) told differs same = (told_same u.before u.after told same, ap (file_at name) same)
+  saved_stays past other u (Ok done) told differs is = with_stays u.before u.after other _ told differs is
+  saved_stays past other u (Err faults.Outside) told differs (rose, changes) = changes_stays u.before u.after other told differs changes
+  saved_stays past other u (Err faults.FullFile) told differs (long, same) = same_stays u.before u.after told same
+  saved_stays past other u (Err faults.Memory) told differs same = same_stays u.before u.after told same
   saved_stays past other u (Err fault) told differs never = absurd never
 
   module _ {D : Type 0} (disks : D → DiskTold) where
@@ -324,8 +286,7 @@ module _ (document : List ℕ) (device : Device) where
         → DiskOutcome disks words m did first last answer → Stays did.folder.before.files did.folder.after.files
     over_stays words m did first last answer told (worked w) =
         saved_stays w.past (file_name (names_of words) (files.History words.device)) (files_of did) w.saved told (not_history (names_of words) document device words.device) w.saves
-    over_stays words m did first last answer told (not_worked why untouched same kept) =
-        (told_same did.folder.before.files did.folder.after.files told untouched.files, ap (file_at name) untouched.files)
+    over_stays words m did first last answer told (not_worked why untouched same kept) = same_stays did.folder.before.files did.folder.after.files told untouched.files
 
     -- over another leaf file, or over none
     client_keeps : (words : Client) (did : ClientUse) (answer : Result ⊤ Fault) (outcome : ClientOutcome disks words did answer)
@@ -333,16 +294,14 @@ module _ (document : List ℕ) (device : Device) where
         → Keeps name did.folder.before.files did.folder.after.files
     client_keeps words did answer (no_member why same untouched) told lent none = ap (file_at name) untouched.files
     client_keeps words did answer (no_disk m say why same untouched) told lent none = ap (file_at name) untouched.files
-    client_keeps words did answer (over_disk m first last during say lends over) told lent none = go (bytes_eq (leaf_name words.name words.device) name) refl
-      where
-        go : (b : Bool) → bytes_eq (leaf_name words.name words.device) name ≡ b → Keeps name did.folder.before.files did.folder.after.files
-        go true e = let clash = rw e at none in absurd cc
-        go false e =
-            let (rest, is) = one_lent did.folder.before.lent lent in
-            let told_then = subst (λ (o : Option (List NamedFile)). IsSome o) (sym lends.unchanged) told in
-            let stays = over_stays words m (with_folder did during) first last answer told_then over in
-            kept_back name during.after.lent during.after.files did.folder.after.files (disks last).stored (leaf_name words.name words.device) rest
-            (lends.lent ∙ ap (option_map (λ names. leaf_name words.name words.device ∷ names)) is) stays.0 e lends.back ∙ stays.1 ∙ ap (file_at name) lends.unchanged
+    client_keeps words did answer (over_disk m first last during say lends over) told lent none = elim (cases_Bool (bytes_eq (leaf_name words.name words.device) name)) [
+      | inl e ↦ let clash = rw e at none in absurd cc
+      | inr e ↦
+          let (rest, is) = one_lent did.folder.before.lent lent in
+          let stays = over_stays words m (with_folder did during) first last answer (told_same _ _ told lends.unchanged) over in
+          kept_back name during.after.lent during.after.files did.folder.after.files (disks last).stored (leaf_name words.name words.device) rest
+          (lends.lent ∙ ap (option_map (λ names. leaf_name words.name words.device ∷ names)) is) stays.1 e lends.back ∙ stays.0 ∙ ap (file_at name) lends.unchanged
+    ]
 
     -- over this one: the disk that was handed out had the file's bytes, and the file those of the one that came back
     pub record HasBeenOver (before after : Option (List NamedFile)) (run : ClientRun disks) : Type 0 where
@@ -353,8 +312,6 @@ module _ (document : List ℕ) (device : Device) where
     client_has : (words : Client) (did : ClientUse) (answer : Result ⊤ Fault) (outcome : ClientOutcome disks words did answer) (run : ClientRun disks)
         → IsSome did.folder.before.files → IsSome did.folder.before.lent → if_over disks name (over_its_disk disks words did answer outcome) ≡ Some run
         → HasBeenOver did.folder.before.files did.folder.after.files run
-    client_has words did answer (no_member why same untouched) run told lent some = absurd cc
-    client_has words did answer (no_disk m say why same untouched) run told lent some = absurd cc
     client_has words did answer (over_disk m first last during say lends over) run told lent some = go (bytes_eq (leaf_name words.name words.device) name) refl
       where
         own : ClientRun disks
@@ -363,14 +320,13 @@ module _ (document : List ℕ) (device : Device) where
         has : leaf_name words.name words.device ≡ name → HasBeenOver did.folder.before.files did.folder.after.files own
         has called =
             let (rest, is) = one_lent did.folder.before.lent lent in
-            let told_then = subst (λ (o : Option (List NamedFile)). IsSome o) (sym lends.unchanged) told in
-            let stays = over_stays words m (with_folder did during) first last answer told_then over in
+            let stays = over_stays words m (with_folder did during) first last answer (told_same _ _ told lends.unchanged) over in
             let is_disk = subst (λ (n : List ℕ). IsDiskOf did.folder.before.files n (disks first).stored) called lends.is in
             record {
               tells = own_tells name did.folder.before.files (disks first).stored told is_disk;
               first = own_is name did.folder.before.files (disks first).stored told is_disk;
               last = λ tells. own_back name during.after.lent during.after.files did.folder.after.files (disks last).stored rest
-                  (lends.lent ∙ ap (option_map (λ names. leaf_name words.name words.device ∷ names)) is ∙ ap (λ (n : List ℕ). Some (n ∷ rest)) called) stays.0 tells lends.back;
+                  (lends.lent ∙ ap (option_map (λ names. leaf_name words.name words.device ∷ names)) is ∙ ap (λ (n : List ℕ). Some (n ∷ rest)) called) stays.1 tells lends.back;
             }
 
         go : (b : Bool) → bytes_eq (leaf_name words.name words.device) name ≡ b → HasBeenOver did.folder.before.files did.folder.after.files run
@@ -379,6 +335,7 @@ module _ (document : List ℕ) (device : Device) where
             let same : own ≡ run = cc in
             subst (HasBeenOver did.folder.before.files did.folder.after.files) same (has ((bytes_eq-Decides (leaf_name words.name words.device) name).0 e))
         go false e = let clash = rw e at some in absurd cc
+    client_has words did answer outcome run told lent some = absurd cc
 
     -- ---- commands
 
@@ -397,8 +354,6 @@ module _ (document : List ℕ) (device : Device) where
         → ((needs_of asked).files ≡ false → outside.folder.after.files ≡ outside.folder.before.files)
         → IsSome outside.folder.before.files → IsSome outside.folder.before.lent → if_over disks name (by_command disks asked outside answer did) ≡ None
         → CommandLeaves asked outside.folder.before.files outside.folder.after.files answer
-    command_leaves commands.Play outside answer did unused told lent none = inl (ap (file_at name) (unused refl))
-    command_leaves (commands.Generate edits) outside answer did unused told lent none = inl (ap (file_at name) (unused refl))
     command_leaves (commands.Keygen words) outside answer did unused told lent none =
         by_key words outside.folder.before.files outside.folder.after.files answer (keygen_leaves words outside.folder outside.chance outside.out answer told did.outcome)
     command_leaves (commands.Found words) outside answer did unused told lent none = inl (found_keeps words outside.folder outside.chance answer told did.outcome)
@@ -407,28 +362,15 @@ module _ (document : List ℕ) (device : Device) where
     command_leaves (commands.Client words) outside answer did unused told lent none = inl (client_keeps words (client_use outside) answer did.outcome told lent none)
     command_leaves (commands.Check words) outside answer did unused told lent none = inl (ap (file_at name) did.reads.unchanged)
     command_leaves (commands.Compare words) outside answer did unused told lent none = inl (ap (file_at name) did.reads.unchanged)
-    command_leaves (commands.Help page) outside answer did unused told lent none = inl (ap (file_at name) (unused refl))
-    command_leaves commands.Version outside answer did unused told lent none = inl (ap (file_at name) (unused refl))
     command_leaves (commands.Public words) outside answer did unused told lent none = inl (ap (file_at name) did.unchanged)
     command_leaves (commands.Text words) outside answer did unused told lent none = inl (ap (file_at name) did.reads.unchanged)
     command_leaves (commands.Entries words) outside answer did unused told lent none = inl (ap (file_at name) did.reads.unchanged)
     command_leaves (commands.ServeAll words) outside answer did unused told lent none =
         inl (serve_all_keeps words.names words.sessions words.times outside.folder outside.out _ _ answer told did.outcome)
+    command_leaves asked outside answer did unused told lent none = inl (ap (file_at name) (unused refl))
 
     pub command_has : (asked : Command) (outside : OutsideUse) (answer : Result ⊤ Fault) (did : Performs disks asked outside answer) (run : ClientRun disks)
         → IsSome outside.folder.before.files → IsSome outside.folder.before.lent → if_over disks name (by_command disks asked outside answer did) ≡ Some run
         → HasBeenOver outside.folder.before.files outside.folder.after.files run
-    command_has commands.Play outside answer did run told lent some = absurd cc
-    command_has (commands.Generate edits) outside answer did run told lent some = absurd cc
-    command_has (commands.Keygen words) outside answer did run told lent some = absurd cc
-    command_has (commands.Found words) outside answer did run told lent some = absurd cc
-    command_has (commands.Serve words) outside answer did run told lent some = absurd cc
     command_has (commands.Client words) outside answer did run told lent some = client_has words (client_use outside) answer did.outcome run told lent some
-    command_has (commands.Check words) outside answer did run told lent some = absurd cc
-    command_has (commands.Compare words) outside answer did run told lent some = absurd cc
-    command_has (commands.Help page) outside answer did run told lent some = absurd cc
-    command_has commands.Version outside answer did run told lent some = absurd cc
-    command_has (commands.Public words) outside answer did run told lent some = absurd cc
-    command_has (commands.Text words) outside answer did run told lent some = absurd cc
-    command_has (commands.Entries words) outside answer did run told lent some = absurd cc
-    command_has (commands.ServeAll words) outside answer did run told lent some = absurd cc
+    command_has asked outside answer did run told lent some = absurd cc

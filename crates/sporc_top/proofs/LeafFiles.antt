@@ -1,16 +1,14 @@
 -- What commands leave of a leaf file.
-use Rattle.std.proofs.Common.{◌≡◌, ◌≢◌, inl, inr, ℕ, List, [], ◌∷◌, ◌++◌, Bool, true, false, map, Option, Some, None, IsSome, option_map, refl, ap, sym, subst, ◌∙◌, arith, codes}
+use Rattle.std.proofs.Common.{◌≡◌, ◌≢◌, inl, inr, ℕ, List, [], ◌∷◌, ◌++◌, false, map, Option, Some, None, IsSome, option_map, refl, ap, sym, subst, ◌∙◌, arith, codes}
 use Rattle.sporc_top.proofs.Common.{AllByRecursion, ChangesFile, IsDiskOf, RemovesFile, TakesBack, TakesFile, file_in, made_in, with_file, NamedFile, Device, FileNames, file_name, names_of_document}
-use Rattle.sporc_top.proofs.Common.{ring_of_founding, file_at, leaf_name}
+use Rattle.sporc_top.proofs.Common.{ring_of_founding, file_at, leaf_name, false_from_ne_true, bytes_eq, bytes_eq-Decides, Stores, StoresFirst, StoresPrefix, with_files, with_one}
+use Rattle.std.proofs.lemmas.Bool.{cases_Bool}
 use Rattle.std.specs.Fmt.{decimal}
-use Rattle.std.specs.Str.{bytes_eq}
-use Rattle.std.proofs.lemmas.Slice.Eq.{bytes_eq-Decides}
 use Rattle.sporc_outside.proofs.Files.{file_in-other, file_in-without}
 use Rattle.sporc_keys.specs.declared.ring_file.RingFile.{RingFile}
 use Rattle.sporc_script.specs.Spelling.{DeviceInRange, device_text}
 use Rattle.sporc_files.specs.declared.file.File.TheVariants as files
 use Rattle.sporc_files.proofs.NamesApart.{names_apart}
-use Rattle.sporc_files.specs.Writing.{Stores, StoresFirst, StoresPrefix, with_files, with_one}
 use Rattle.sporc_commands.proofs.Opened.{made_other, put_other}
 
 -- ---- names that end otherwise
@@ -21,9 +19,8 @@ last_of (x ∷ []) = x
 last_of (x ∷ y ∷ ys) = last_of (y ∷ ys)
 
 last_more : (xs : List ℕ) (y : ℕ) (ys : List ℕ) → last_of (xs ++ y ∷ ys) ≡ last_of (y ∷ ys)
-last_more [] y ys = refl
-last_more (x ∷ []) y ys = refl
 last_more (x ∷ z ∷ zs) y ys = last_more (z ∷ zs) y ys
+last_more xs y ys = refl
 
 -- what stands between two dots
 last_dotted : (stem : List ℕ) (text : List ℕ) (y : ℕ) (ys : List ℕ) → last_of (stem ++ (codes "." ++ (text ++ y ∷ ys))) ≡ last_of (y ∷ ys)
@@ -34,11 +31,8 @@ leaf_ends : (document : List ℕ) (device : Device) → last_of (leaf_name docum
 leaf_ends document device = last_dotted document (device_text device) 46 (codes "leaf")
 
 apart : (other document : List ℕ) (device : Device) (n : ℕ) → last_of other ≡ n → n ≢ 102 → bytes_eq other (leaf_name document device) ≡ false
-apart other document device n ends differs = go (bytes_eq other (leaf_name document device)) refl
-  where
-    go : (b : Bool) → bytes_eq other (leaf_name document device) ≡ b → bytes_eq other (leaf_name document device) ≡ false
-    go true same = absurd (differs (sym ends ∙ ap last_of ((bytes_eq-Decides other (leaf_name document device)).0 same) ∙ leaf_ends document device))
-    go false is = is
+apart other document device n ends differs = false_from_ne_true (bytes_eq other (leaf_name document device)) (λ same.
+    differs (sym ends ∙ ap last_of ((bytes_eq-Decides other (leaf_name document device)).0 same) ∙ leaf_ends document device))
 
 module _ (names : FileNames) (document : List ℕ) (device : Device) where
   pub not_genesis : bytes_eq (file_name names files.Genesis) (leaf_name document device) ≡ false
@@ -64,6 +58,12 @@ pub leaf_names_apart : (document : List ℕ) (one other : Device) → DeviceInRa
 leaf_names_apart document one other is is_other same =
     let leaves : files.Leaf one ≡ files.Leaf other = names_apart (names_of_document document) (files.Leaf one) (files.Leaf other) is is_other same in
     cc
+
+-- ---- told files stay told
+
+pub told_by : (change : List NamedFile → List NamedFile) (before after : Option (List NamedFile)) → IsSome before → after ≡ option_map change before → IsSome after
+told_by change None after told is = absurd cc
+told_by change (Some fs) after told is = rw is refl
 
 -- ---- what stands at a name
 
@@ -100,15 +100,11 @@ module _ (name : List ℕ) where
   kept_first before after (f ∷ new) others (inl same) = ap (file_at name) same
   kept_first before after (f ∷ new) others (inr more) = kept_first (option_map (λ files. with_one files f) before) after new others.1 more ∙ kept_one before f others.0
 
-  told_one : (before : Option (List NamedFile)) (f : NamedFile) → IsSome before → IsSome (option_map (λ files. with_one files f) before)
-  told_one None f told = absurd cc
-  told_one (Some fs) f told = refl
-
   pub kept_prefix : (before after : Option (List NamedFile)) (new : List NamedFile) → IsSome before → AreOthers new → StoresPrefix new before after → Keeps before after
   kept_prefix before after [] told others same = ap (file_at name) same
   kept_prefix before after (f ∷ new) told others (inl changes) = kept_changes before after f.name told others.0 changes
   kept_prefix before after (f ∷ new) told others (inr more) =
-      kept_prefix (option_map (λ files. with_one files f) before) after new (told_one before f told) others.1 more ∙ kept_one before f others.0
+      kept_prefix (option_map (λ files. with_one files f) before) after new (told_by _ before _ told refl) others.1 more ∙ kept_one before f others.0
 
   -- ---- a file that is appended to
 
@@ -119,9 +115,8 @@ module _ (name : List ℕ) where
 
   -- was taken back
   pub kept_taken : (before after : Option (List NamedFile)) (stored : Option (List ℕ)) (other : List ℕ) → bytes_eq other name ≡ false → TakesFile other stored before after → Keeps before after
-  kept_taken None after stored other differs back = ap (file_at name) back
-  kept_taken (Some fs) after None other differs back = ap (file_at name) back
   kept_taken (Some fs) after (Some bytes) other differs back = ap (file_at name) back ∙ put_other fs other bytes name differs
+  kept_taken before after stored other differs back = ap (file_at name) back
 
   -- was removed
   pub kept_removed : (before after : Option (List NamedFile)) (other : List ℕ) → bytes_eq other name ≡ false → RemovesFile other before after → Keeps before after
@@ -141,11 +136,7 @@ module _ (name : List ℕ) where
 
   file_in-own : (fs : List NamedFile) (bytes : List ℕ) → file_in (with_file fs name bytes) name ≡ Some bytes
   file_in-own [] bytes = rw (bytes_eq-Decides name name).1 refl
-  file_in-own (f ∷ fs) bytes = go (bytes_eq f.name name) refl (file_in-own fs bytes)
-    where
-      go : (b : Bool) → bytes_eq f.name name ≡ b → file_in (with_file fs name bytes) name ≡ Some bytes → file_in (with_file (f ∷ fs) name bytes) name ≡ Some bytes
-      go true e more = rw (e, e) refl
-      go false e more = rw (e, e) more
+  file_in-own (f ∷ fs) bytes = elim (cases_Bool (bytes_eq f.name name)) [ inl e ↦ rw (e, e) refl | inr e ↦ rw (e, e) (file_in-own fs bytes) ]
 
   -- its own has the file's bytes
   pub own_is : (before : Option (List NamedFile)) (stored : Option (List ℕ)) → IsSome before → IsDiskOf before name stored → stored ≡ file_at name before
@@ -161,10 +152,9 @@ module _ (name : List ℕ) where
   -- and the file its bytes
   pub own_back : (lent : Option (List (List ℕ))) (before after : Option (List NamedFile)) (stored : Option (List ℕ)) (rest : List (List ℕ))
       → lent ≡ Some (name ∷ rest) → IsSome before → IsSome stored → TakesBack lent before after stored → file_at name after ≡ stored
-  own_back lent None after stored rest is told tells back = absurd cc
-  own_back lent (Some fs) after None rest is told tells back = absurd cc
   own_back lent (Some fs) after (Some bytes) rest is told tells back =
       ap (file_at name) (subst (λ (l : Option (List (List ℕ))). TakesBack l (Some fs) after (Some bytes)) is back) ∙ file_in-own fs bytes
+  own_back lent before after stored rest is told tells back = absurd cc
 
 -- the rings of a founding are no leaf file
 pub rings_others : (names : FileNames) (document : List ℕ) (device : Device) (rings : List RingFile)

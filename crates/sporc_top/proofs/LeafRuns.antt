@@ -2,14 +2,12 @@
 use Rattle.std.proofs.Common.{◌≡◌, ◌≢◌, ◌⊎◌, inl, inr, ℕ, ◌<◌, List, [], ◌∷◌, ◌++◌, map, false, Option, Some, None, IfSome, IsSome, AllPairs, Result, Ok, Err, refl, ap, sym, subst, ◌∙◌}
 use Rattle.sporc_top.proofs.Common.{⊤, HasNoFile, DiskTold, IsDiskFound, disk_images, NamedFile, Device, Command, Keygen, command_of, Fault, status_of, AreProgramRuns, FindsLeafFile, GoesOnOver}
 use Rattle.sporc_top.proofs.Common.{LeavesLeafFile, MakesLeafFile, ProgramRun, SignOnceOverRuns, all_signed_over, behind_then, by_end, by_outcome, file_at, if_over, leaf_name, life_of, over_leaf_file}
-use Rattle.sporc_top.proofs.Common.{signed_over, Ends, RunOutcome, command, done, no_command, stopped, unread, Performs, names_of, OutsideUse}
+use Rattle.sporc_top.proofs.Common.{signed_over, Ends, RunOutcome, command, done, no_command, stopped, unread, Performs, names_of, OutsideUse, FolderTold, AreRuns, ClientRun, all_signed}
+use Rattle.sporc_top.proofs.Common.{life_of_client, needs_by, needs_of}
 use Rattle.lms_leaf.specs.Lives.{GoesOn}
-use Rattle.sporc_outside.specs.Folders.{FolderTold}
 use Rattle.sporc_words.specs.declared.command.Command.TheVariants as commands
 use Rattle.sporc_files.specs.declared.fault.Fault.TheVariants as faults
-use Rattle.sporc_clients.specs.Lives.{AreRuns, ClientRun, all_signed, life_of as life_of_client}
 use Rattle.sporc_clients.proofs.Lives.{sign_once}
-use Rattle.sporc_top.specs.Needs.{needs_by, needs_of}
 use Rattle.sporc_top.proofs.LeafCommands.{CommandLeaves, HasBeenOver, command_has, command_leaves}
 
 module _ (document : List ℕ) (device : Device) where
@@ -33,23 +31,16 @@ module _ (document : List ℕ) (device : Device) where
     by_answer words outside status asked answer asks six (inr (key, is, called, inl none)) = inr (key, asks ∙ ap (λ (c : Command). Some c) is, called, inl none)
     by_answer words outside status asked answer asks six (inr (key, is, called, inr failed)) = inr (key, asks ∙ ap (λ (c : Command). Some c) is, called, inr (six failed))
 
-    ok_is_none : {P : Type 0} → ◌≡◌ {A = Result ⊤ Fault} (Ok tt) (Err faults.Outside) → P
-    ok_is_none same = absurd cc
-
-    outside_is_six : (fault : Fault) → ◌≡◌ {A = Result ⊤ Fault} (Err fault) (Err faults.Outside) → status_of fault ≡ 6
-    outside_is_six fault same =
-        let is : fault ≡ faults.Outside = cc in
-        ap status_of is
-
     end_leaves : (words : List (List ℕ)) (outside : OutsideUse) (status : ℕ) (asked : Command) → command_of words ≡ Some asked
         → (ends : Ends (λ out. Performs disks asked (record outside { out = out })) (names_of asked) outside.out status)
         → ((needs_of asked).files ≡ false → outside.folder.after.files ≡ outside.folder.before.files)
         → IsSome outside.folder.before.files → IsSome outside.folder.before.lent → if_over disks name (by_end disks asked outside status ends) ≡ None
         → Leaves words outside status
     end_leaves words outside status asked asks (done did) unused told lent none =
-        by_answer words outside status asked (Ok tt) asks ok_is_none (command_leaves document device disks asked outside (Ok tt) did unused told lent none)
+        by_answer words outside status asked (Ok tt) asks (λ same. absurd cc) (command_leaves document device disks asked outside (Ok tt) did unused told lent none)
     end_leaves words outside status asked asks (stopped {fault} {between} did since line till) unused told lent none =
-        by_answer words outside status asked (Err fault) asks (outside_is_six fault) (command_leaves document device disks asked _ (Err fault) did unused told lent none)
+        by_answer words outside status asked (Err fault) asks (λ same. let is : fault ≡ faults.Outside = cc in ap status_of is)
+        (command_leaves document device disks asked _ (Err fault) did unused told lent none)
 
     end_has : (outside : OutsideUse) (status : ℕ) (asked : Command) (run : ClientRun disks)
         → (ends : Ends (λ out. Performs disks asked (record outside { out = out })) (names_of asked) outside.out status)
@@ -72,9 +63,8 @@ module _ (document : List ℕ) (device : Device) where
     outcome_has : (words : List (List ℕ)) (outside : OutsideUse) (status : ℕ) (outcome : RunOutcome disks words outside status) (run : ClientRun disks)
         → IsSome outside.folder.before.files → IsSome outside.folder.before.lent → if_over disks name (by_outcome disks words outside status outcome) ≡ Some run
         → HasBeenOver document device disks outside.folder.before.files outside.folder.after.files run
-    outcome_has words outside status (no_command asks unused line) run told lent some = absurd cc
-    outcome_has words outside status (unread unused line) run told lent some = absurd cc
     outcome_has words outside status (command {asked} asks ends) run told lent some = end_has outside status asked run ends told lent some
+    outcome_has words outside status outcome run told lent some = absurd cc
 
     pub leaves_leaf_file : (run : ProgramRun disks) → IsSome run.outside.folder.before.files → IsSome run.outside.folder.before.lent
         → over_leaf_file disks name run ≡ None → LeavesLeafFile disks name run
@@ -120,9 +110,8 @@ module _ (document : List ℕ) (device : Device) where
 
     -- the next disk is found there
     abbrev IsNext : Option D → List (ClientRun disk_told) → Type 0
-    IsNext None lives = ⊤
-    IsNext (Some last) [] = ⊤
     IsNext (Some last) (life ∷ lives) = IsDiskFound disk_told last (disk_told last).moment life.first
+    IsNext _ _ = ⊤
 
     goes_on : (life : ClientRun disk_told) (lives : List (ClientRun disk_told)) → IsNext (Some life.last) lives
         → GoesOn disk_told (life_of_client disk_told life) (map (life_of_client disk_told) lives)

@@ -1,10 +1,9 @@
 -- What a source that tells its bytes calls for.
 use Rattle.std.proofs.Common.{◌≡◌, ℕ, ◌+◌, ◌<◌, ◌≤◌, ◌⊎◌, true, List, ◌++◌, length, Option, Some, None, Result, Ok, Err, refl, sym, ap, ◌∙◌, subst, inl, inr, arith, append-nil, length-append}
 use Rattle.sporc_top.proofs.Common.{⊤, IsUnwritten, StreamTold, DiskTold, Command, command_of, Fault, WritesFaultLine, status_of, fault_line, Ends, RunOutcome, UnlessCutOff, command, done, no_command}
-use Rattle.sporc_top.proofs.Common.{stopped, unread, GeneratedOutcome, Performs, PlaysEdits, PlaysSource, as_program, fault_of_play, names_of, no_files, OutsideUse}
+use Rattle.sporc_top.proofs.Common.{stopped, unread, GeneratedOutcome, Performs, PlaysEdits, PlaysSource, as_program, fault_of_play, names_of, no_files, OutsideUse, from, until, same_Some, Use}
 use Rattle.std.specs.Io.KnownBytes.{Appends, Consumes, IsAtEnd}
 use Rattle.sporc_outside.specs.Counts.{Rose}
-use Rattle.sporc_outside.specs.Uses.{Use}
 use Rattle.sporc_outside.specs.Writing.{AppendsPrefix}
 use Rattle.sporc_outside.specs.Reading.{ConsumesExactly}
 use Rattle.sporc_script.specs.declared.command.Command.{Command as PlayCommand}
@@ -25,7 +24,6 @@ use Rattle.sporc_play.specs.Report.{Reports}
 use Rattle.sporc_play.specs.Scene.{commands_of}
 use Rattle.sporc_words.specs.declared.command.Command.TheVariants as commands
 use Rattle.sporc_files.specs.declared.fault.Fault.TheVariants as faults
-use Rattle.sporc_clients.specs.Uses.{from, until}
 use Rattle.sporc_top.specs.Plays.{IsPlayed}
 
 -- ---- what was read
@@ -35,8 +33,7 @@ all_of : (left left' : Option (List ℕ)) (text read : List ℕ) → left ≡ So
 all_of None left' text read tells all ended = cc
 all_of (Some xs) None text read tells all ended = absurd all
 all_of (Some xs) (Some ys) text read tells all ended =
-    let same : xs ≡ text = cc in
-    sym (sym same ∙ all ∙ ap (λ zs. read ++ zs) ended ∙ append-nil read)
+    sym (sym (same_Some xs text tells) ∙ all ∙ ap (λ zs. read ++ zs) ended ∙ append-nil read)
 
 whole_of : (source : Use StreamTold) (text read : List ℕ) → source.before.left ≡ Some text → ReadsWhole source read → read ≡ text
 whole_of source text read tells whole = all_of source.before.left source.after.left text read tells whole.all whole.ended
@@ -45,8 +42,7 @@ no_more : (n : ℕ) (left left' : Option (List ℕ)) (text : List ℕ) → left 
 no_more n None left' text tells taken = cc
 no_more n (Some xs) None text tells taken = absurd taken.2
 no_more n (Some xs) (Some ys) text tells taken =
-    let same : xs ≡ text = cc in
-    omega (arith, ap length same, ap length taken.2, length-append taken.0 ys, taken.1)
+    omega (arith, ap length (same_Some xs text tells), ap length taken.2, length-append taken.0 ys, taken.1)
 
 -- ---- the line of a fault before which nothing was written
 
@@ -71,10 +67,7 @@ by_cause source out fault Q (Err cause) same outcome then =
 
 not_done : (cause : PlayFault) → ¬ (status_of (fault_of_play cause) ≡ 0)
 not_done playing.Memory none = absurd cc
-not_done playing.ReadFault none = absurd cc
-not_done playing.WriteFault none = absurd cc
-not_done (playing.LineFault k) none = absurd cc
-not_done playing.TooLong none = absurd cc
+not_done cause none = absurd cc
 
 -- a text is a script, whose report was written, and whose play is one run
 abbrev IsAgreed : List ℕ → Use StreamTold → Type 0
@@ -119,68 +112,56 @@ module _ (source : Use StreamTold) (text : List ℕ) (tells : source.before.left
   long : (read : List ℕ) (limit : ℕ) → limit < length text → ReadsWhole source read → length read ≤ limit → ⊥
   long read limit above whole within = let same = whole_of source text read tells whole in omega (arith, ap length same)
 
-  -- a play that was done is of the script
-  done_script : (out : Use StreamTold) (script : List PlayLine) (played : Result ⊤ PlayFault) → IsPlayScript text script → PlayOutcome source out played → Ok tt ≡ as_program played
-      → Reports script out.before.written out.after.written
-  done_script out script (Ok x) is plays same = as_script out script is plays
-  done_script out script (Err fault) is plays same = absurd cc
+  -- a text that is too long is no play
+  no_long : (out : Use StreamTold) → MAX_SCRIPT < length text → ¬ (Plays source out)
+  no_long out above (own, reads, written) = long reads.text MAX_SCRIPT above reads.whole reads.whole.within
 
-  done_agreed : (out : Use StreamTold) (played : Result ⊤ PlayFault) → PlayOutcome source out played → Ok tt ≡ as_program played → IsAgreed text out
-  done_agreed out (Ok x) plays same = agreed_script out plays
-  done_agreed out (Err fault) plays same = absurd cc
-
-  done_fault : (out : Use StreamTold) (k : ℕ) (played : Result ⊤ PlayFault) → IsPlayFault text k → PlayOutcome source out played → ¬ (Ok tt ≡ as_program played)
-  done_fault out k (Ok x) outside plays same = no_script out k outside plays
-  done_fault out k (Err fault) outside plays same = absurd cc
-
-  done_long : (out : Use StreamTold) (played : Result ⊤ PlayFault) → MAX_SCRIPT < length text → PlayOutcome source out played → ¬ (Ok tt ≡ as_program played)
-  done_long out (Ok x) above (own, reads, written) same = long reads.text MAX_SCRIPT above reads.whole reads.whole.within
-  done_long out (Err fault) above plays same = absurd cc
+  -- a play that was done
+  done_is : (out : Use StreamTold) (played : Result ⊤ PlayFault) → PlayOutcome source out played → Ok tt ≡ as_program played → Plays source out
+  done_is out (Ok x) plays same = plays
+  done_is out (Err fault) plays same = absurd cc
 
   -- by its fault, one that was stopped
   stopped_script : (out : Use StreamTold) (script : List PlayLine) (fault : PlayFault) (P : Type 0) → length text ≤ MAX_SCRIPT → IsPlayScript text script
       → PlayOutcome {T = ⊤} source out (Err fault) → UnlessCutOff (status_of (fault_of_play fault)) P
   stopped_script out script playing.Memory P within is plays = inr (inl refl)
-  stopped_script out script playing.ReadFault P within is plays = inr (inr refl)
-  stopped_script out script playing.WriteFault P within is plays = inr (inr refl)
   stopped_script out script (playing.LineFault k) P within is (outside, none) = absurd (no_fault script k is outside)
   stopped_script out script playing.TooLong P within is (taken, none) = absurd (short MAX_SCRIPT within taken)
+  stopped_script out script fault P within is plays = inr (inr refl)
 
   stopped_fault : (out : Use StreamTold) (between : StreamTold) (k : ℕ) (fault : PlayFault) → length text ≤ MAX_SCRIPT → IsPlayFault text k
       → PlayOutcome {T = ⊤} source (until between out) (Err fault) → WritesFaultLine (from between out) no_files (fault_of_play fault)
       → UnlessCutOff (status_of (fault_of_play fault)) ((status_of (fault_of_play fault) ≡ 3) × WritesFaultLine out no_files (faults.Line k))
   stopped_fault out between k playing.Memory within outside plays line = inr (inl refl)
-  stopped_fault out between k playing.ReadFault within outside plays line = inr (inr refl)
-  stopped_fault out between k playing.WriteFault within outside plays line = inr (inr refl)
   stopped_fault out between k (playing.LineFault j) within outside (found, none) line =
       inl (refl, subst (λ (n : ℕ). WritesFaultLine out no_files (faults.Line n)) (same_line k j outside found) (told_alone out between (faults.Line j) none line))
   stopped_fault out between k playing.TooLong within outside (taken, none) line = absurd (short MAX_SCRIPT within taken)
+  stopped_fault out between k fault within outside plays line = inr (inr refl)
 
   stopped_long : (out : Use StreamTold) (between : StreamTold) (fault : PlayFault) → MAX_SCRIPT < length text
       → PlayOutcome {T = ⊤} source (until between out) (Err fault) → WritesFaultLine (from between out) no_files (fault_of_play fault)
       → UnlessCutOff (status_of (fault_of_play fault)) ((status_of (fault_of_play fault) ≡ 3) × WritesFaultLine out no_files faults.LongScript)
   stopped_long out between playing.Memory above plays line = inr (inl refl)
-  stopped_long out between playing.ReadFault above plays line = inr (inr refl)
-  stopped_long out between playing.WriteFault above plays line = inr (inr refl)
   stopped_long out between (playing.LineFault j) above ((read, whole, found), none) line = absurd (long read MAX_SCRIPT above whole whole.within)
   stopped_long out between playing.TooLong above (taken, none) line = inl (refl, told_alone out between faults.LongScript none line)
+  stopped_long out between fault above plays line = inr (inr refl)
 
   -- by its status
   ended_script : (out : Use StreamTold) (script : List PlayLine) (status : ℕ) → length text ≤ MAX_SCRIPT → IsPlayScript text script → Ends (PlaysSource source) no_files out status
       → UnlessCutOff status ((status ≡ 0) × Reports script out.before.written out.after.written)
-  ended_script out script status within is (done did) = inl (refl, done_script out script did.played is did.outcome did.answer_is)
+  ended_script out script status within is (done did) = inl (refl, as_script out script is (done_is out did.played did.outcome did.answer_is))
   ended_script out script status within is (stopped {fault} {between} did since line till) =
       by_cause source (until between out) fault (λ f. UnlessCutOff (status_of f) ((status_of f ≡ 0) × Reports script out.before.written out.after.written)) did.played did.answer_is did.outcome
       (λ cause outcome. stopped_script (until between out) script cause ((status_of (fault_of_play cause) ≡ 0) × Reports script out.before.written out.after.written) within is outcome)
 
   ended_agreed : (out : Use StreamTold) (status : ℕ) → status ≡ 0 → Ends (PlaysSource source) no_files out status → IsAgreed text out
-  ended_agreed out status zero (done did) = done_agreed out did.played did.outcome did.answer_is
+  ended_agreed out status zero (done did) = agreed_script out (done_is out did.played did.outcome did.answer_is)
   ended_agreed out status zero (stopped {fault} {between} did since line till) =
       absurd (by_cause source (until between out) fault (λ f. ¬ (status_of f ≡ 0)) did.played did.answer_is did.outcome (λ cause outcome. not_done cause) zero)
 
   ended_fault : (out : Use StreamTold) (k status : ℕ) → length text ≤ MAX_SCRIPT → IsPlayFault text k → Ends (PlaysSource source) no_files out status
       → UnlessCutOff status ((status ≡ 3) × WritesFaultLine out no_files (faults.Line k))
-  ended_fault out k status within outside (done did) = absurd (done_fault out k did.played outside did.outcome did.answer_is)
+  ended_fault out k status within outside (done did) = absurd (no_script out k outside (done_is out did.played did.outcome did.answer_is))
   ended_fault out k status within outside (stopped {fault} {between} did since line till) =
       by_cause source (until between out) fault
       (λ f. WritesFaultLine (from between out) no_files f → UnlessCutOff (status_of f) ((status_of f ≡ 3) × WritesFaultLine out no_files (faults.Line k)))
@@ -188,7 +169,7 @@ module _ (source : Use StreamTold) (text : List ℕ) (tells : source.before.left
 
   ended_long : (out : Use StreamTold) (status : ℕ) → MAX_SCRIPT < length text → Ends (PlaysSource source) no_files out status
       → UnlessCutOff status ((status ≡ 3) × WritesFaultLine out no_files faults.LongScript)
-  ended_long out status above (done did) = absurd (done_long out did.played above did.outcome did.answer_is)
+  ended_long out status above (done did) = absurd (no_long out above (done_is out did.played did.outcome did.answer_is))
   ended_long out status above (stopped {fault} {between} did since line till) =
       by_cause source (until between out) fault
       (λ f. WritesFaultLine (from between out) no_files f → UnlessCutOff (status_of f) ((status_of f ≡ 3) × WritesFaultLine out no_files faults.LongScript))
@@ -202,10 +183,8 @@ done_edits n out (Err fault) outcome same = absurd cc
 
 stopped_cause : (n : ℕ) (out : Use StreamTold) (cause : PlayFault) (P : Type 0) → GeneratedFault n out cause → UnlessCutOff (status_of (fault_of_play cause)) P
 stopped_cause n out playing.Memory P fails = inr (inl refl)
-stopped_cause n out playing.ReadFault P fails = absurd fails
 stopped_cause n out playing.WriteFault P fails = inr (inr refl)
-stopped_cause n out (playing.LineFault k) P fails = absurd fails
-stopped_cause n out playing.TooLong P fails = absurd fails
+stopped_cause n out cause P fails = absurd fails
 
 stopped_edits : (n : ℕ) (out : Use StreamTold) (fault : Fault) (P : Type 0) (played : Result ⊤ PlayFault) → GeneratedOutcome n out played → Err fault ≡ as_program played
     → UnlessCutOff (status_of fault) P
@@ -223,19 +202,12 @@ ended_edits n out status (stopped {fault} {between} did since line till) =
 
 -- the words ask for one command
 one_command : (words : List (List ℕ)) (asked other : Command) → command_of words ≡ Some asked → command_of words ≡ Some other → asked ≡ other
-one_command words asked other is also =
-    let both : Some asked ≡ Some other = sym is ∙ also in
-    cc
-
-not_none : (words : List (List ℕ)) (asked : Command) → command_of words ≡ Some asked → ¬ (command_of words ≡ None)
-not_none words asked is none =
-    let both : Some asked ≡ None = sym is ∙ none in
-    absurd cc
+one_command words asked other is also = cc
 
 -- what comes of a command, or memory ran out before the words were read
 by_command : {D : Type 0} (disks : D → DiskTold) (words : List (List ℕ)) (outside : OutsideUse) (status : ℕ) (asked : Command) → RunOutcome disks words outside status
     → command_of words ≡ Some asked → (status ≡ 1) ⊎ Ends (λ out. Performs disks asked (record outside { out = out })) (names_of asked) outside.out status
-by_command disks words outside status asked (no_command none unused line) asks = absurd (not_none words asked asks none)
+by_command disks words outside status asked (no_command none unused line) asks = absurd cc
 by_command disks words outside status asked (unread unused line) asks = inl refl
 by_command disks words outside status asked (command {asked = other} is ends) asks =
     inr (subst (λ (c : Command). Ends (λ out. Performs disks c (record outside { out = out })) (names_of c) outside.out status) (one_command words other asked is asks) ends)

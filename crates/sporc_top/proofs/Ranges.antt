@@ -1,8 +1,7 @@
 -- The values of a command are in their ranges.
 use Rattle.std.proofs.Common.{◌≡◌, ◌≤◌, ◌==◌, ℕ, Bool, true, false, nat_le, nat_lt, ◌^◌, List, [], ◌∷◌, length, Option, Some, None, find, option_map, refl, sym, ap, ◌∙◌, subst, inl, inr, if◌then◌else◌, codes, arith, slice_get}
-use Rattle.sporc_top.proofs.Common.{AllByRecursion, after_first, before_first, Client, Command, Keygen, MayFound}
-use Rattle.std.proofs.lemmas.Bool.{and_parts, leb-true, ltb-true}
-use Rattle.std.proofs.lemmas.Option.{cond_some, same_Some}
+use Rattle.sporc_top.proofs.Common.{AllByRecursion, after_first, before_first, Client, Command, Keygen, MayFound, and_parts, leb-true, ltb-true, Serve, ServeAll, cond_some, same_Some, IsKeyWidth}
+use Rattle.sporc_top.proofs.Common.{Found}
 use Rattle.clap.specs.Walk.{Row, Text, first_of}
 use Rattle.lms_leaf.specs.LeafFile.{IsLeafHeight}
 use Rattle.lms_ots.specs.declared.ots_type.OtsType.{OtsType}
@@ -12,7 +11,6 @@ use Rattle.lms_tree.specs.declared.lms_type.LmsType.{LmsType}
 use Rattle.lms_tree.specs.declared.lms_type.LmsType.TheVariants.{H5, H10, H15}
 use Rattle.lms_tree.specs.LmsType.{height_of}
 use Rattle.sporc_member.specs.Device.{IsMember}
-use Rattle.sporc_keys.specs.KeyFile.{IsKeyWidth}
 use Rattle.sporc_script.specs.declared.limits.TheConstants.{MAX_EDITORS, MAX_GENERATED}
 use Rattle.sporc_script.specs.Readers.{device_of, is_member, passing, then_read, member_of, u32_of}
 use Rattle.sporc_script.specs.Words.{number_of}
@@ -21,10 +19,7 @@ use Rattle.sporc_wire.specs.declared.limits.TheConstants.{MAX_DOCUMENTS, MAX_SES
 use Rattle.sporc_words.specs.declared.command.Command.TheVariants as commands
 use Rattle.sporc_words.specs.declared.command.Verb.{Verb}
 use Rattle.sporc_words.specs.declared.command.Verb.TheVariants as verbs
-use Rattle.sporc_words.specs.declared.found.Found.{Found}
 use Rattle.sporc_words.specs.declared.standing.Participant.{Participant}
-use Rattle.sporc_words.specs.declared.serve.Serve.{Serve}
-use Rattle.sporc_words.specs.declared.serve_all.ServeAll.{ServeAll}
 use Rattle.sporc_words.specs.declared.defaults.TheConstants.{DEFAULT_ROUNDS, DEFAULT_TIMES, DEFAULT_UNTIL}
 use Rattle.sporc_words.specs.Arguments.{check_app, client_app, compare_app, entries_app, found_app, keygen_app, play_app, public_app, serve_all_app, serve_app, taken, text_app}
 use Rattle.sporc_words.specs.Commands.{check_in, client_in, command_by, command_of, compare_in, documents_of, entries_in, found_in, found_or, keygen_in, play_by, play_in, public_in, scripts_of, serve_all_in, serve_in, text_in, work_in}
@@ -59,15 +54,9 @@ a_member word n is =
     (ltb-true 0 n sides.0, ltb-true n (2 ^ 16) sides.1)
 
 one_of_three : (x y z : Bool) (t : LmsType) → (if x then Some H5 else if y then Some H10 else if z then Some H15 else None) ≡ Some t → IsLeafHeight (height_of t)
-one_of_three true y z t is =
-    let same : t ≡ H5 = cc in
-    inl (ap height_of same)
-one_of_three false true z t is =
-    let same : t ≡ H10 = cc in
-    inr (inl (ap height_of same))
-one_of_three false false true t is =
-    let same : t ≡ H15 = cc in
-    inr (inr (ap height_of same))
+one_of_three true y z t is = inl (ap height_of (sym (same_Some H5 t is)))
+one_of_three false true z t is = inr (inl (ap height_of (sym (same_Some H10 t is))))
+one_of_three false false true t is = inr (inr (ap height_of (sym (same_Some H15 t is))))
 one_of_three false false false t is = absurd cc
 
 pub leaf_height : (word : Text) (t : LmsType) → tree_of word ≡ Some t → IsLeafHeight (height_of t)
@@ -76,12 +65,8 @@ leaf_height word t is =
     one_of_three (height_of H5 == read.0) (height_of H10 == read.0) (height_of H15 == read.0) t read.2
 
 one_of_two : (x y : Bool) (t : OtsType) → (if x then Some W4 else if y then Some W8 else None) ≡ Some t → IsKeyWidth t
-one_of_two true y t is =
-    let same : t ≡ W4 = cc in
-    inl same
-one_of_two false true t is =
-    let same : t ≡ W8 = cc in
-    inr same
+one_of_two true y t is = inl (sym (same_Some W4 t is))
+one_of_two false true t is = inr (sym (same_Some W8 t is))
 one_of_two false false t is = absurd cc
 
 pub key_width : (word : Text) (t : OtsType) → width_named word ≡ Some t → IsKeyWidth t
@@ -97,8 +82,7 @@ keygen_ranges rows asked is =
     let device = then_some (value_of (codes "M") device_of rows) _ asked name.2 in
     let height = then_some (value_of (codes "HEIGHT") tree_of rows) _ asked device.2 in
     let width = then_some (value_of (codes "W") width_named rows) _ asked height.2 in
-    let whole : Keygen = record { name = name.0; device = device.0; height = height.0; width = width.0 } in
-    let same : whole ≡ asked = same_Some whole asked width.2 in
+    let same = same_Some _ asked width.2 in
     let tree = then_some (first_of (codes "HEIGHT") rows) tree_of height.0 height.1 in
     let bits = then_some (first_of (codes "W") rows) width_named width.0 width.1 in (
       subst (λ (k : Keygen). IsLeafHeight (height_of k.height)) same (leaf_height tree.0 height.0 tree.2),
@@ -107,9 +91,7 @@ keygen_ranges rows asked is =
 
 -- one time at least
 some_times : (found : Option Text) (n : ℕ) → read_or DEFAULT_TIMES times_of found ≡ Some n → 1 ≤ n
-some_times None n is =
-    let same : n ≡ DEFAULT_TIMES = cc in
-    omega (arith, same)
+some_times None n is = omega (arith, same_Some DEFAULT_TIMES n is)
 some_times (Some word) n is = leb-true 1 n (passed_of (nat_le 1) (u32_of word) n is).1
 
 serve_ranges : (rows : List Row) (asked : Serve) → serve_in rows ≡ Some asked → (1 ≤ asked.sessions) × (asked.sessions ≤ MAX_SESSIONS) × (1 ≤ asked.times)
@@ -118,8 +100,7 @@ serve_ranges rows asked is =
     let address = then_some (first_of (codes "ADDRESS") rows) _ asked name.2 in
     let sessions = then_some (value_of (codes "sessions") (number_between 1 MAX_SESSIONS) rows) _ asked address.2 in
     let times = then_some (value_or (codes "times") DEFAULT_TIMES times_of rows) _ asked sessions.2 in
-    let whole : Serve = record { name = name.0; address = address.0; sessions = sessions.0; times = times.0 } in
-    let same : whole ≡ asked = same_Some whole asked times.2 in
+    let same = same_Some _ asked times.2 in
     let number = then_some (first_of (codes "sessions") rows) (number_between 1 MAX_SESSIONS) sessions.0 sessions.1 in
     let bounds = in_bounds 1 MAX_SESSIONS sessions.0 number.0 number.2 in
     subst (λ (s : Serve). (1 ≤ s.sessions) × (s.sessions ≤ MAX_SESSIONS) × (1 ≤ s.times)) same (bounds.0, bounds.1, some_times (first_of (codes "times") rows) times.0 times.1)
@@ -136,8 +117,7 @@ serve_all_ranges rows asked is =
     let sessions = then_some (value_of (codes "sessions") (number_between 1 MAX_SESSIONS) rows) _ asked address.2 in
     let times = then_some (value_or (codes "times") DEFAULT_TIMES times_of rows) _ asked sessions.2 in
     let names = then_some (documents_of (values_of (codes "NAME") rows)) _ asked times.2 in
-    let whole : ServeAll = record { address = address.0; sessions = sessions.0; times = times.0; names = names.0 } in
-    let same : whole ≡ asked = same_Some whole asked names.2 in
+    let same = same_Some _ asked names.2 in
     let number = then_some (first_of (codes "sessions") rows) (number_between 1 MAX_SESSIONS) sessions.0 sessions.1 in
     let bounds = in_bounds 1 MAX_SESSIONS sessions.0 number.0 number.2 in
     subst (λ (s : ServeAll). (length s.names ≤ MAX_DOCUMENTS) × (1 ≤ s.sessions) × (s.sessions ≤ MAX_SESSIONS) × (1 ≤ s.times)) same
@@ -156,8 +136,7 @@ client_ranges rows asked is =
     let rounds = then_some (value_or (codes "rounds") DEFAULT_ROUNDS u32_of rows) _ asked address.2 in
     let until = then_some (value_or (codes "until") DEFAULT_UNTIL u32_of rows) _ asked rounds.2 in
     let scripts = then_some (scripts_of (values_of (codes "SCRIPT") rows)) _ asked until.2 in
-    let whole : Client = record { name = name.0; device = device.0; address = address.0; rounds = rounds.0; until = until.0; scripts = scripts.0 } in
-    let same : whole ≡ asked = same_Some whole asked scripts.2 in
+    let same = same_Some _ asked scripts.2 in
     subst (λ (c : Client). length c.scripts ≤ MAX_EDITORS) same (few_scripts (values_of (codes "SCRIPT") rows) scripts.0 scripts.1)
 
 -- those who are named have numbers of members
@@ -171,9 +150,7 @@ one_named : (word : Text) (p : Participant) → participant_of word ≡ Some p �
 one_named word p is = named_member (before_first is_colon word) (after_first is_colon word) p (unfold participant_of in is)
 
 all_named : (words : List Text) (all : List Participant) → all_participants words ≡ Some all → AllByRecursion (λ p. IsMember p.member) all
-all_named [] all is =
-    let same : [] ≡ all = cc in
-    subst (AllByRecursion (λ p. IsMember p.member)) same tt
+all_named [] all is = subst (AllByRecursion (λ p. IsMember p.member)) (same_Some [] all is) tt
 all_named (word ∷ words) all is =
     let read = then_some (participant_of word) (λ p. option_map (λ ps. p ∷ ps) (all_participants words)) all is in
     let made = map_some (all_participants words) (λ ps. read.0 ∷ ps) all read.2 in
@@ -188,14 +165,11 @@ found_ranges : (rows : List Row) (asked : Found) → found_in rows ≡ Some aske
 found_ranges rows asked is =
     let name = then_some (first_of (codes "NAME") rows) _ asked is in
     let participants = then_some (participants_of (values_of (codes "M:ROLE") rows)) _ asked name.2 in
-    let whole : Found = record { name = name.0; participants = participants.0 } in
-    let same : whole ≡ asked = same_Some whole asked participants.2 in
+    let same = same_Some _ asked participants.2 in
     subst MayFound same (may_found_of (values_of (codes "M:ROLE") rows) participants.0 name.0 participants.1)
 
 play_ranges : (option : Option Text) (c : Command) → play_by option ≡ Some c → IsInRange c
-play_ranges None c is =
-    let same : commands.Play ≡ c = cc in
-    subst IsInRange same tt
+play_ranges None c is = subst IsInRange (same_Some commands.Play c is) tt
 play_ranges (Some word) c is =
     let made = map_some (number_between 1 MAX_GENERATED word) commands.Generate c is in
     subst IsInRange made.2 (in_bounds 1 MAX_GENERATED made.0 word made.1).1

@@ -1,10 +1,9 @@
 -- What a run did, by what came of its parts.
 use Rattle.std.proofs.Common.{◌≡◌, ◌≤◌, ℕ, List, Some, None, Err, refl, sym, ap, ◌∙◌, subst}
 use Rattle.sporc_top.proofs.Common.{StreamTold, DiskTold, Command, command_of, Fault, WritesFaultLine, fault_of_words, status_of, FileNames, RunOutcome, command, no_command, stopped, unread, Performs}
-use Rattle.sporc_top.proofs.Common.{names_of, no_files, IsUnused, OutsideUse}
+use Rattle.sporc_top.proofs.Common.{names_of, no_files, IsUnused, OutsideUse, from, until}
 use Rattle.sporc_words.specs.declared.fault.WordsFault.{WordsFault}
 use Rattle.sporc_words.specs.declared.fault.WordsFault.TheVariants as reading
-use Rattle.sporc_clients.specs.Uses.{from, until}
 
 module _ {D : Type 0} (disks : D → DiskTold) (words : List (List ℕ)) (outside : OutsideUse) where
   -- the words were not read

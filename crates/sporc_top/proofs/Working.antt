@@ -1,9 +1,7 @@
 -- What a command did, by the words that it is.
 use Rattle.std.proofs.Common.{◌≡◌, Result, subst, sym}
-use Rattle.sporc_top.proofs.Common.{⊤, DiskTold, Client, Command, Fault, Performs, ServesDocument, ServesDocuments, WorksAsMember, OutsideUse, client_use}
+use Rattle.sporc_top.proofs.Common.{⊤, DiskTold, Client, Command, Fault, Performs, ServesDocument, ServesDocuments, WorksAsMember, OutsideUse, client_use, Serve, ServeAll}
 use Rattle.sporc_words.specs.declared.command.Command.TheVariants as commands
-use Rattle.sporc_words.specs.declared.serve.Serve.{Serve}
-use Rattle.sporc_words.specs.declared.serve_all.ServeAll.{ServeAll}
 
 module _ {D : Type 0} (disks : D → DiskTold) (outside : OutsideUse) where
   pub by_serve : (asked : Command) (words : Serve) (answer : Result ⊤ Fault) → asked ≡ commands.Serve words

@@ -5,7 +5,7 @@ pub use lib.ListN.{get_elem?}
 pub use mathlib.Core.Logic.{dite}
 pub use mathlib.Core.Option.{Option, none, some, some-injective, some-ne-none}
 pub use native.Mathlib.Decide.{ℕ_discrete}
-pub use Rattle.std.proofs.lemmas.List.{append-nil, drop-append-le, map-append, map-set}
+pub use Rattle.std.proofs.lemmas.List.{append-nil, drop-append-le, map-append, map-set, nil_from_length}
 pub use Rattle.std.proofs.lemmas.List.Elements.{All-cons, All-contains, All-contains_itself, All-nil, All-weaker, Contains-append_cases, Contains-append_left, Contains-append_right, filter-append}
 pub use Rattle.std.specs.List.{filter}
 pub use Rattle.std.specs.Prelude.{All, Contains, MatchBool, slice_index}

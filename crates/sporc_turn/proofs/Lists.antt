@@ -1,7 +1,7 @@
 -- Lists read by place, prefixes of a list, and the items with one number.
 use Rattle.std.proofs.Common.{◌≡◌, ◌≢◌, ◌⊎◌, ℕ, zero, suc, ◌<◌, ◌≤◌, ◌==◌, cond, leb, eq-eqb, ne_eqb, Bool, true, false, true≢false, List, [], ◌∷◌, ◌++◌, length, drop, set, sym, refl, ap, ◌∙◌, subst, inl, inr, ⊎_elim, arith, length-append, append_assoc}
 use Rattle.sporc_turn.proofs.Common.{All, Contains, some, some-injective, some-ne-none, get_elem?, filter, drop-append-le, append-nil, filter-append, All-weaker, All-contains_itself}
-use Rattle.sporc_turn.proofs.Common.{Contains-append_right, StartsWith, longer, shorter, own}
+use Rattle.sporc_turn.proofs.Common.{Contains-append_right, nil_from_length, StartsWith, longer, shorter, own}
 use Rattle.std.proofs.lemmas.Bool.Decides.{leb_tells}
 
 -- a test has one value
@@ -72,10 +72,6 @@ module _ {A : Type 0} where
   pub shorter_is : (P : List A → Type 0) (xs ys : List A) → P xs → P ys → P (shorter xs ys)
   shorter_is P xs ys p q = elim (leb (length ys) (length xs)) as (λ b. P (cond b ys xs)) [ true ↦ q | false ↦ p ]
 
-  pub no_length : (xs : List A) → length xs ≡ 0 → xs ≡ []
-  no_length [] e = refl
-  no_length (x ∷ xs) e = absurd (omega arith)
-
   pub drop_length : (xs : List A) → drop (length xs) xs ≡ []
   drop_length [] = refl
   drop_length (x ∷ xs) = drop_length xs
@@ -116,11 +112,11 @@ module _ {E : Type 0} (by : E → ℕ) where
       let F : List E → List E = filter (λ e. by e == n) in
       let first : own by n start ys ≡ own by n start xs ++ F p.0 = ap (own by n start) p.1 ∙ own_append n start xs p.0 low in
       let second : own by n start log ≡ own by n start ys ++ F q.0 = ap (own by n start) q.1 ∙ own_append n start ys q.0 (omega (arith, starts_length ys xs p)) in
-      let none' : F p.0 ≡ [] = no_length (F p.0) (omega (arith, ap length first, ap length second, ap length a, ap length b, length-append (own by n start xs) (F p.0), length-append (own by n start ys) (F q.0))) in
+      let none' : F p.0 ≡ [] = nil_from_length (F p.0) (omega (arith, ap length first, ap length second, ap length a, ap length b, length-append (own by n start xs) (F p.0), length-append (own by n start ys) (F q.0))) in
       first ∙ ap (λ l. own by n start xs ++ l) none' ∙ append-nil (own by n start xs) ∙ a
 
   -- where the whole has no more items with a number, what comes behind has none
   pub behind : (n start : ℕ) (xs rest m : List E) → start ≤ length xs → own by n start xs ≡ m → own by n start (xs ++ rest) ≡ m → filter (λ e. by e == n) rest ≡ []
   behind n start xs rest m low a b =
       let F : List E = filter (λ e. by e == n) rest in
-      no_length F (omega (arith, ap length (own_append n start xs rest low), ap length a, ap length b, length-append (own by n start xs) F))
+      nil_from_length F (omega (arith, ap length (own_append n start xs rest low), ap length a, ap length b, length-append (own by n start xs) F))

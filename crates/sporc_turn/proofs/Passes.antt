@@ -150,10 +150,9 @@ opens {S} {E} logs by x n is = record {
 
 -- the slot that a holder has
 pub room_slot : {S : Type 0} (c : List (ℕ × std.Option S)) → has_room c ≡ true → c ≡ (0, None) ∷ []
-room_slot [] e = absurd (true≢false (sym e))
-room_slot ((k, Some x) ∷ []) e = absurd (true≢false (sym e))
 room_slot ((k, None) ∷ []) e = ap (λ n. (n, None) ∷ []) (eqb-true k 0 e)
-room_slot (c ∷ d ∷ cs) e = absurd (true≢false (sym e))
+room_slot ((k, Some x) ∷ []) e = absurd (true≢false (sym e))
+room_slot _ e = absurd (true≢false (sym e))
 
 -- the view of a badge
 pub view_there : {E : Type 0} (vs : List (View E)) (v : View E) → vs ≡ v ∷ [] → first_view vs ≡ v

@@ -1,5 +1,5 @@
 -- Each step on a word keeps the rule of the lock, and tells what it says.
-use Rattle.std.proofs.Common.{◌≡◌, ◌≢◌, ◌⊎◌, ℕ, ◌+◌, ◌<◌, ◌≤◌, ◌==◌, cond, eqb, eq-eqb, ne_eqb, true, false, true≢false, List, [], ◌∷◌, ◌++◌, map, length, get_or, set, drop, Some, None, sym, refl, ap, ◌∙◌, subst, inl, inr, ⊎_elim, arith, length-append}
+use Rattle.std.proofs.Common.{◌≡◌, ◌≢◌, ◌⊎◌, ℕ, ◌+◌, ◌<◌, ◌≤◌, ◌==◌, cond, eqb, eq-eqb, ne_eqb, true, false, true≢false, List, [], ◌∷◌, ◌++◌, map, length, get_or, set, drop, Some, sym, refl, ap, ◌∙◌, subst, inl, inr, ⊎_elim, arith, length-append}
 use Rattle.sporc_turn.proofs.Common.{slice_index, Contains, All, Option, none, some, dite, ℕ_discrete, get_elem?, map-set, append-nil, All-contains, State, Me, Act, stepped, Valid, carried_after}
 use Rattle.sporc_turn.proofs.Common.{keeps, takes, gives, Allows, at_map, set_again, exchanged, View, Known, StartsWith, own, Extends, Agrees, seeing, adding, hearing, matched, known, TicketInvariant}
 use Rattle.sporc_turn.proofs.Common.{HasTicket, HasTurn, HoldsAt, KnowledgeInvariant, LogInvariant, TurnInvariant, reading, drawing, serving, raising, idling, ReadsTicket, DrawsTicket, ReadsServing}
@@ -13,9 +13,8 @@ use Rattle.sporc_turn.proofs.Logs
 
 -- the value in the first slot that a seat has
 abbrev some_of : {S : Type 0} → S → List (ℕ × std.Option S) → S
-some_of d [] = d
 some_of d ((k, Some x) ∷ cs) = x
-some_of d ((k, None) ∷ cs) = d
+some_of d _ = d
 
 module _ {S E : Type 0} (logs : S → List E) (by : E → ℕ) (start : ℕ) where
   abbrev Rule : State (std.Option S) (View E) → Type 0

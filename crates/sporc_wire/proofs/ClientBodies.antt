@@ -1,14 +1,11 @@
 -- A message to a client that is read is spelled so, and one that is spelled so is read again.
-use Rattle.std.proofs.Common.{◌≡◌, ℕ, zero, suc, ◌+◌, ◌-◌, ◌^◌, ◌<◌, ◌≤◌, Bool, true, false, cond, eqb, List, [], ◌∷◌, ◌++◌, length, Option, Some, None, Result, Ok, Err, refl, sym, ap, ◌∙◌, subst, arith, append_assoc, length-append}
-use Rattle.sporc_wire.proofs.Common.{eqb-true, append-nil, flat_map, w8, w32, to_be_bytes, IsBytes, Reading, ◌>>=◌, number_at, counted_at, counted, end_at, present, MAX_BODY, Ordered, Rejected}
-use Rattle.sporc_wire.proofs.Common.{Entries, Empty, to_client_bytes}
+use Rattle.std.proofs.Common.{◌≡◌, ℕ, zero, suc, ◌+◌, ◌-◌, ◌^◌, ◌<◌, ◌≤◌, Bool, true, false, cond, eqb, List, [], ◌∷◌, ◌++◌, length, Result, Ok, Err, refl, sym, ap, ◌∙◌, subst, arith, append_assoc, length-append}
+use Rattle.sporc_wire.proofs.Common.{present_ok, eqb-true, append-nil, flat_map, w8, w32, to_be_bytes, IsBytes, Reading, ◌>>=◌, number_at, counted_at, counted, end_at, MAX_BODY, Ordered, Rejected}
+use Rattle.sporc_wire.proofs.Common.{Entries, Empty, to_client_bytes, bind_ok, ok_is, Takes, Takes-then, Takes-nothing, wide8, wide32, number_takes, u8_again, u32_again, counted_takes, counted_again}
+use Rattle.sporc_wire.proofs.Common.{end_takes, byte_takes, byte_again, refusal_code_of, ORDERED, REJECTED, ENTRIES, EMPTY, MAX_PULLED, MAX_CODE, refusal_detail_of, refusal_with}
 use Rattle.std.proofs.lemmas.List.Concat.{flat_map-cons}
 use Rattle.sporc_bytes.specs.Fields.{values_at}
-use Rattle.sporc_bytes.proofs.Fields.{bind_ok, ok_is, Takes, Takes-then, Takes-nothing, wide8, wide32, number_takes, u8_again, u32_again, counted_takes, counted_again, end_takes, byte_takes, byte_again}
-use Rattle.sporc_head.specs.Refusal.{refusal_code_of}
 use Rattle.sporc_wire.specs.declared.to_client.ToClient.{ToClient}
-use Rattle.sporc_wire.specs.declared.to_client.TheConstants.{ORDERED, REJECTED, ENTRIES, EMPTY, MAX_PULLED, MAX_CODE}
-use Rattle.sporc_wire.specs.Refusals.{refusal_detail_of, refusal_with}
 use Rattle.sporc_wire.specs.ToClient.{ordered_at, rejected_at, entries_at, empty_at, to_client_of_kind, to_client_of, IsToClient}
 use Rattle.sporc_wire.proofs.ServerBodies.{byte_is}
 use Rattle.sporc_wire.proofs.RefusalNumbers.{refusal_takes, refusal_again, code_within}
@@ -37,10 +34,6 @@ empty_takes r m e =
     let z = bind_ok _ _ m e in
     subst (IsSpelled EMPTY r.rest) (ok_is Empty m z.2) (tt, ap (λ (t : List ℕ). EMPTY ∷ t) (end_takes r z.1))
 
-present_is : {A : Type 0} (at : ℕ) (o : Option A) (x : A) → present at o ≡ Ok x → o ≡ Some x
-present_is at None x e = absurd cc
-present_is at (Some y) x e = ap (λ z. Some z) (ok_is y x e)
-
 rejected_takes : (r : Reading) (m : ToClient) → IsBytes r.rest → rejected_at r ≡ Ok m → IsSpelled REJECTED r.rest m
 unfolding rejected_at
 rejected_takes r m h e =
@@ -50,7 +43,7 @@ rejected_takes r m h e =
     let z = bind_ok _ _ m refusal.2 in
     let tc = byte_takes 1 MAX_CODE r code.0 (omega arith) h code.1 in
     let td = last_number code.0.1 detail.0 tc.0.bytes detail.1 z.1 in
-    let is = refusal_takes code.0.0 detail.0.0 refusal.0 tc.1 (present_is code.0.1.at (refusal_with code.0.0 detail.0.0) refusal.0 refusal.1) in
+    let is = refusal_takes code.0.0 detail.0.0 refusal.0 tc.1 (present_ok code.0.1.at (refusal_with code.0.0 detail.0.0) refusal.0 refusal.1) in
     let spelled : r.rest ≡ refusal_code_of refusal.0 ∷ to_be_bytes w32 (refusal_detail_of refusal.0) =
     tc.0.parts ∙ ap (λ (t : List ℕ). code.0.0 ∷ t) td.1
     ∙ ap (λ (n : ℕ). n ∷ to_be_bytes w32 detail.0.0) (sym is.code)

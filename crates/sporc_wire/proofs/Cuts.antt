@@ -1,14 +1,10 @@
 -- What the codec cuts off, in the words of the stream.
 use Rattle.std.proofs.Common.{◌≡◌, ℕ, zero, suc, ◌<◌, ◌≤◌, ◌^◌, List, [], ◌∷◌, ◌++◌, length, take, drop, Some, refl, sym, ap, ◌∙◌, subst, inl, inr, arith, pos}
 use Rattle.sporc_wire.proofs.Common.{take-append-drop, length-take-le, cases_lt, w32, to_be_bytes, from_be_bytes, IsBytes, MAX_BODY, first_frame, partial, too_long, whole, our_layout, rest_of}
-use Rattle.sporc_wire.proofs.Common.{IsWithin}
+use Rattle.sporc_wire.proofs.Common.{IsWithin, be_bytes_4, DecodeState, Head, Data, cut_payload, cut_adjusted, cut_frame, Cut, frame, too_big, overflows, unfinished, cut_in, cut_payload_whole}
+use Rattle.sporc_wire.proofs.Common.{cut_payload_short, cut_frame_short, cut_frame_big, cut_frame_head}
 use Rattle.std.proofs.lemmas.Bool.Decides.{nat_tests}
-use Rattle.std.proofs.lemmas.Nat.{be_bytes_4}
-use Rattle.tokio_util.specs.declared.codec.length_delimited.DecodeState.{DecodeState}
-use Rattle.tokio_util.specs.declared.codec.length_delimited.DecodeState.TheVariants.{Head, Data}
 use Rattle.tokio_util.specs.Codec.LengthField.{field_value, add_adjustment}
-use Rattle.tokio_util.specs.Codec.LengthDelimited.{cut_payload, cut_adjusted, cut_frame, Cut, frame, too_big, overflows, unfinished, cut_in}
-use Rattle.tokio_util.specs.Codec.LengthDelimitedLaws.{cut_payload_whole, cut_payload_short, cut_frame_short, cut_frame_big, cut_frame_head}
 use Rattle.sporc_wire.specs.Stream as stream
 use Rattle.sporc_wire.proofs.Fronts.{frame_of_len-big, frame_of_len-short, frame_of_len-whole, first_frame-short, first_frame-long, first_frame-length}
 
@@ -18,17 +14,11 @@ head_of xs = from_be_bytes w32 (take 4 xs)
 
 field_is_head : (xs : List ℕ) → 4 ≤ length xs → field_value our_layout xs ≡ head_of xs
 field_is_head (a ∷ b ∷ c ∷ d ∷ rest) h = omega arith
-field_is_head (a ∷ b ∷ c ∷ []) h = absurd (omega arith)
-field_is_head (a ∷ b ∷ []) h = absurd (omega arith)
-field_is_head (a ∷ []) h = absurd (omega arith)
-field_is_head [] h = absurd (omega arith)
+field_is_head xs h = absurd (omega arith)
 
 head_fits : (xs : List ℕ) → IsBytes xs → 4 ≤ length xs → head_of xs < 2 ^ 32
 head_fits (a ∷ b ∷ c ∷ d ∷ rest) fits h = omega (arith, fits 0, fits 1, fits 2, fits 3)
-head_fits (a ∷ b ∷ c ∷ []) fits h = absurd (omega arith)
-head_fits (a ∷ b ∷ []) fits h = absurd (omega arith)
-head_fits (a ∷ []) fits h = absurd (omega arith)
-head_fits [] fits h = absurd (omega arith)
+head_fits xs fits h = absurd (omega arith)
 
 four_fit : (a b c d : ℕ) (rest : List ℕ) → IsBytes (a ∷ b ∷ c ∷ d ∷ rest) → IsBytes (a ∷ b ∷ c ∷ d ∷ [])
 four_fit a b c d rest fits zero = fits 0
@@ -40,10 +30,7 @@ four_fit a b c d rest fits (suc (suc (suc (suc i)))) = omega arith
 head_back : (xs : List ℕ) → IsBytes xs → 4 ≤ length xs → xs ≡ to_be_bytes w32 (head_of xs) ++ drop 4 xs
 head_back (a ∷ b ∷ c ∷ d ∷ rest) fits h =
     ap (λ zs. zs ++ rest) (sym (be_bytes_4 (a ∷ b ∷ c ∷ d ∷ []) (head_of (a ∷ b ∷ c ∷ d ∷ rest)) refl (four_fit a b c d rest fits) refl))
-head_back (a ∷ b ∷ c ∷ []) fits h = absurd (omega arith)
-head_back (a ∷ b ∷ []) fits h = absurd (omega arith)
-head_back (a ∷ []) fits h = absurd (omega arith)
-head_back [] fits h = absurd (omega arith)
+head_back xs fits h = absurd (omega arith)
 
 -- what a cut says of the bytes that it was made in
 abbrev pub Means : DecodeState → List ℕ → Cut → Type 0

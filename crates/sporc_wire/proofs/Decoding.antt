@@ -1,16 +1,13 @@
 -- What an answer of the codec says, in the words of the stream.
 use Rattle.std.proofs.Common.{◌≡◌, ℕ, ◌≤◌, List, [], ◌∷◌, ◌++◌, length, take, drop, Result, Option, IfOk, IfNone, Some, None, Ok, Err, refl, sym, ap, ◌∙◌, subst, inl, inr, arith, pos, append-nil}
 use Rattle.sporc_wire.proofs.Common.{cases_lt, length-take-le, IsBytes, MAX_BODY, first_frame, partial, too_long, whole, CutsFirst, FitsLimit, IsOurs, IsWithin, filled, our_layout, put_back, rest_of}
-use Rattle.tokio_util.specs.Codec.LengthDelimitedLaws.{cut_payload_whole, cut_payload_short}
+use Rattle.sporc_wire.proofs.Common.{cut_payload_whole, cut_payload_short, Filled, DecodeState, Head, Data, layout, codec_layout, with_state, Cut, frame, too_big, overflows, unfinished, cut_in, cut}
+use Rattle.sporc_wire.proofs.Common.{Answers, AnswersLast, AnswersAtEnd, IsSettled, gives_frames}
 use Rattle.std.specs.declared.io.Error.{Error}
 use Rattle.std.specs.declared.io.ErrorKind.TheVariants.{InvalidData, OutOfMemory, Other}
 use Rattle.std.specs.IoError.{error_kind, kind_at}
-use Rattle.bytes.specs.Filled.{Filled}
 use Rattle.tokio_util.specs.declared.codec.length_delimited.LengthDelimitedCodec.{LengthDelimitedCodec}
-use Rattle.tokio_util.specs.declared.codec.length_delimited.DecodeState.{DecodeState}
-use Rattle.tokio_util.specs.declared.codec.length_delimited.DecodeState.TheVariants.{Head, Data}
 use Rattle.tokio_util.specs.Codec.Next.{Decodes, Resumes, at_end}
-use Rattle.tokio_util.specs.Codec.LengthDelimited.{layout, codec_layout, with_state, Cut, frame, too_big, overflows, unfinished, cut_in, cut, Answers, AnswersLast, AnswersAtEnd, IsSettled, gives_frames}
 use Rattle.sporc_wire.specs.declared.cutter.CutFault.{CutFault}
 use Rattle.sporc_wire.specs.declared.cutter.CutFault.TheVariants.{Memory, TooLong}
 use Rattle.sporc_wire.specs.Stream as stream

@@ -1,8 +1,6 @@
 -- The bodies of entries.
 use Rattle.std.proofs.Common.{◌≡◌, ◌∙◌, ℕ, ◌+◌, ◌<◌, ◌≤◌, List, [], ◌∷◌, ◌++◌, length, take, get_or, map, Result, Ok, Err, OnOk, Vec, Global, ap, arith, append_assoc, length-append, sym}
-use Rattle.sporc_wire.proofs.Common.{length-map, flat_map_more, take_more, take_all, flat_map, w32, to_be_bytes, counted, Entries, to_client_bytes}
-use Rattle.std.proofs.lemmas.List.Folds.{flat_map-map}
-use Rattle.sporc_wire.specs.declared.to_client.TheConstants.{ENTRIES}
+use Rattle.sporc_wire.proofs.Common.{length-map, flat_map_more, take_more, take_all, flat_map, w32, to_be_bytes, counted, Entries, to_client_bytes, flat_map-map, ENTRIES}
 
 -- the bytes of an entry, and how they are written
 abbrev bytes : Vec ℕ Global → List ℕ

@@ -1,7 +1,6 @@
 -- What stands at the first_frame of a stream.
 use Rattle.std.proofs.Common.{◌≡◌, ℕ, ◌^◌, ◌<◌, ◌≤◌, List, ◌++◌, length, take, drop, refl, ap, ◌∙◌, arith, length-append}
-use Rattle.sporc_wire.proofs.Common.{lt-ltb, le-ltb, take_at, drop_at, w32, to_be_bytes, from_be_bytes, MAX_BODY, partial, too_long, whole}
-use Rattle.std.proofs.lemmas.Nat.{from_be_bytes-to_be_bytes_4}
+use Rattle.sporc_wire.proofs.Common.{lt-ltb, le-ltb, take_at, drop_at, w32, to_be_bytes, from_be_bytes, MAX_BODY, partial, too_long, whole, from_be_bytes-to_be_bytes_4}
 use Rattle.sporc_wire.specs.Stream.{frame_of_len, first_frame, frame}
 
 pub frame_of_len-big : (len : ℕ) (xs : List ℕ) → MAX_BODY < len → frame_of_len len xs ≡ too_long len

@@ -1,10 +1,9 @@
 -- The next message of a stream, by what stands at its first_frame.
 use Rattle.std.proofs.Common.{◌≡◌, ℕ, List, length, Option, Some, None, Result, Ok, Err, sym, ap, ◌∙◌, subst}
-use Rattle.sporc_wire.proofs.Common.{MatchOption, ◌≢◌, fault_as, FrameFault, FirstFrame, whole, first_frame, Unread, next_read, next_frame, next_unless}
-use Rattle.sporc_base.specs.Outcome.{GivesUnless}
+use Rattle.sporc_wire.proofs.Common.{MatchOption, ◌≢◌, fault_as, FrameFault, FirstFrame, whole, first_frame, Unread, next_read, next_frame, next_unless, GivesUnless, Bad}
 use Rattle.sporc_wire.specs.declared.fault.FrameFault.TheVariants as faults
 use Rattle.sporc_wire.specs.declared.message.BodyFault.{BodyFault}
-use Rattle.sporc_wire.specs.declared.message.BodyFault.TheVariants.{Bad, Memory}
+use Rattle.sporc_wire.specs.declared.message.BodyFault.TheVariants.{Memory}
 use Rattle.sporc_wire.specs.Messages.{stops, next}
 
 -- a stream by its parts

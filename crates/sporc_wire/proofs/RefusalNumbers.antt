@@ -1,15 +1,14 @@
 -- A refusal and its two numbers.
 use Rattle.std.proofs.Common.{◌≡◌, ℕ, ◌≤◌, Bool, true, false, cond, eqb, Option, Some, None, refl, sym, ap, ◌∙◌, subst, arith}
-use Rattle.sporc_wire.proofs.Common.{◌≢◌, ◌==◌, find, eqb-true, eqb-false}
+use Rattle.sporc_wire.proofs.Common.{◌≢◌, ◌==◌, find, eqb-true, eqb-false, refusal_code_of, refusal_detail_of, plain_refusals}
 use Rattle.sporc_member.specs.declared.change.ChangeFault.{ChangeFault}
-use Rattle.sporc_member.specs.declared.change.ChangeFault.TheVariants.{NumberUsed, NotMember, SameRole, LastAdmin, RosterFull, BadKey, DeviceUsed, NoDevice, LastDevice, DevicesFull, NotUpgraded, AlreadyUpgraded}
+use Rattle.sporc_member.specs.declared.change.ChangeFault.TheVariants.{NumberUsed}
 use Rattle.sporc_base.proofs.ListLemmas.{found_passes}
 use Rattle.sporc_member.specs.ChangeFault.{change_fault_code_of, change_fault_with_code, change_faults}
 use Rattle.sporc_head.specs.declared.refusal.Refusal.{Refusal}
 use Rattle.sporc_head.specs.declared.refusal.Refusal.TheVariants.{Malformed, BadChange, Memory}
-use Rattle.sporc_head.specs.Refusal.{refusal_code_of}
 use Rattle.sporc_head.specs.HeadChecks.{bad_change}
-use Rattle.sporc_wire.specs.Refusals.{refusal_detail_of, plain_refusals, refusal_with}
+use Rattle.sporc_wire.specs.Refusals.{refusal_with}
 
 -- the two numbers are the refusal's
 pub record HasNumbers (refusal : Refusal) (m n : ℕ) : Type 0 where
@@ -62,17 +61,7 @@ refusal_takes code detail r positive e = go (eqb code 1) (eqb code 18) (eqb deta
 
 bad_change_again : (fault : ChangeFault) → change_fault_with_code (change_fault_code_of fault) ≡ Some fault
 bad_change_again NumberUsed = refl
-bad_change_again NotMember = refl
-bad_change_again SameRole = refl
-bad_change_again LastAdmin = refl
-bad_change_again RosterFull = refl
-bad_change_again BadKey = refl
-bad_change_again DeviceUsed = refl
-bad_change_again NoDevice = refl
-bad_change_again LastDevice = refl
-bad_change_again DevicesFull = refl
-bad_change_again NotUpgraded = refl
-bad_change_again AlreadyUpgraded = refl
+bad_change_again _ = refl
 
 pub refusal_again : (r : Refusal) → r ≢ Memory → refusal_with (refusal_code_of r) (refusal_detail_of r) ≡ Some r
 unfolding refusal_with

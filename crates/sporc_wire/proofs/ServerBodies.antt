@@ -1,9 +1,8 @@
 -- A message to a server that is read is spelled so, and one that is spelled so is read again.
 use Rattle.std.proofs.Common.{◌≡◌, ℕ, ◌^◌, ◌<◌, Bool, true, false, cond, eqb, List, [], ◌∷◌, ◌++◌, Ok, Err, refl, sym, ap, ◌∙◌, subst, arith}
-use Rattle.sporc_wire.proofs.Common.{eqb-true, append-nil, w8, w16, w32, to_be_bytes, IsBytes, Reading, number_at, to_server_bytes}
-use Rattle.sporc_bytes.proofs.Fields.{bind_ok, ok_is, wide8, wide16, wide32, number_takes, bytes_takes, bytes_again, u8_again, u16_again, u32_again, end_takes}
+use Rattle.sporc_wire.proofs.Common.{eqb-true, append-nil, w8, w16, w32, to_be_bytes, IsBytes, Reading, number_at, to_server_bytes, bind_ok, ok_is, wide8, wide16, wide32, number_takes, bytes_takes}
+use Rattle.sporc_wire.proofs.Common.{bytes_again, u8_again, u16_again, u32_again, end_takes, Hello, Submit, Pull}
 use Rattle.sporc_wire.specs.declared.to_server.ToServer.{ToServer}
-use Rattle.sporc_wire.specs.declared.to_server.ToServer.TheVariants.{Hello, Submit, Pull}
 use Rattle.sporc_wire.specs.declared.to_server.TheConstants.{HELLO, SUBMIT, PULL}
 use Rattle.sporc_wire.specs.ToServer.{hello_at, pull_at, to_server_of_kind, to_server_of, IsToServer}
 

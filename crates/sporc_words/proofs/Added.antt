@@ -1,11 +1,10 @@
 -- A command with one more argument.
 use Rattle.std.proofs.Common.{◌≡◌, ℕ, suc, ◌+◌, ◌<◌, ◌≤◌, false, List, length, get_or, drop, map, ap, sym, ◌∙◌, add-one, drop-cons}
-use Rattle.std.proofs.lemmas.List.{drop_all}
+use Rattle.sporc_words.proofs.Common.{drop_all, AddsArg, Rule, rule_of, with_rule, with_all}
 use Rattle.clap.specs.Simple.{App}
-use Rattle.clap.specs.Words.{AddsArg, Rule, rule_of, with_rule}
 use Rattle.clap.specs.declared.builder.Arg.{Arg}
 use Rattle.clap.specs.declared.Command.{Command}
-use Rattle.sporc_words.specs.Arguments.{grammar_of, with_all, with_argument}
+use Rattle.sporc_words.specs.Arguments.{grammar_of, with_argument}
 
 pub added : (old new : Command) (a : Arg) (rule : Rule) → AddsArg old a new → a.global ≡ false → rule_of a ≡ rule
     → grammar_of new ≡ with_argument (grammar_of old) rule

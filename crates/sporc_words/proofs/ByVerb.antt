@@ -1,12 +1,9 @@
 -- The first word says which arguments there are, and what is made of their values.
 use Rattle.std.proofs.Common.{◌≡◌, Option, None, Some, List, option_map, refl}
-use Rattle.clap.specs.Walk.{Text}
-use Rattle.sporc_script.specs.Readers.{then_read}
+use Rattle.sporc_words.proofs.Common.{Text, then_read, Verb, check_app, client_app, compare_app, entries_app, found_app, keygen_app, public_app, serve_all_app, serve_app, taken, text_app, app_for}
 use Rattle.sporc_words.specs.declared.command.Command.TheVariants as commands
-use Rattle.sporc_words.specs.declared.command.Verb.{Verb}
 use Rattle.sporc_words.specs.declared.command.Verb.TheVariants as verbs
-use Rattle.sporc_words.specs.Arguments.{check_app, client_app, compare_app, entries_app, found_app, keygen_app, public_app, serve_all_app, serve_app, taken, text_app}
-use Rattle.sporc_words.specs.Commands.{app_for, check_in, client_in, command_by, command_in, compare_in, entries_in, found_in, keygen_in, public_in, serve_all_in, serve_in, text_in}
+use Rattle.sporc_words.specs.Commands.{check_in, client_in, command_by, command_in, compare_in, entries_in, found_in, keygen_in, public_in, serve_all_in, serve_in, text_in}
 
 inside : {A B C : Type 0} (o : Option A) (f : A → Option B) (g : B → C) → option_map g (then_read o f) ≡ then_read o (λ a. option_map g (f a))
 inside None f g = refl

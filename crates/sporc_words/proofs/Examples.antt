@@ -1,5 +1,6 @@
 -- Worked examples: command lines, and what they ask for.
 use Rattle.std.proofs.Common.{◌≡◌, [], ◌∷◌, None, Some, codes, refl}
+use Rattle.sporc_words.proofs.Common.{command_of}
 use Rattle.lms_ots.specs.declared.ots_type.OtsType.TheVariants.{W4}
 use Rattle.lms_tree.specs.declared.lms_type.LmsType.TheVariants.{H10}
 use Rattle.sporc_member.specs.Device.{first_device}
@@ -8,7 +9,6 @@ use Rattle.sporc_words.specs.declared.command.Command.TheVariants.{Check, Client
 use Rattle.sporc_words.specs.declared.command.Verb.TheVariants as verbs
 use Rattle.sporc_words.specs.declared.page.Page.TheVariants as pages
 use Rattle.sporc_words.specs.declared.standing.Standing.TheVariants.{Founder, Joiner}
-use Rattle.sporc_words.specs.Commands.{command_of}
 use Rattle.sporc_words.proofs.Literals.{words_on_literals}
 
 -- `play`

@@ -1,21 +1,16 @@
 -- Lines that ask for help ask no command for its work.
 use Rattle.std.proofs.Common.{◌≡◌, ◌⊎◌, Bool, true, false, ◌||◌, List, [], ◌∷◌, codes, Option, None, Some, option_map, refl, sym, ap, ◌∙◌, subst, inl, inr}
-use Rattle.std.specs.Prelude.{if◌then◌else◌}
+use Rattle.sporc_words.proofs.Common.{if◌then◌else◌, Text, then_read, same_Some, map_some, Verb, verb_name}
 use Rattle.std.specs.Str.{bytes_eq}
 use Rattle.std.proofs.lemmas.Slice.Eq.{bytes_eq-Decides}
-use Rattle.clap.specs.Walk.{Text}
-use Rattle.sporc_script.specs.Readers.{then_read}
-use Rattle.std.proofs.lemmas.Option.{same_Some}
-use Rattle.sporc_script.proofs.Exact.{map_some}
 use Rattle.sporc_words.specs.declared.command.Command.{Command}
 use Rattle.sporc_words.specs.declared.command.Command.TheVariants as commands
 use Rattle.sporc_words.specs.declared.page.Page.{Page}
 use Rattle.sporc_words.specs.declared.page.Page.TheVariants as pages
-use Rattle.sporc_words.specs.declared.command.Verb.{Verb}
 use Rattle.sporc_words.specs.declared.command.Verb.TheVariants as verbs
 use Rattle.sporc_words.specs.Commands.{command_by, command_of, found_or, work_in}
 use Rattle.sporc_words.specs.Help.{asks_overview, asks_version, help_in, of_both, of_one, page_of}
-use Rattle.sporc_words.specs.Verbs.{verb_name, verb_of}
+use Rattle.sporc_words.specs.Verbs.{verb_of}
 use Rattle.sporc_words.proofs.Literals.{words_on_literals}
 use Rattle.sporc_words.proofs.VerbReader.{verb_exact}
 
@@ -28,16 +23,7 @@ no_verb word rest none = ap (λ (o : Option Verb). then_read o (λ verb. command
 no_command : (verb : Verb) → work_in (verb_name verb ∷ codes "--help" ∷ []) ≡ None
 unfolding words_on_literals
 no_command verbs.Play = refl
-no_command verbs.Keygen = refl
-no_command verbs.Found = refl
-no_command verbs.Serve = refl
-no_command verbs.Client = refl
-no_command verbs.Check = refl
-no_command verbs.Compare = refl
-no_command verbs.Public = refl
-no_command verbs.Text = refl
-no_command verbs.Entries = refl
-no_command verbs.ServeAll = refl
+no_command _ = refl
 
 -- ---- by the words
 
@@ -53,34 +39,20 @@ help_names_none : verb_of (codes "help") ≡ None
 unfolding verb_of
 help_names_none = refl
 
-version_names_none : verb_of (codes "version") ≡ None
-unfolding verb_of
-version_names_none = refl
-
-option_names_none : verb_of (codes "--help") ≡ None
-unfolding verb_of
-option_names_none = refl
-
-letter_names_none : verb_of (codes "-h") ≡ None
-unfolding verb_of
-letter_names_none = refl
-
-version_option_names_none : verb_of (codes "--version") ≡ None
-unfolding verb_of
-version_option_names_none = refl
-
 -- one of several words
 either : (x y : Bool) (P : Type 0) → (x ≡ true → P) → (y ≡ true → P) → (x || y) ≡ true → P
 either true y P first second one = first refl
 either false y P first second one = second one
 
 overview_alone : (word : Text) → asks_overview word ≡ true → work_in (word ∷ []) ≡ None
+unfolding verb_of
 overview_alone word asks =
     either _ _ _ (by_name word (codes "help") [] help_names_none)
-    (either _ _ _ (by_name word (codes "--help") [] option_names_none) (by_name word (codes "-h") [] letter_names_none)) asks
+    (either _ _ _ (by_name word (codes "--help") [] refl) (by_name word (codes "-h") [] refl)) asks
 
 version_alone : (word : Text) → asks_version word ≡ true → work_in (word ∷ []) ≡ None
-version_alone word asks = either _ _ _ (by_name word (codes "version") [] version_names_none) (by_name word (codes "--version") [] version_option_names_none) asks
+unfolding verb_of
+version_alone word asks = either _ _ _ (by_name word (codes "version") [] refl) (by_name word (codes "--version") [] refl) asks
 
 one_word : (word : Text) → (of_one word ≡ None) ⊎ (work_in (word ∷ []) ≡ None)
 one_word word = go (asks_overview word) (asks_version word) refl refl
@@ -110,10 +82,9 @@ two_words first second = go (bytes_eq second (codes "--help")) (bytes_eq first (
 
 help_or_work : (words : List Text) → (help_in words ≡ None) ⊎ (work_in words ≡ None)
 unfolding help_in
-help_or_work [] = inl refl
 help_or_work (word ∷ []) = one_word word
 help_or_work (first ∷ second ∷ []) = two_words first second
-help_or_work (first ∷ second ∷ third ∷ more) = inl refl
+help_or_work words = inl refl
 
 -- what a command was asked for, it is asked for
 pub work_is_asked : (words : List Text) (asked : Command) → work_in words ≡ Some asked → command_of words ≡ Some asked
@@ -152,7 +123,6 @@ told_by_both first second asked is = go (bytes_eq second (codes "--help")) (byte
 
 pub told_by_help : (words : List Text) (asked : Command) → help_in words ≡ Some asked → ((page : Page) × (asked ≡ commands.Help page)) ⊎ (asked ≡ commands.Version)
 unfolding help_in
-told_by_help [] asked is = absurd cc
 told_by_help (word ∷ []) asked is = told_by_one word asked is
 told_by_help (first ∷ second ∷ []) asked is = told_by_both first second asked is
-told_by_help (first ∷ second ∷ third ∷ more) asked is = absurd cc
+told_by_help words asked is = absurd cc

@@ -8,3 +8,4 @@ pub mod NamedLemmas
 pub mod Simple
 pub mod Taken
 pub mod VerbReader
+pub mod Common

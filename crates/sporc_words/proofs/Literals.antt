@@ -1,5 +1,5 @@
 -- What a proof unfolds to compute what a command line asks for, where its words are written out.
-use Rattle.std.specs.Prelude.{⊤}
+use Rattle.sporc_words.proofs.Common.{⊤}
 use Rattle.std.specs.Fmt.{digits}
 use Rattle.clap.proofs.OnLiterals.{clap_on_literals}
 use Rattle.sporc_script.specs.Plain.{role_of}

@@ -1,16 +1,13 @@
 -- Participants, read one after another.
 use Rattle.std.proofs.Common.{◌≡◌, ℕ, ◌+◌, ◌<◌, ◌≤◌, List, [], ◌∷◌, ◌++◌, length, drop, get_or, Option, Some, None, option_map, refl, sym, ap, ap₂, ◌∙◌, arith, append_assoc, append-nil}
+use Rattle.sporc_words.proofs.Common.{drop_more, same_Some, Text, texts, member_of, then_read, all_participants}
 use Rattle.std.specs.Borrow.{Bor}
 use Rattle.std.specs.List.{after_first, before_first, position_or_len}
 use Rattle.std.proofs.Math.ListN.{drop_of_length-le}
-use Rattle.std.proofs.lemmas.List.{drop_more}
-use Rattle.std.proofs.lemmas.Option.{same_Some}
 use Rattle.std.proofs.lemmas.Str.Pattern.{IsSplitOnceResult, split_once_first}
-use Rattle.clap.specs.Walk.{Text, texts}
 use Rattle.sporc_script.specs.Plain.{role_of}
-use Rattle.sporc_script.specs.Readers.{member_of, then_read}
 use Rattle.sporc_words.specs.declared.standing.Participant.{Participant}
-use Rattle.sporc_words.specs.Values.{all_participants, is_colon, participant_by, participant_of, standing_of}
+use Rattle.sporc_words.specs.Values.{is_colon, participant_by, participant_of, standing_of}
 
 -- ---- one word
 

@@ -1,15 +1,12 @@
 -- What clap answers, by its own definitions.
 use Rattle.std.proofs.Common.{◌≡◌, Bool, true, false, ◌||◌, List, [], ◌∷◌, Option, Some, None, refl, sym, ap, ◌∙◌, inl, inr, arith}
-use Rattle.std.specs.Prelude.{if◌then◌else◌}
+use Rattle.sporc_words.proofs.Common.{if◌then◌else◌, Row, Text, is_empty, App, fault_of, is_simple_and_free, kind_of, matches_of, takes, OutOfMemory}
 use Rattle.std.proofs.lemmas.Bool.{and_parts}
 use Rattle.clap.specs.Kinds.{HasKind, Kinds}
 use Rattle.clap.specs.Simple.{built, is_simple}
 use Rattle.clap.specs.Faults.{is_free_app}
-use Rattle.clap.specs.Walk.{Row, Text, is_empty}
-use Rattle.clap.specs.Words.{App, fault_of, is_simple_and_free, kind_of, matches_of, takes}
 use Rattle.clap.specs.declared.Error.{Error}
 use Rattle.clap.specs.declared.error.ErrorKind.{ErrorKind}
-use Rattle.clap.specs.declared.error.ErrorKind.TheVariants.{OutOfMemory}
 use Rattle.sporc_words.specs.Arguments.{taken}
 
 pub simple_of : (app : App) → is_simple_and_free app ≡ true → is_simple app ≡ true

@@ -1,9 +1,8 @@
 -- The reader of the first word is exact.
 use Rattle.std.proofs.Common.{◌≡◌, [], ◌∷◌, Some, refl}
-use Rattle.sporc_words.specs.declared.command.Verb.{Verb}
+use Rattle.sporc_words.proofs.Common.{Verb, verb_name, IsExact, named_exact}
 use Rattle.sporc_words.specs.declared.command.Verb.TheVariants as verbs
-use Rattle.sporc_words.specs.Verbs.{verb_name, verb_of}
-use Rattle.sporc_script.proofs.Exact.{IsExact, named_exact}
+use Rattle.sporc_words.specs.Verbs.{verb_of}
 
 pub verb_exact : IsExact Verb (λ _. Unit {0}) verb_name verb_of
 unfolding verb_of

@@ -1,8 +1,8 @@
 -- Deltas whose changes do not meet.
 use Rattle.std.proofs.Common.{◌≡◌, ℕ, zero, suc, ◌+◌, ◌-◌, ◌<◌, ◌≤◌, Bool, true, false, Option, Some, None, List, [], ◌∷◌, ◌++◌, refl, ap, sym, ◌∙◌, append_assoc, arith}
-use Rattle.sporc_xform.proofs.Common.{replicate-append-replicate, flat_map, ◌↔◌, IfNone, nat_lt, ltb-true, ltb-false, MAX_TEXT_LEN, Mark, Keep, Remove, Insert, base_len, inserted_len, out_len}
-use Rattle.sporc_xform.proofs.Common.{keep_marks, runs, count_of, kept_first, kept_last, kept_there, shifted, Later, earlier, earlier_step, later, later_step, steps, base_len-append}
-use Rattle.sporc_xform.proofs.Common.{base_len-keep_marks, out_len-append, out_len-keep_marks, IsMoved, Meet, ShiftsEarlier, ShiftsLater}
+use Rattle.sporc_xform.proofs.Common.{replicate-append-replicate, flat_map, ◌↔◌, IfNone, MAX_TEXT_LEN, Mark, Keep, Remove, Insert, base_len, inserted_len, out_len, keep_marks, runs, count_of}
+use Rattle.sporc_xform.proofs.Common.{kept_first, kept_last, kept_there, shifted, Later, earlier, earlier_step, later, later_step, steps, base_len-append, base_len-keep_marks, out_len-append}
+use Rattle.sporc_xform.proofs.Common.{out_len-keep_marks, IsMoved, Meet, ShiftsEarlier, ShiftsLater}
 use Rattle.sporc_delta.specs.declared.shift.Shift.{Shift}
 use Rattle.sporc_delta.specs.declared.shift.Shift.TheVariants.{First, Last}
 use Rattle.sporc_delta.proofs.Shifted.{begins_with, ends_with, shifted_first, shifted_last}
@@ -159,11 +159,7 @@ if_none (Some shift) Q known = tt
 if_none None Q known = known
 
 within : (m n : ℕ) → (m < n → ⊥) → n ≤ m
-within m n not = by (nat_lt m n) refl
-  where
-    by : (b : Bool) → nat_lt m n ≡ b → n ≤ m
-    by true e = absurd (not (ltb-true m n e))
-    by false e = ltb-false m n e
+within m n not = omega (arith, not)
 
 pub not_apart : (b : Bool) (m n : ℕ) → (b ≡ true ↔ m < n) → b ≡ false → n ≤ m
 not_apart b m n decides is = within m n (λ less. let no : true ≡ false = sym (decides.1 less) ∙ is in cc)

@@ -1,57 +1,47 @@
 -- The pieces of two deltas that follow each other.
 use Rattle.std.proofs.Common.{◌≡◌, ℕ, zero, suc, ◌+◌, ◌<◌, ◌≤◌, Bool, true, false, List, [], ◌∷◌, ◌++◌, length, drop, take, min, refl, ap, sym, ◌∙◌, append_assoc, arith, eqb, cond}
 use Rattle.sporc_xform.proofs.Common.{replicate, take_all, take-append-drop, map-append, length-take, length-append, length-map, length-replicate, eqb-true, eqb-false, MAX_TEXT_LEN, Mark, Keep, Remove}
-use Rattle.sporc_xform.proofs.Common.{Insert, base_len, out_len, keep_marks, remove_marks, insert_marks, marks_of, compose, base_len-append, base_len-keep_marks, base_len-remove_marks}
-use Rattle.sporc_xform.proofs.Common.{base_len-insert_marks, out_len-append, out_len-keep_marks, out_len-remove_marks, out_len-insert_marks, cut, without, first_len, first_text, first_inserts}
-use Rattle.sporc_xform.proofs.Common.{first_removes, NoneEmpty, InARowInvariant, base_mark}
+use Rattle.sporc_xform.proofs.Common.{Insert, base_len, out_len, keep_marks, remove_marks, insert_marks, marks_of, compose, base_len-append, base_len-insert_marks, out_len-append, out_len-keep_marks}
+use Rattle.sporc_xform.proofs.Common.{out_len-remove_marks, out_len-insert_marks, cut, without, first_len, first_text, first_inserts, first_removes, NoneEmpty, InARowInvariant, base_mark}
 use Rattle.sporc_delta.specs.declared.part.Part.{Part}
 use Rattle.sporc_delta.specs.declared.part.Part.TheVariants.{Keep as KeepRun, Insert as InsertText, Remove as RemoveRun}
 use Rattle.sporc_xform.specs.Chunks.{through_marks}
 use Rattle.sporc_xform.proofs.LawLemmas.{composes}
-use Rattle.sporc_xform.proofs.Steps.{text_first, run_first, no_part, no_base}
+use Rattle.sporc_xform.proofs.Steps.{text_first, run_first, base_len-marks, no_part, no_base}
 
 -- ---- over marks
 
 -- an insertion of the second comes first
 second_first : (p : List Mark) (text : List ℕ) (q : List Mark) → compose p (insert_marks text ++ q) ≡ insert_marks text ++ compose p q
-second_first [] [] q = refl
-second_first [] (c ∷ text) q = ap (λ ms. Insert c ∷ ms) (second_first [] text q)
 second_first (Keep ∷ p) [] q = refl
+second_first _ [] q = refl
 second_first (Keep ∷ p) (c ∷ text) q = ap (λ ms. Insert c ∷ ms) (second_first (Keep ∷ p) text q)
-second_first (Remove ∷ p) [] q = refl
-second_first (Remove ∷ p) (c ∷ text) q = ap (λ ms. Insert c ∷ ms) (second_first (Remove ∷ p) text q)
-second_first (Insert d ∷ p) [] q = refl
-second_first (Insert d ∷ p) (c ∷ text) q = ap (λ ms. Insert c ∷ ms) (second_first (Insert d ∷ p) text q)
+second_first p (c ∷ text) q = ap (λ ms. Insert c ∷ ms) (second_first p text q)
 
 -- then a removal of the first
 removal_first : (p : List Mark) (qs : List Part) → NoneEmpty qs → first_inserts qs ≡ false → compose (Remove ∷ p) (marks_of qs) ≡ Remove ∷ compose p (marks_of qs)
-removal_first p [] some none = refl
 removal_first p (KeepRun zero ∷ qs) some none = absurd (omega arith)
-removal_first p (KeepRun (suc n) ∷ qs) some none = refl
 removal_first p (InsertText text ∷ qs) some none = absurd cc
 removal_first p (RemoveRun zero ∷ qs) some none = absurd (omega arith)
-removal_first p (RemoveRun (suc n) ∷ qs) some none = refl
+removal_first p _ some none = refl
 
 removals_first : (n : ℕ) (p : List Mark) (qs : List Part) → NoneEmpty qs → first_inserts qs ≡ false → compose (remove_marks n ++ p) (marks_of qs) ≡ remove_marks n ++ compose p (marks_of qs)
 removals_first zero p qs some none = refl
 removals_first (suc n) p qs some none = removal_first (remove_marks n ++ p) qs some none ∙ ap (λ ms. Remove ∷ ms) (removals_first n p qs some none)
 
 -- then both marks of each character between them
-kept_kept : (n : ℕ) (p q : List Mark) → compose (keep_marks n ++ p) (keep_marks n ++ q) ≡ keep_marks n ++ compose p q
-kept_kept zero p q = refl
-kept_kept (suc n) p q = ap (λ ms. Keep ∷ ms) (kept_kept n p q)
+kept_through : (removed : Bool) (n : ℕ) (text : List ℕ) (p q : List Mark) → compose (keep_marks n ++ p) (replicate n (base_mark removed) ++ q) ≡ through_marks false removed text n ++ compose p q
+kept_through true zero text p q = refl
+kept_through true (suc n) text p q = ap (λ ms. Remove ∷ ms) (kept_through true n text p q)
+kept_through false zero text p q = refl
+kept_through false (suc n) text p q = ap (λ ms. Keep ∷ ms) (kept_through false n text p q)
 
-kept_removed : (n : ℕ) (p q : List Mark) → compose (keep_marks n ++ p) (remove_marks n ++ q) ≡ remove_marks n ++ compose p q
-kept_removed zero p q = refl
-kept_removed (suc n) p q = ap (λ ms. Remove ∷ ms) (kept_removed n p q)
-
-inserted_kept : (text : List ℕ) (p q : List Mark) → compose (insert_marks text ++ p) (keep_marks (length text) ++ q) ≡ insert_marks text ++ compose p q
-inserted_kept [] p q = refl
-inserted_kept (c ∷ text) p q = ap (λ ms. Insert c ∷ ms) (inserted_kept text p q)
-
-inserted_removed : (text : List ℕ) (p q : List Mark) → compose (insert_marks text ++ p) (remove_marks (length text) ++ q) ≡ compose p q
-inserted_removed [] p q = refl
-inserted_removed (c ∷ text) p q = inserted_removed text p q
+inserted_through : (removed : Bool) (text : List ℕ) (p q : List Mark)
+    → compose (insert_marks text ++ p) (replicate (length text) (base_mark removed) ++ q) ≡ through_marks true removed text (length text) ++ compose p q
+inserted_through true [] p q = refl
+inserted_through true (c ∷ text) p q = inserted_through true text p q
+inserted_through false [] p q = refl
+inserted_through false (c ∷ text) p q = ap (λ ms. Insert c ∷ ms) (inserted_through false text p q)
 
 -- ---- over parts
 
@@ -61,9 +51,6 @@ record TextCut (ps new : List Part) (text : List ℕ) (n : ℕ) : Type 0 where
   pub len : length text ≡ n
 
 text_cut : (ps new : List Part) (text : List ℕ) (n : ℕ) → first_inserts ps ≡ true → n ≤ first_len ps → text ≡ take n (first_text ps) → new ≡ without n ps → TextCut ps new text n
-text_cut [] new text n h le t is = absurd cc
-text_cut (KeepRun m ∷ ps) new text n h le t is = absurd cc
-text_cut (RemoveRun m ∷ ps) new text n h le t is = absurd cc
 text_cut (InsertText all ∷ ps) new text n h le t is = go (eqb (length all) n) refl
   where
     go : (b : Bool) → eqb (length all) n ≡ b → TextCut (InsertText all ∷ ps) new text n
@@ -78,6 +65,7 @@ text_cut (InsertText all ∷ ps) new text n h le t is = go (eqb (length all) n) 
           marks = rw (rest, t) (ap (λ ms. ms ++ marks_of ps) (ap insert_marks (sym (take-append-drop n all)) ∙ map-append Insert (take n all) (drop n all)) ∙ append_assoc (insert_marks (take n all)) (insert_marks (drop n all)) (marks_of ps));
           len = rw t (omega (arith, length-take n all));
         }
+text_cut _ new text n h le t is = absurd cc
 
 -- what was taken off two deltas that follow each other
 pub record Takes (ps qs ps' qs' : List Part) (marks : List Mark) : Type 0 where
@@ -106,10 +94,8 @@ take_second ps qs new text row h t is =
 
 -- a first part that removes does not insert
 removes_alone : (ps : List Part) → first_removes ps ≡ true → first_inserts ps ≡ false
-removes_alone [] h = refl
-removes_alone (KeepRun n ∷ ps) h = refl
 removes_alone (InsertText text ∷ ps) h = absurd cc
-removes_alone (RemoveRun n ∷ ps) h = refl
+removes_alone _ h = refl
 
 pub take_removal : (ps qs new : List Part) → InARowInvariant ps qs → first_inserts qs ≡ false → first_removes ps ≡ true → new ≡ without (first_len ps) ps → Takes ps qs new qs (remove_marks (first_len ps))
 take_removal ps qs new row none h is =
@@ -129,29 +115,19 @@ take_removal ps qs new row none h is =
 -- the first keeps characters
 take_kept : (removed : Bool) (n : ℕ) (text : List ℕ) (ps qs ps' qs' : List Part) → 0 < n → InARowInvariant ps qs → marks_of ps ≡ keep_marks n ++ marks_of ps' → marks_of qs ≡ replicate n (base_mark removed) ++ marks_of qs'
     → Takes ps qs ps' qs' (through_marks false removed text n)
-take_kept true n text ps qs ps' qs' some row p q = record {
-  taken = rw (p, q) (kept_removed n (marks_of ps') (marks_of qs'));
-  between = omega (arith, row.between, ap out_len p, ap base_len q, out_len-append (keep_marks n) (marks_of ps'), out_len-keep_marks n, base_len-append (remove_marks n) (marks_of qs'), base_len-remove_marks n);
-  less = omega (arith, longer (marks_of ps) (keep_marks n) (marks_of ps') p, longer (marks_of qs) (remove_marks n) (marks_of qs') q, length-replicate n Keep, length-replicate n Remove);
-}
-take_kept false n text ps qs ps' qs' some row p q = record {
-  taken = rw (p, q) (kept_kept n (marks_of ps') (marks_of qs'));
-  between = omega (arith, row.between, ap out_len p, ap base_len q, out_len-append (keep_marks n) (marks_of ps'), out_len-keep_marks n, base_len-append (keep_marks n) (marks_of qs'), base_len-keep_marks n);
-  less = omega (arith, longer (marks_of ps) (keep_marks n) (marks_of ps') p, longer (marks_of qs) (keep_marks n) (marks_of qs') q, length-replicate n Keep);
+take_kept removed n text ps qs ps' qs' some row p q = record {
+  taken = rw (p, q) (kept_through removed n text (marks_of ps') (marks_of qs'));
+  between = omega (arith, row.between, ap out_len p, ap base_len q, out_len-append (keep_marks n) (marks_of ps'), out_len-keep_marks n, base_len-append (replicate n (base_mark removed)) (marks_of qs'), base_len-marks removed n);
+  less = omega (arith, longer (marks_of ps) (keep_marks n) (marks_of ps') p, longer (marks_of qs) (replicate n (base_mark removed)) (marks_of qs') q, length-replicate n Keep, length-replicate n (base_mark removed));
 }
 
 -- the first inserts them
 take_inserted : (removed : Bool) (text : List ℕ) (ps qs ps' qs' : List Part) → 0 < length text → InARowInvariant ps qs → marks_of ps ≡ insert_marks text ++ marks_of ps'
     → marks_of qs ≡ replicate (length text) (base_mark removed) ++ marks_of qs' → Takes ps qs ps' qs' (through_marks true removed text (length text))
-take_inserted true text ps qs ps' qs' some row p q = record {
-  taken = rw (p, q) (inserted_removed text (marks_of ps') (marks_of qs'));
-  between = omega (arith, row.between, ap out_len p, ap base_len q, out_len-append (insert_marks text) (marks_of ps'), out_len-insert_marks text, base_len-append (remove_marks (length text)) (marks_of qs'), base_len-remove_marks (length text));
-  less = omega (arith, longer (marks_of ps) (insert_marks text) (marks_of ps') p, longer (marks_of qs) (remove_marks (length text)) (marks_of qs') q, length-map {A = ℕ} {B = Mark}, length-replicate (length text) Remove);
-}
-take_inserted false text ps qs ps' qs' some row p q = record {
-  taken = rw (p, q) (inserted_kept text (marks_of ps') (marks_of qs'));
-  between = omega (arith, row.between, ap out_len p, ap base_len q, out_len-append (insert_marks text) (marks_of ps'), out_len-insert_marks text, base_len-append (keep_marks (length text)) (marks_of qs'), base_len-keep_marks (length text));
-  less = omega (arith, longer (marks_of ps) (insert_marks text) (marks_of ps') p, longer (marks_of qs) (keep_marks (length text)) (marks_of qs') q, length-map {A = ℕ} {B = Mark}, length-replicate (length text) Keep);
+take_inserted removed text ps qs ps' qs' some row p q = record {
+  taken = rw (p, q) (inserted_through removed text (marks_of ps') (marks_of qs'));
+  between = omega (arith, row.between, ap out_len p, ap base_len q, out_len-append (insert_marks text) (marks_of ps'), out_len-insert_marks text, base_len-append (replicate (length text) (base_mark removed)) (marks_of qs'), base_len-marks removed (length text));
+  less = omega (arith, longer (marks_of ps) (insert_marks text) (marks_of ps') p, longer (marks_of qs) (replicate (length text) (base_mark removed)) (marks_of qs') q, length-map {A = ℕ} {B = Mark}, length-replicate (length text) (base_mark removed));
 }
 
 pub take_through : (inserted removed : Bool) (n : ℕ) (text : List ℕ) (ps qs ps' qs' : List Part) → inserted ≡ first_inserts ps → removed ≡ first_removes qs → InARowInvariant ps qs → first_inserts qs ≡ false → first_removes ps ≡ false

@@ -8,14 +8,12 @@ Leads p q s = apply (compose p q) s ≡ apply q (apply p s)
 leads_none : (q : List Mark) → 0 ≡ base_len q → Leads [] q []
 leads_none [] h = refl
 leads_none (Insert c ∷ q) h = ap (λ (t : List ℕ). c ∷ t) (leads_none q h)
-leads_none (Keep ∷ q) h = absurd (omega arith)
-leads_none (Remove ∷ q) h = absurd (omega arith)
+leads_none _ h = absurd (omega arith)
 
 leads_remove : (p : List Mark) (c : ℕ) (s : List ℕ) → ((q : List Mark) → out_len p ≡ base_len q → Leads p q s) → (q : List Mark) → out_len p ≡ base_len q → Leads (Remove ∷ p) q (c ∷ s)
 leads_remove p c s ih [] h = ih [] h
 leads_remove p c s ih (Insert d ∷ q) h = ap (λ (t : List ℕ). d ∷ t) (leads_remove p c s ih q h)
-leads_remove p c s ih (Keep ∷ q) h = ih (Keep ∷ q) h
-leads_remove p c s ih (Remove ∷ q) h = ih (Remove ∷ q) h
+leads_remove p c s ih q h = ih q h
 
 leads_keep : (p : List Mark) (c : ℕ) (s : List ℕ) → ((q : List Mark) → out_len p ≡ base_len q → Leads p q s) → (q : List Mark) → suc (out_len p) ≡ base_len q → Leads (Keep ∷ p) q (c ∷ s)
 leads_keep p c s ih [] h = absurd (omega arith)
@@ -31,9 +29,7 @@ leads_insert c p s ih (Remove ∷ q) h = ih q (omega arith)
 
 pub apply-compose : (p q : List Mark) (s : List ℕ) → base_len p ≡ length s → out_len p ≡ base_len q → apply (compose p q) s ≡ apply q (apply p s)
 apply-compose [] q [] base h = leads_none q h
-apply-compose [] q (c ∷ s) base h = absurd (omega arith)
 apply-compose (Insert c ∷ p) q s base h = leads_insert c p s (λ q h. apply-compose p q s base h) q h
-apply-compose (Keep ∷ p) q [] base h = absurd (omega arith)
 apply-compose (Keep ∷ p) q (c ∷ s) base h = leads_keep p c s (λ q h. apply-compose p q s (omega arith) h) q h
-apply-compose (Remove ∷ p) q [] base h = absurd (omega arith)
 apply-compose (Remove ∷ p) q (c ∷ s) base h = leads_remove p c s (λ q h. apply-compose p q s (omega arith) h) q h
+apply-compose p q s base h = absurd (omega arith)

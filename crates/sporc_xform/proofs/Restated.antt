@@ -27,37 +27,23 @@ earlier-later [] = refl
 earlier-later (c ∷ text) = ap (λ ms. Keep ∷ ms) (earlier-later text)
 
 pub earlier-both : (m n : Bool) (k : ℕ) → flat_map earlier_step (replicate k (Both (base_mark m) (base_mark n))) ≡ base_marks n m k
-earlier-both m n zero = nothing n m
-  where
-    nothing : (n m : Bool) → [] ≡ base_marks n m 0
-    nothing true m = refl
-    nothing false m = refl
+earlier-both m true zero = refl
 earlier-both m true (suc k) = earlier-both m true k
+earlier-both m false zero = refl
 earlier-both m false (suc k) = ap (λ ms. base_mark m ∷ ms) (earlier-both m false k)
 
 -- ---- a step leaves one mark or none
 
 later_one : (s : Step) → (base_len (later_step s) ≤ 1) × (out_len (later_step s) ≤ 1)
-later_one (Earlier c) = (omega arith, omega arith)
-later_one (Later c) = (omega arith, omega arith)
-later_one (Both Remove n) = (omega arith, omega arith)
 later_one (Both Keep Keep) = (omega arith, omega arith)
-later_one (Both Keep Remove) = (omega arith, omega arith)
-later_one (Both Keep (Insert c)) = (omega arith, omega arith)
-later_one (Both (Insert d) Keep) = (omega arith, omega arith)
-later_one (Both (Insert d) Remove) = (omega arith, omega arith)
-later_one (Both (Insert d) (Insert c)) = (omega arith, omega arith)
+later_one (Both (Insert c) Keep) = (omega arith, omega arith)
+later_one _ = (omega arith, omega arith)
 
 earlier_one : (s : Step) → (base_len (earlier_step s) ≤ 1) × (out_len (earlier_step s) ≤ 1)
-earlier_one (Earlier c) = (omega arith, omega arith)
-earlier_one (Later c) = (omega arith, omega arith)
-earlier_one (Both n Remove) = (omega arith, omega arith)
 earlier_one (Both Keep Keep) = (omega arith, omega arith)
 earlier_one (Both Remove Keep) = (omega arith, omega arith)
 earlier_one (Both (Insert c) Keep) = (omega arith, omega arith)
-earlier_one (Both Keep (Insert d)) = (omega arith, omega arith)
-earlier_one (Both Remove (Insert d)) = (omega arith, omega arith)
-earlier_one (Both (Insert c) (Insert d)) = (omega arith, omega arith)
+earlier_one _ = (omega arith, omega arith)
 
 -- the marks that steps leave are no more than the steps
 pub record NoMore (ms : List Mark) (u : List Step) : Type 0 where
@@ -82,16 +68,13 @@ earlier_no_more = no_more earlier_step earlier_one
 -- ---- there are no more steps than characters of the text and inserted ones
 
 length-last_steps : (q : List Mark) → length (last_steps q) ≤ inserted_len q
-length-last_steps [] = omega arith
 length-last_steps (Insert c ∷ q) = omega (arith, length-last_steps q)
-length-last_steps (Keep ∷ q) = omega arith
-length-last_steps (Remove ∷ q) = omega arith
+length-last_steps _ = omega arith
 
 length-steps_to : (m : Mark) (n : ℕ) (rest : List Mark → List Step) → ((q : List Mark) → length (rest q) ≤ n + inserted_len q) → (q : List Mark) → length (steps_to m rest q) ≤ suc n + inserted_len q
 length-steps_to m n rest h [] = omega arith
 length-steps_to m n rest h (Insert c ∷ q) = omega (arith, length-steps_to m n rest h q)
-length-steps_to m n rest h (Keep ∷ q) = omega (arith, h q)
-length-steps_to m n rest h (Remove ∷ q) = omega (arith, h q)
+length-steps_to m n rest h (_ ∷ q) = omega (arith, h q)
 
 pub length-steps : (p q : List Mark) → length (steps p q) ≤ base_len p + inserted_len p + inserted_len q
 length-steps [] q = omega (arith, length-last_steps q)

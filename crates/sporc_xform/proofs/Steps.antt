@@ -47,38 +47,32 @@ pub record TextFirst (ps new : List Part) (text : List ℕ) : Type 0 where
   pub marks : marks_of ps ≡ insert_marks text ++ marks_of new
 
 pub text_first : (ps new : List Part) (text : List ℕ) → first_inserts ps ≡ true → text ≡ take (first_len ps) (first_text ps) → new ≡ without (first_len ps) ps → TextFirst ps new text
-text_first [] new text h t n = absurd cc
-text_first (KeepRun m ∷ ps) new text h t n = absurd cc
-text_first (RemoveRun m ∷ ps) new text h t n = absurd cc
 text_first (InsertText all ∷ ps) new text h t n =
     let whole : text ≡ all = t ∙ take_all (length all) all (omega arith) in
     let rest : new ≡ ps = n ∙ ap (λ b. cond b ps (cut (length all) (InsertText all ∷ ps))) (eq-eqb (length all) (length all) refl) in
     record { marks = rw (whole, rest) refl }
+text_first _ new text h t n = absurd cc
+
+-- so many marks of a run
+run_cut : (m : ℕ) (ps new : List Part) (part : ℕ → Part) (x : Mark) → ((k : ℕ) → marks_of (part k ∷ ps) ≡ replicate k x ++ marks_of ps) → (n : ℕ) → n ≤ m → new ≡ cond (eqb m n) ps (part (m - n) ∷ ps)
+    → replicate m x ++ marks_of ps ≡ replicate n x ++ marks_of new
+run_cut m ps new part x spells n le is = go (eqb m n) refl
+  where
+    go : (b : Bool) → eqb m n ≡ b → replicate m x ++ marks_of ps ≡ replicate n x ++ marks_of new
+    go true e =
+        let same : m ≡ n = eqb-true m n e in
+        let rest : new ≡ ps = is ∙ ap (λ b. cond b ps (part (m - n) ∷ ps)) e in
+        rw (rest, same) refl
+    go false e =
+        let rest : new ≡ part (m - n) ∷ ps = is ∙ ap (λ b. cond b ps (part (m - n) ∷ ps)) e in
+        ap (λ ms. ms ++ marks_of ps) (part_cut m n x le) ∙ append_assoc (replicate n x) (replicate (m - n) x) (marks_of ps) ∙ ap (λ ms. replicate n x ++ ms) (sym (spells (m - n)) ∙ ap marks_of (sym rest))
 
 -- so many marks of a first part that keeps or removes
 pub run_first : (ps new : List Part) (n : ℕ) → first_inserts ps ≡ false → n ≤ first_len ps → 0 < n → new ≡ without n ps → marks_of ps ≡ replicate n (base_mark (first_removes ps)) ++ marks_of new
 run_first [] new n h le some is = absurd (omega arith)
 run_first (InsertText text ∷ ps) new n h le some is = absurd cc
-run_first (KeepRun m ∷ ps) new n h le some is = go (eqb m n) refl
-  where
-    go : (b : Bool) → eqb m n ≡ b → marks_of (KeepRun m ∷ ps) ≡ replicate n Keep ++ marks_of new
-    go true e =
-        let same : m ≡ n = eqb-true m n e in
-        let rest : new ≡ ps = is ∙ ap (λ b. cond b ps (cut n (KeepRun m ∷ ps))) e in
-        rw (rest, same) refl
-    go false e =
-        let rest : new ≡ KeepRun (m - n) ∷ ps = is ∙ ap (λ b. cond b ps (cut n (KeepRun m ∷ ps))) e in
-        rw (rest, part_cut m n Keep le, append_assoc) refl
-run_first (RemoveRun m ∷ ps) new n h le some is = go (eqb m n) refl
-  where
-    go : (b : Bool) → eqb m n ≡ b → marks_of (RemoveRun m ∷ ps) ≡ replicate n Remove ++ marks_of new
-    go true e =
-        let same : m ≡ n = eqb-true m n e in
-        let rest : new ≡ ps = is ∙ ap (λ b. cond b ps (cut n (RemoveRun m ∷ ps))) e in
-        rw (rest, same) refl
-    go false e =
-        let rest : new ≡ RemoveRun (m - n) ∷ ps = is ∙ ap (λ b. cond b ps (cut n (RemoveRun m ∷ ps))) e in
-        rw (rest, part_cut m n Remove le, append_assoc) refl
+run_first (KeepRun m ∷ ps) new n h le some is = run_cut m ps new KeepRun Keep (λ k. refl) n le is
+run_first (RemoveRun m ∷ ps) new n h le some is = run_cut m ps new RemoveRun Remove (λ k. refl) n le is
 
 -- ---- the steps of two lists of parts
 
@@ -91,11 +85,10 @@ text_base ps new text h t n = rw ((text_first ps new text h t n).marks, base_len
 
 later_behind : (ps : List Part) (q : List Mark) (text : List ℕ) → NoneEmpty ps → first_inserts ps ≡ false → steps (marks_of ps) (insert_marks text ++ q) ≡ map Later text ++ steps (marks_of ps) q
 later_behind [] q text some h = later_alone text q
-later_behind (KeepRun zero ∷ ps) q text some h = absurd (omega arith)
 later_behind (KeepRun (suc n) ∷ ps) q text some h = later_keep text (keep_marks n ++ marks_of ps) q
 later_behind (InsertText t ∷ ps) q text some h = absurd cc
-later_behind (RemoveRun zero ∷ ps) q text some h = absurd (omega arith)
 later_behind (RemoveRun (suc n) ∷ ps) q text some h = later_remove text (remove_marks n ++ marks_of ps) q
+later_behind ps q text some h = absurd (omega arith)
 
 pub later_text : (ps qs new : List Part) (text : List ℕ) → NoneEmpty ps → first_inserts ps ≡ false → first_inserts qs ≡ true → text ≡ take (first_len qs) (first_text qs) → new ≡ without (first_len qs) qs
     → steps (marks_of ps) (marks_of qs) ≡ map Later text ++ steps (marks_of ps) (marks_of new)
@@ -106,7 +99,7 @@ pub record BothFirst (ps qs ps' qs' : List Part) (n : ℕ) : Type 0 where
   pub steps_are : steps (marks_of ps) (marks_of qs) ≡ replicate n (Both (base_mark (first_removes ps)) (base_mark (first_removes qs))) ++ steps (marks_of ps') (marks_of qs')
   pub base : base_len (marks_of ps) ≡ base_len (marks_of qs) → base_len (marks_of ps') ≡ base_len (marks_of qs')
 
-base_len-marks : (m : Bool) (n : ℕ) → base_len (replicate n (base_mark m)) ≡ n
+pub base_len-marks : (m : Bool) (n : ℕ) → base_len (replicate n (base_mark m)) ≡ n
 base_len-marks true n = base_len-remove_marks n
 base_len-marks false n = base_len-keep_marks n
 

@@ -5,7 +5,7 @@ ghost use Rattle.sporc_base.specs.Outcome.{GivesUnless};
 ghost use Rattle.sporc_client.specs.ClientModel.{state_of, with_events};
 ghost use Rattle.sporc_client.specs.Drawing.{IsDraw, MayDraw, asks_draw, leaf_for, submitted_with};
 ghost use Rattle.sporc_client.specs.LeafUses.{IsUse, leaf_given, supply_of};
-ghost use Rattle.sporc_client.specs.Submissions.{Drop, due, is_signing, submission};
+ghost use Rattle.sporc_client.specs.Submissions.{Drop, due, is_signing, step_of, submission};
 ghost use Rattle.sporc_client.specs.Submissions.{submission_added};
 
 mod draft;
@@ -46,12 +46,20 @@ impl<D: LeafDisk> Client<D> {
     {
         // No draw: what the signer says here of its key's leaves is what `may` rests on.
         let _next = self.signer.next_leaf();
-        match find_due(&self.line, &self.own)? {
+        match self.find_due()? {
             Due::Waiting => Ok(Submitted::Waiting),
             Due::Nothing => Ok(Submitted::Nothing),
             Due::Drop(fault) => self.drop_first(by, fault),
             Due::Sign => self.submit_first(by, random),
         }
+    }
+
+    // What is due, or its fault.
+    fn find_due(&self) -> Result<Due, SubmitFault>
+        ensures { GivesUnless SubmitFault.Memory (λ d. d) result
+            (step_of (due (state_of self.now))) }
+    {
+        find_due(&self.line, &self.own)
     }
 
     // Takes off the first pending item, a change that the members refuse.

@@ -1,4 +1,4 @@
-use Rattle.sporc_client.proofs.Makings.{can_make, made_allowed}
+use Rattle.sporc_client.proofs.SubmitEntries.{can_make, made_allowed}
 use Rattle.sporc_client.proofs.laws.allowed_submissions_can_be_made.Goals as goal
 
 pub returns : goal.returns

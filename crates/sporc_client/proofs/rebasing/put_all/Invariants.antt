@@ -1,5 +1,5 @@
 use Rattle.std.proofs.Common.{◌≡◌, vec_len}
-use Rattle.sporc_client.specs.Passing.{CanAllBecome, all_became}
+use Rattle.sporc_client.proofs.Common.{CanAllBecome, all_became}
 use Rattle.sporc_client.proofs.rebasing.put_all.Given as goal
 
 abbrev pub invariant-items : goal.invariant-items

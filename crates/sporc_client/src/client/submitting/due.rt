@@ -1,13 +1,11 @@
 //! What is due at a submission.
 
 ghost use Rattle.std.specs.Prelude.{◌≡◌, [], ◌∷◌, length, nat_le};
-ghost use Rattle.lms_tree.specs.LmsPrivate.{LmsPrivate};
 ghost use Rattle.sporc_base.specs.FirstFault.{Answers, first_of, unless};
 ghost use Rattle.sporc_base.specs.Outcome.{GivesUnless};
 ghost use Rattle.sporc_delta.specs.Format.{delta_bytes};
-ghost use Rattle.sporc_client.specs.ClientInvariant.{plain_of};
 ghost use Rattle.sporc_client.specs.Entries.{kind_of};
-ghost use Rattle.sporc_client.specs.Submissions.{due, first_due, item_due, step_of};
+ghost use Rattle.sporc_client.specs.Submissions.{due_behind, first_due, item_due, step_of};
 ghost use Rattle.sporc_client.specs.Submissions.{submit_checks};
 ghost use Rattle.sporc_client.specs.declared.pending.Pending.TheVariants as items;
 
@@ -38,8 +36,8 @@ pub(crate) enum Due {
 
 // What is due, or its fault.
 pub(crate) fn find_due(line: &Line, own: &Workspace) -> Result<Due, SubmitFault>
-    ensures value { (key : LmsPrivate) → GivesUnless SubmitFault.Memory (λ d. d) result
-        (step_of (due (plain_of key line.now own.now))) }
+    ensures value { GivesUnless SubmitFault.Memory (λ d. d) result
+        (step_of (due_behind line.now own.now.shown own.now.pending own.now.flight)) }
 {
     if own.flight().is_some() {
         return Ok(Due::Waiting);
@@ -52,8 +50,8 @@ pub(crate) fn find_due(line: &Line, own: &Workspace) -> Result<Due, SubmitFault>
 
 // What is due of the first pending item.
 fn find_due_first(line: &Line, own: &Workspace, item: &Pending) -> Result<Due, SubmitFault>
-    ensures value { (key : LmsPrivate) → GivesUnless SubmitFault.Memory (λ d. d) result
-        (step_of (first_due (plain_of key line.now own.now) (item.now ∷ []))) }
+    ensures value { GivesUnless SubmitFault.Memory (λ d. d) result
+        (step_of (first_due line.now own.now.shown (item.now ∷ []))) }
 {
     check_submission(line, own, item)?;
     match item {
@@ -67,8 +65,7 @@ fn find_due_first(line: &Line, own: &Workspace, item: &Pending) -> Result<Due, S
 
 // The checks of a submission of an item, whatever the item says.
 fn check_submission(line: &Line, own: &Workspace, item: &Pending) -> Result<(), SubmitFault>
-    ensures fault { (key : LmsPrivate)
-        → Answers result (first_of (submit_checks (plain_of key line.now own.now) item.now)) }
+    ensures fault { Answers result (first_of (submit_checks line.now own.now.shown item.now)) }
 {
     if line.removed() {
         return Err(SubmitFault::Removed);

@@ -1,8 +1,8 @@
-use Rattle.std.proofs.Common.{ℕ, ◌≤◌, Ok, Err, refl, rules, sym, subst}
-use Rattle.sporc_clients.proofs.Common.{count_of_both, AppendsItem, TakesItem, shut_none, shut_one, link_told}
+use Rattle.std.proofs.Common.{Ok, Err, refl, rules}
+use Rattle.sporc_clients.proofs.Common.{shut_none, shut_one, link_told}
 use Rattle.sporc_clients.specs.Fetching.{broken, unreached}
 use Rattle.sporc_clients.proofs.Fetched.{no_disk_failed}
-use Rattle.sporc_clients.proofs.Sessioning.{fetched_again, told_again}
+use Rattle.sporc_clients.proofs.Sessioning.{fetched_again, told_again, link_used}
 use Rattle.sporc_clients.proofs.fetching.fetch_entries.Goals as goal
 
 pub returns-in_default-clause-shut : goal.returns-in_default-clause-shut
@@ -36,18 +36,8 @@ returns-in-Ok-fetched-clause-ok g c =
     record {
       first = g.N.Link.Stream.told c.in-Ok.link;
       last = g.N.Link.Stream.told c.shut.new.self;
-      uses = record {
-        asked = subst (λ asked. AppendsItem (g.N.Links.told c.args.net.now).asked asked c.args.address.now) (sym c.take_back.ensures.asked) c.in-Ok.ensures.asked;
-        came = subst (λ coming. TakesItem (g.N.Links.told c.args.net.now).coming coming (g.N.Link.Stream.told c.in-Ok.link)) (sym c.take_back.ensures.coming) c.in-Ok.ensures.did.next;
-        fresh = c.in-Ok.ensures.did.fresh;
-        is_open = c.in-Ok.ensures.did.not_shut;
-        ended = g.N.Link.Stream.told c.fetch-fetched.new.link;
-        still_open = c.fetch-fetched.ensures.shut;
-        told_then = same;
-        shut = c.shut.ensures.did.shut;
-        back = subst (λ returned. AppendsItem returned (g.N.Links.told c.take_back.new.self).returned (g.N.Link.Stream.told c.shut.new.self)) c.connect.ensures.did.returned c.take_back.ensures.returned;
-        counted = subst (λ (n : ℕ). count_of_both n (g.N.Link.Stream.told c.shut.new.self).faults ≤ (g.N.Links.told c.take_back.new.self).link_faults) c.connect.ensures.did.links c.take_back.ensures.links_kept;
-      };
+      uses = link_used c.args.address.now (g.N.Links.told c.take_back.new.self) c.in-Ok.ensures.did c.shut.ensures.did c.fetch-fetched.ensures.shut c.in-Ok.ensures.asked
+          c.take_back.ensures.asked c.take_back.ensures.coming c.take_back.ensures.returned c.take_back.ensures.links_kept;
       inbox = inbox;
       fetch = fetched_again _ _ inbox c.args.document.now c.args.member c.fetch-fetched.result (Ok c.in-Ok-fetched.entries) same c.in-Ok-fetched.is fetch;
     }
@@ -61,18 +51,8 @@ returns-in-Err-clause-err g c =
     (record {
       first = g.N.Link.Stream.told c.in-Ok.link;
       last = g.N.Link.Stream.told c.shut.new.self;
-      uses = record {
-        asked = subst (λ asked. AppendsItem (g.N.Links.told c.args.net.now).asked asked c.args.address.now) (sym c.take_back.ensures.asked) c.in-Ok.ensures.asked;
-        came = subst (λ coming. TakesItem (g.N.Links.told c.args.net.now).coming coming (g.N.Link.Stream.told c.in-Ok.link)) (sym c.take_back.ensures.coming) c.in-Ok.ensures.did.next;
-        fresh = c.in-Ok.ensures.did.fresh;
-        is_open = c.in-Ok.ensures.did.not_shut;
-        ended = g.N.Link.Stream.told c.fetch-fetched.new.link;
-        still_open = c.fetch-fetched.ensures.shut;
-        told_then = same;
-        shut = c.shut.ensures.did.shut;
-        back = subst (λ returned. AppendsItem returned (g.N.Links.told c.take_back.new.self).returned (g.N.Link.Stream.told c.shut.new.self)) c.connect.ensures.did.returned c.take_back.ensures.returned;
-        counted = subst (λ (n : ℕ). count_of_both n (g.N.Link.Stream.told c.shut.new.self).faults ≤ (g.N.Links.told c.take_back.new.self).link_faults) c.connect.ensures.did.links c.take_back.ensures.links_kept;
-      };
+      uses = link_used c.args.address.now (g.N.Links.told c.take_back.new.self) c.in-Ok.ensures.did c.shut.ensures.did c.fetch-fetched.ensures.shut c.in-Ok.ensures.asked
+          c.take_back.ensures.asked c.take_back.ensures.coming c.take_back.ensures.returned c.take_back.ensures.links_kept;
       inbox = inbox;
       fetch = fetched_again _ _ inbox c.args.document.now c.args.member c.fetch-fetched.result (Err c.in-Err.fault) same c.in-Err.is fetch;
     })

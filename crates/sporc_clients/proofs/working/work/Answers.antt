@@ -1,8 +1,8 @@
-use Rattle.std.proofs.Common.{◌≤◌, ℕ, refl, rules, sym, subst, ap, ◌∙◌, arith}
-use Rattle.sporc_clients.proofs.Common.{count_of_both, AppendsItem, TakesItem, shut_none, shut_one, out_of_memory, unreached, link_told}
+use Rattle.std.proofs.Common.{◌≤◌, ℕ, refl, rules, subst, ap, ◌∙◌, arith}
+use Rattle.sporc_clients.proofs.Common.{count_of_both, shut_none, shut_one, out_of_memory, unreached, link_told}
 use Rattle.sporc_clients.proofs.CountsRose.{rose_at_net}
 use Rattle.sporc_clients.proofs.Counting.{as_many, both_kept, one_is_out}
-use Rattle.sporc_clients.proofs.Sessioning.{over_same_link, told_again}
+use Rattle.sporc_clients.proofs.Sessioning.{over_same_link, told_again, link_used}
 use Rattle.sporc_clients.proofs.working.work.Goals as goal
 
 pub take_back-requires : goal.take_back-requires
@@ -16,19 +16,8 @@ pub returns-in-Ok-ended-clause-work : goal.returns-in-Ok-ended-clause-work
 returns-in-Ok-ended-clause-work g c = record {
   first = g.N.Link.Stream.told c.in-Ok.link;
   last = g.N.Link.Stream.told c.shut.new.self;
-  uses = record {
-    asked = subst (λ asked. AppendsItem (g.N.Links.told c.args.net.now).asked asked c.args.address.now) (sym c.take_back.ensures.asked) c.in-Ok.ensures.asked;
-    came = subst (λ coming. TakesItem (g.N.Links.told c.args.net.now).coming coming (g.N.Link.Stream.told c.in-Ok.link)) (sym c.take_back.ensures.coming) c.in-Ok.ensures.did.next;
-    fresh = c.in-Ok.ensures.did.fresh;
-    is_open = c.in-Ok.ensures.did.not_shut;
-    ended = g.N.Link.Stream.told c.run_session-ended.new.link;
-    still_open = c.run_session-ended.ensures.shut;
-    told_then = told_again (link_told (g.N.Link.Stream.told c.run_session-ended.new.link))
-        (link_told (g.N.Link.Stream.told c.shut.new.self)) c.shut.ensures.did.written c.shut.ensures.did.left c.shut.ensures.did.count;
-    shut = c.shut.ensures.did.shut;
-    back = subst (λ returned. AppendsItem returned (g.N.Links.told c.take_back.new.self).returned (g.N.Link.Stream.told c.shut.new.self)) c.connect.ensures.did.returned c.take_back.ensures.returned;
-    counted = subst (λ (n : ℕ). count_of_both n (g.N.Link.Stream.told c.shut.new.self).faults ≤ (g.N.Links.told c.take_back.new.self).link_faults) c.connect.ensures.did.links c.take_back.ensures.links_kept;
-  };
+  uses = link_used c.args.address.now (g.N.Links.told c.take_back.new.self) c.in-Ok.ensures.did c.shut.ensures.did c.run_session-ended.ensures.shut c.in-Ok.ensures.asked
+      c.take_back.ensures.asked c.take_back.ensures.coming c.take_back.ensures.returned c.take_back.ensures.links_kept;
   session = over_same_link _ _ _ _ _ _ _ _ c.shut.ensures.did.written c.shut.ensures.did.left c.shut.ensures.did.count c.in-Ok-ended.ensures.session;
 }
 
@@ -36,19 +25,8 @@ pub returns-in-Err-clause-err : goal.returns-in-Err-clause-err
 returns-in-Err-clause-err g c = out_of_memory (record {
   first = g.N.Link.Stream.told c.in-Ok.link;
   last = g.N.Link.Stream.told c.shut.new.self;
-  uses = record {
-    asked = subst (λ asked. AppendsItem (g.N.Links.told c.args.net.now).asked asked c.args.address.now) (sym c.take_back.ensures.asked) c.in-Ok.ensures.asked;
-    came = subst (λ coming. TakesItem (g.N.Links.told c.args.net.now).coming coming (g.N.Link.Stream.told c.in-Ok.link)) (sym c.take_back.ensures.coming) c.in-Ok.ensures.did.next;
-    fresh = c.in-Ok.ensures.did.fresh;
-    is_open = c.in-Ok.ensures.did.not_shut;
-    ended = g.N.Link.Stream.told c.run_session-ended.new.link;
-    still_open = c.run_session-ended.ensures.shut;
-    told_then = told_again (link_told (g.N.Link.Stream.told c.run_session-ended.new.link))
-        (link_told (g.N.Link.Stream.told c.shut.new.self)) c.shut.ensures.did.written c.shut.ensures.did.left c.shut.ensures.did.count;
-    shut = c.shut.ensures.did.shut;
-    back = subst (λ returned. AppendsItem returned (g.N.Links.told c.take_back.new.self).returned (g.N.Link.Stream.told c.shut.new.self)) c.connect.ensures.did.returned c.take_back.ensures.returned;
-    counted = subst (λ (n : ℕ). count_of_both n (g.N.Link.Stream.told c.shut.new.self).faults ≤ (g.N.Links.told c.take_back.new.self).link_faults) c.connect.ensures.did.links c.take_back.ensures.links_kept;
-  };
+  uses = link_used c.args.address.now (g.N.Links.told c.take_back.new.self) c.in-Ok.ensures.did c.shut.ensures.did c.run_session-ended.ensures.shut c.in-Ok.ensures.asked
+      c.take_back.ensures.asked c.take_back.ensures.coming c.take_back.ensures.returned c.take_back.ensures.links_kept;
   unused = told_again (link_told (g.N.Link.Stream.told c.run_session-ended.new.link))
       (link_told (g.N.Link.Stream.told c.shut.new.self)) c.shut.ensures.did.written c.shut.ensures.did.left c.shut.ensures.did.count
       ∙ ap (λ l. link_told (g.N.Link.Stream.told l)) c.in-Err.ensures.link;

@@ -1,6 +1,5 @@
 use Rattle.std.proofs.Common.{◌≡◌, ◌<◌, true, false, [], ◌∷◌, ◌++◌, Some, None, length, ap, sym, subst, ◌∙◌, arith}
-use Rattle.sporc_epoch.proofs.Common.{joins, joining, start_by}
-use Rattle.sporc_entry.specs.CommittedChanges.{change_in, changes}
+use Rattle.sporc_epoch.proofs.Common.{joins, joining, start_by, change_in, changes}
 use Rattle.sporc_epoch.proofs.Joinings.{Scanned, scanned_other, scanned_change, joining_found, starts_found, front_more, around}
 use Rattle.sporc_epoch.proofs.joining.find_joining.Goals as goal
 

@@ -1,6 +1,5 @@
 use Rattle.std.proofs.Common.{◌≡◌, length, ap, ◌∙◌}
-use Rattle.sporc_epoch.proofs.Common.{pairs_in}
-use Rattle.sha2.proofs.Facts256.{length-sha256}
+use Rattle.sporc_epoch.proofs.Common.{pairs_in, length-sha256}
 use Rattle.sporc_epoch.proofs.SpelledBodies.{spelled_with}
 use Rattle.sporc_epoch.proofs.seal.seal_change_at.Goals as goal
 

@@ -1,6 +1,5 @@
 use Rattle.std.proofs.Common.{◌≤◌, take}
-use Rattle.sporc_files.proofs.Common.{flat_map, argument_bytes}
-use Rattle.std.specs.Io.KnownBytes.{Appends}
+use Rattle.sporc_files.proofs.Common.{flat_map, argument_bytes, Appends}
 use Rattle.sporc_files.proofs.argument.write_arguments.Given as goal
 
 abbrev pub invariant-loop-argument : goal.invariant-loop-argument

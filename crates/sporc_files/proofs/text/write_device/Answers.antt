@@ -1,6 +1,5 @@
 use Rattle.std.proofs.Common.{codes}
-use Rattle.sporc_files.proofs.Common.{AppendsPrefix-first, AppendsPrefix-then, device_text}
-use Rattle.std.specs.Fmt.{decimal}
+use Rattle.sporc_files.proofs.Common.{AppendsPrefix-first, AppendsPrefix-then, device_text, decimal}
 use Rattle.sporc_files.proofs.Written.{any_err, cut_as, further_text, on_err, said}
 use Rattle.sporc_files.proofs.text.write_device.Goals as goal
 

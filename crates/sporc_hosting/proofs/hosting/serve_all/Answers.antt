@@ -1,8 +1,5 @@
 use Rattle.std.proofs.Common.{Err, Ok, [], inl, inr, ℕ, List, refl, sym, subst, ◌∙◌}
-use Rattle.sporc_hosting.proofs.Common.{AsksOnly, ServeAllOutcome, files_of_all, orders_in}
-use Rattle.sporc_outside.specs.Uses.{use_of}
-use Rattle.sporc_commands.specs.Moments.{moment_of}
-use Rattle.sporc_commands.specs.Rounds.{AsksAgain, ends}
+use Rattle.sporc_hosting.proofs.Common.{AsksOnly, ServeAllOutcome, files_of_all, orders_in, use_of, moment_of, AsksAgain, ends}
 use Rattle.sporc_hosting.proofs.Changed.{back_changes, tails_front, tails_then}
 use Rattle.sporc_hosting.proofs.Hosted.{all_open, asked_again, opened_first, tells_longer}
 use Rattle.sporc_hosting.proofs.hosting.serve_all.Goals as goal

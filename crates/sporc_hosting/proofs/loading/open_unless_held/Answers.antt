@@ -1,10 +1,8 @@
 use Rattle.std.proofs.Common.{◌≡◌, List, Option, Err, [], ◌∷◌, ap, sym, subst, ◌∙◌}
-use Rattle.sporc_hosting.proofs.Common.{OnErr, OnOk, option_map, err_from_is_err_and, NamedFile, file_name, asks_first, asks_then, changes_same}
-use Rattle.sporc_outside.specs.Files.{ChangesFile, made_in}
+use Rattle.sporc_hosting.proofs.Common.{OnErr, OnOk, option_map, err_from_is_err_and, NamedFile, file_name, asks_first, asks_then, changes_same, ChangesFile, made_in, OpenedOrder}
 use Rattle.sporc_files.specs.declared.file.File.TheVariants as files
 use Rattle.sporc_files.proofs.Written.{any_err}
 use Rattle.sporc_hosting.proofs.Loaded.{free_found, genesis_fails, held_found}
-use Rattle.sporc_commands.specs.declared.opening.OpenedOrder.{OpenedOrder}
 use Rattle.sporc_hosting.proofs.loading.open_unless_held.Goals as goal
 
 pub returns-in_err-genesis-clause-found : goal.returns-in_err-genesis-clause-found

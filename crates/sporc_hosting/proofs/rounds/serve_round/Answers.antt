@@ -1,7 +1,5 @@
 use Rattle.std.proofs.Common.{List, length, ap, sym, subst, ◌∙◌}
-use Rattle.sporc_hosting.proofs.Common.{OrderModel, ended, KeepsLogs}
-use Rattle.sporc_docs.specs.Served.{as_served}
-use Rattle.sporc_commands.specs.Moments.{moment_of}
+use Rattle.sporc_hosting.proofs.Common.{OrderModel, ended, KeepsLogs, as_served, moment_of}
 use Rattle.sporc_hosting.proofs.Saved.{as_many}
 use Rattle.sporc_hosting.proofs.rounds.serve_round.Goals as goal
 

@@ -1,7 +1,6 @@
 use Rattle.std.proofs.Common.{◌∙◌, arith}
-use Rattle.sporc_hosting.proofs.Common.{AsksOnly-trans, logs_of}
+use Rattle.sporc_hosting.proofs.Common.{AsksOnly-trans, logs_of, all_rounds, asks_more, asks_once, asks_within, ended_early, first_round, next_round}
 use Rattle.sporc_outside.proofs.Returning.{shut_then}
-use Rattle.sporc_commands.proofs.Roundabout.{all_rounds, asks_more, asks_once, asks_within, ended_early, first_round, next_round}
 use Rattle.sporc_hosting.proofs.rounds.serve_rounds.Goals as goal
 
 pub rounds-init : goal.rounds-init

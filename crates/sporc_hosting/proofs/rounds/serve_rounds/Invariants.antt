@@ -1,8 +1,6 @@
 use Rattle.std.proofs.Common.{◌≡◌, ◌≤◌, ◌-◌}
-use Rattle.sporc_hosting.proofs.Common.{AsksOnly, AreHeld, IsRoundOfAll, logs_of}
+use Rattle.sporc_hosting.proofs.Common.{AsksOnly, AreHeld, IsRoundOfAll, logs_of, AsksAgain, ends, stands, RoundsSoFar}
 use Rattle.sporc_outside.specs.Nets.{AreShutBehind}
-use Rattle.sporc_commands.specs.Rounds.{AsksAgain, ends, stands}
-use Rattle.sporc_commands.proofs.Roundabout.{RoundsSoFar}
 use Rattle.sporc_hosting.proofs.rounds.serve_rounds.Given as goal
 
 abbrev pub invariant-rounds : goal.invariant-rounds

@@ -1,7 +1,6 @@
 use Rattle.std.proofs.Common.{ap, ◌∙◌, arith}
-use Rattle.sporc_keys.proofs.Common.{take_all, founders_in}
+use Rattle.sporc_keys.proofs.Common.{take_all, founders_in, filter_map-append}
 use Rattle.std.proofs.lemmas.Grind.{common_steps}
-use Rattle.std.proofs.lemmas.List.Elements.{filter_map-append}
 use Rattle.sporc_keys.proofs.founders.founders_of.Goals as goal
 
 pub loop-one-preserved : goal.loop-one-preserved

@@ -1,6 +1,5 @@
 use Rattle.std.proofs.Common.{refl}
-use Rattle.sporc_keys.proofs.Common.{err_from_is_err_and, pair_at}
-use Rattle.sporc_bytes.proofs.Lists.{ascending_begins, ascending_ends, ascending_goes_on, ascending_is_done}
+use Rattle.sporc_keys.proofs.Common.{err_from_is_err_and, pair_at, ascending_begins, ascending_ends, ascending_goes_on, ascending_is_done}
 use Rattle.sporc_keys.specs.RingFile.{pairs_at}
 use Rattle.sporc_keys.proofs.ring_reading.read_pairs.Goals as goal
 

@@ -1,5 +1,4 @@
-use Rattle.sporc_keys.proofs.Common.{pair_at}
-use Rattle.sporc_bytes.proofs.Lists.{AreSoFar}
+use Rattle.sporc_keys.proofs.Common.{pair_at, AreSoFar}
 use Rattle.sporc_keys.proofs.ring_reading.read_pairs.Given as goal
 
 abbrev pub invariant-loop : goal.invariant-loop

@@ -1,7 +1,5 @@
 use Rattle.std.proofs.Common.{ℕ, Result, arith, ap₂, subst}
-use Rattle.sporc_keys.proofs.Common.{fault_as, RingFile, whole, ring_file_at}
-use Rattle.sporc_base.specs.Outcome.{GivesUnless}
-use Rattle.sporc_keys.specs.declared.fault.RingFileFault.TheVariants.{Malformed, Memory}
+use Rattle.sporc_keys.proofs.Common.{fault_as, RingFile, whole, ring_file_at, GivesUnless, Malformed, Memory}
 use Rattle.sporc_keys.proofs.RingFileLaws.{of_member_found}
 use Rattle.sporc_keys.proofs.ring_reading.ring_of_member.Goals as goal
 

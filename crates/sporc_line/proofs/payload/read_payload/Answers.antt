@@ -1,9 +1,6 @@
 use Rattle.std.proofs.Common.{◌≡◌, ◌≢◌, length, arith, Err, Some, ap, sym, ◌∙◌}
-use Rattle.sporc_line.proofs.Common.{Refusal}
-use Rattle.sporc_cipher.specs.Mask.{mask_of}
-use Rattle.sporc_cipher.proofs.Stream.{length-mask_from}
+use Rattle.sporc_line.proofs.Common.{Refusal, mask_of, length-mask_from, read_delta}
 use Rattle.sporc_delta.specs.declared.fault.DeltaFault.TheVariants as faults
-use Rattle.sporc_delta.specs.Reading.{read_delta}
 use Rattle.sporc_line.proofs.Payloads.{payload_fault}
 use Rattle.sporc_line.proofs.payload.read_payload.Goals as goal
 

@@ -1,8 +1,6 @@
 use Rattle.std.proofs.Common.{List, map, take, subst, arith}
-use Rattle.std.specs.List.{All}
-use Rattle.std.proofs.lemmas.List.{take_all}
-use Rattle.sporc_memory.specs.declared.append_call.AppendCall.{AppendCall}
-use Rattle.sporc_memory.specs.MemoryAppendFile.{IsImage, state_after}
+use Rattle.sporc_memory.proofs.Common.{All, take_all, AppendCall, IsImage}
+use Rattle.sporc_memory.specs.MemoryAppendFile.{state_after}
 use Rattle.sporc_memory.proofs.ListedImages.{pushed_are_images}
 use Rattle.sporc_memory.proofs.memory_append_file.list_images.Goals as goal
 

@@ -1,5 +1,6 @@
 use Rattle.std.proofs.Common.{◌≡◌, map, take}
-use Rattle.sporc_memory.specs.MemoryAppendFile.{listed_of, state_after}
+use Rattle.sporc_memory.proofs.Common.{listed_of}
+use Rattle.sporc_memory.specs.MemoryAppendFile.{state_after}
 use Rattle.sporc_memory.proofs.memory_append_file.list_images.Given as goal
 
 abbrev pub invariant-loop-call : goal.invariant-loop-call

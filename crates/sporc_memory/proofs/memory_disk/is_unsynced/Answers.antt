@@ -1,8 +1,5 @@
 use Rattle.std.proofs.Common.{rules, ℕ, [], List, take, length, IsTrue, ◌↔◌, ap, sym, subst, ◌∙◌, arith}
-use Rattle.std.proofs.Math.Seq.{take-length}
-use Rattle.std.proofs.lemmas.List.Sums.{fold_more}
-use Rattle.sporc_memory.specs.declared.disk_call.DiskCall.{DiskCall}
-use Rattle.sporc_memory.specs.MemoryDisk.{DiskState, IsUnsynced, after_call, state_after}
+use Rattle.sporc_memory.proofs.Common.{take-length, fold_more, DiskCall, DiskState, IsUnsynced, after_call, state_after}
 use Rattle.sporc_memory.proofs.memory_disk.is_unsynced.Goals as goal
 
 pub loop-call-init : goal.loop-call-init

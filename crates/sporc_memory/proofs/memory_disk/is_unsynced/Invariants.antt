@@ -1,5 +1,5 @@
 use Rattle.std.proofs.Common.{List, ℕ, take, IsTrue, ◌↔◌}
-use Rattle.sporc_memory.specs.MemoryDisk.{IsUnsynced, state_after}
+use Rattle.sporc_memory.proofs.Common.{IsUnsynced, state_after}
 use Rattle.sporc_memory.proofs.memory_disk.is_unsynced.Given as goal
 
 abbrev pub invariant-loop-call : goal.invariant-loop-call

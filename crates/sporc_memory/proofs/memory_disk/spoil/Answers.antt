@@ -1,5 +1,5 @@
 use Rattle.std.proofs.Common.{rules, Bool, false, IsTrue, ◌≡◌, ℕ, ◌+◌, ◌<◌, List, refl, sym, subst, arith}
-use Rattle.sporc_memory.specs.MemoryDisk.{state_after}
+use Rattle.sporc_memory.proofs.Common.{state_after}
 use Rattle.sporc_memory.proofs.Spoiling.{SpoiltTo, leaves_one, spoils_one}
 use Rattle.sporc_memory.proofs.memory_disk.spoil.Goals.{then-is_unsynced, else-is_unsynced}
 use Rattle.sporc_memory.proofs.memory_disk.spoil.Goals as goal

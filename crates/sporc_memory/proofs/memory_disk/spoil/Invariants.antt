@@ -1,5 +1,5 @@
 use Rattle.std.proofs.Common.{List, ℕ}
-use Rattle.sporc_memory.specs.MemoryDisk.{state_after}
+use Rattle.sporc_memory.proofs.Common.{state_after}
 use Rattle.sporc_memory.proofs.Spoiling.{SpoiltTo}
 use Rattle.sporc_memory.proofs.memory_disk.spoil.Given as goal
 

@@ -1,8 +1,5 @@
 use Rattle.std.proofs.Common.{◌≡◌, false, List, ℕ, subst, arith, rules}
-use Rattle.std.specs.List.{All}
-use Rattle.std.specs.Str.{bytes_eq}
-use Rattle.std.proofs.lemmas.List.{take_all}
-use Rattle.std.proofs.lemmas.List.Elements.{All-more}
+use Rattle.sporc_memory.proofs.Common.{All, bytes_eq, take_all, All-more}
 use Rattle.sporc_memory.proofs.memory_folder.is_listed.Goals as goal
 
 pub loop-i-preserved : goal.loop-i-preserved

@@ -1,6 +1,5 @@
 use Rattle.std.proofs.Common.{◌≡◌, false, take}
-use Rattle.std.specs.List.{All}
-use Rattle.std.specs.Str.{bytes_eq}
+use Rattle.sporc_memory.proofs.Common.{All, bytes_eq}
 use Rattle.sporc_memory.proofs.memory_folder.is_listed.Given as goal
 
 abbrev pub invariant-loop-i : goal.invariant-loop-i

@@ -1,6 +1,5 @@
 use Rattle.std.proofs.Common.{◌≡◌, ◌+◌, ℕ, suc, take, subst, arith, rules, true, false, None}
-use Rattle.std.specs.Str.{bytes_eq}
-use Rattle.sporc_outside.specs.Files.{file_in}
+use Rattle.sporc_memory.proofs.Common.{bytes_eq, file_in}
 use Rattle.sporc_memory.proofs.Files.{place_from, none_more}
 use Rattle.sporc_memory.proofs.memory_folder.place_of.Goals as goal
 

@@ -1,5 +1,5 @@
 use Rattle.std.proofs.Common.{◌≡◌, None, take}
-use Rattle.sporc_outside.specs.Files.{file_in}
+use Rattle.sporc_memory.proofs.Common.{file_in}
 use Rattle.sporc_memory.proofs.memory_folder.place_of.Given as goal
 
 abbrev pub invariant-loop-i : goal.invariant-loop-i

@@ -1,6 +1,5 @@
 use Rattle.std.proofs.Common.{drop}
-use Rattle.sporc_wire.specs.declared.to_client.TheConstants.{MAX_PULLED}
-use Rattle.sporc_order.specs.declared.order.TheConstants.{MAX_PULLED_BYTES}
+use Rattle.sporc_order.proofs.Common.{MAX_PULLED, MAX_PULLED_BYTES}
 use Rattle.sporc_order.proofs.Longest.{is_prefix, longest}
 use Rattle.sporc_order.proofs.Sizes.{batch_bytes, batch_len}
 use Rattle.sporc_order.proofs.laws.batches_are_longest.Goals as goal

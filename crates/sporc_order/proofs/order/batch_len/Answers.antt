@@ -1,8 +1,5 @@
 use Rattle.std.proofs.Common.{rules, ◌≡◌, ◌+◌, ◌-◌, ◌++◌, List, ℕ, true, false, ltb, leb, length, map, drop, take, sym, subst, arith}
-use Rattle.std.specs.Prelude.{◌&&◌}
-use Rattle.sporc_wire.specs.declared.to_client.TheConstants.{MAX_PULLED}
-use Rattle.sporc_order.specs.declared.order.TheConstants.{MAX_PULLED_BYTES}
-use Rattle.sporc_order.specs.Batches.{longest_batch}
+use Rattle.sporc_order.proofs.Common.{◌&&◌, MAX_PULLED, MAX_PULLED_BYTES, longest_batch}
 use Rattle.sporc_order.proofs.Batches.{bytes_of, from_place, goes_on, ends, has_room}
 use Rattle.sporc_order.proofs.order.batch_len.Goals as goal
 

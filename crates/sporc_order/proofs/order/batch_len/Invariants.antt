@@ -1,7 +1,5 @@
 use Rattle.std.proofs.Common.{◌≡◌, ◌≤◌, ◌-◌, ◌++◌, take, drop, map}
-use Rattle.sporc_wire.specs.declared.to_client.TheConstants.{MAX_PULLED}
-use Rattle.sporc_order.specs.declared.order.TheConstants.{MAX_PULLED_BYTES}
-use Rattle.sporc_order.specs.Batches.{longest_batch}
+use Rattle.sporc_order.proofs.Common.{MAX_PULLED, MAX_PULLED_BYTES, longest_batch}
 use Rattle.sporc_order.proofs.Batches.{bytes_of}
 use Rattle.sporc_order.proofs.order.batch_len.Given as goal
 

@@ -1,7 +1,7 @@
 use Rattle.std.proofs.Common.{ap, codes}
 use Rattle.sporc_play.proofs.Common.{ClientModel}
-use Rattle.sporc_play.proofs.ShownForms.{events_told}
-use Rattle.sporc_play.proofs.Told.{event_told}
+use Rattle.sporc_play.proofs.ShortTexts.{events_told}
+use Rattle.sporc_play.proofs.Reported.{event_told}
 use Rattle.sporc_play.proofs.acting.discard.Goals as goal
 
 pub returns-in-Some-clause-line : goal.returns-in-Some-clause-line

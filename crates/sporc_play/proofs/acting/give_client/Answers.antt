@@ -1,6 +1,6 @@
 use Rattle.std.proofs.Common.{rules}
 use Rattle.sporc_play.proofs.Common.{state_of}
-use Rattle.sporc_play.proofs.Told.{left_event, taken_event}
+use Rattle.sporc_play.proofs.Reported.{left_event, taken_event}
 use Rattle.sporc_play.proofs.acting.give_client.Goals as goal
 
 pub returns-in-Ok-clause-log : goal.returns-in-Ok-clause-log

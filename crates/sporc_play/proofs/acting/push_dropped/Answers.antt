@@ -1,6 +1,5 @@
 use Rattle.std.proofs.Common.{◌++◌, List, ℕ, ap, codes, string_bytes, ◌∙◌}
-use Rattle.sporc_play.proofs.Common.{device_text, told_in_parts}
-use Rattle.sporc_member.specs.ChangeFault.{change_fault_name}
+use Rattle.sporc_play.proofs.Common.{device_text, told_in_parts, change_fault_name}
 use Rattle.sporc_play.proofs.acting.push_dropped.Goals as goal
 
 pub returns : goal.returns

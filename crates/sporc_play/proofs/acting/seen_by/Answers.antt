@@ -1,4 +1,4 @@
-use Rattle.sporc_play.proofs.ShownForms.{journal_count}
+use Rattle.sporc_play.proofs.ShortTexts.{journal_count}
 use Rattle.sporc_play.proofs.acting.seen_by.Goals as goal
 
 pub returns-in-None : goal.returns-in-None

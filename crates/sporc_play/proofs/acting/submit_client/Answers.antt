@@ -1,8 +1,8 @@
 use Rattle.sporc_play.proofs.Submitted.{submits, told_made, Submits}
 use Rattle.sporc_play.proofs.acting.submit_client.Goals as goal
 use Rattle.sporc_play.proofs.Becoming.{ok_both, ok_then}
-use Rattle.sporc_play.proofs.Common.{Submitted, SubmitFault, submit_line, IsSubmitted}
 use Rattle.std.proofs.Common.{string_bytes, sym, ap, ◌∙◌, ◌++◌, Result, subst}
+use Rattle.sporc_play.proofs.Common.{Submitted, SubmitFault, submit_line, IsSubmitted}
 
 pub returns-clause-line : goal.returns-clause-line
 returns-clause-line c =

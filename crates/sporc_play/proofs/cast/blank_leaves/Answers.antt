@@ -1,7 +1,6 @@
 use Rattle.std.proofs.Common.{◌≡◌, ℕ, ◌*◌, List, ap, ◌∙◌}
-use Rattle.sporc_play.proofs.Common.{replicate, MemoryDiskModel, state_after}
+use Rattle.sporc_play.proofs.Common.{replicate, MemoryDiskModel, state_after, block_count, taken_blocks}
 use Rattle.lms_leaf.specs.declared.leaf_file.TheConstants.{LEAVES_PER_BLOCK}
-use Rattle.lms_leaf.specs.LeafFile.{block_count, taken_blocks}
 use Rattle.sporc_play.proofs.Blanks.{none_taken}
 use Rattle.sporc_play.proofs.cast.blank_leaves.Goals as goal
 

@@ -1,8 +1,7 @@
 use Rattle.std.proofs.Common.{◌<◌, ◌^◌, List, ℕ, length, sym, subst, arith}
-use Rattle.sporc_play.proofs.Common.{IsSmallBody}
+use Rattle.sporc_play.proofs.Common.{IsSmallBody, IfOk-weaker}
 use Rattle.sporc_play.proofs.Forgeries.{small_bytes, spoiled_small}
 use Rattle.sporc_play.proofs.forging.change_body.Goals as goal
-use Rattle.std.proofs.lemmas.Result.{IfOk-weaker}
 
 pub write_change-requires : goal.write_change-requires
 write_change-requires c =

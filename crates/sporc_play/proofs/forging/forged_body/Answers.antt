@@ -1,8 +1,6 @@
 use Rattle.std.proofs.Common.{◌≡◌, sym, subst}
-use Rattle.sporc_play.proofs.Common.{state_of, Setup, What, forged_body, IsCastOf}
-use Rattle.std.specs.Prelude.{IfOk}
+use Rattle.sporc_play.proofs.Common.{state_of, Setup, What, forged_body, IsCastOf, IfOk, IfOk-weaker}
 use Rattle.sporc_play.proofs.forging.forged_body.Goals as goal
-use Rattle.std.proofs.lemmas.Result.{IfOk-weaker}
 
 pub returns-in-Insert-clause-value : goal.returns-in-Insert-clause-value
 returns-in-Insert-clause-value c =

@@ -1,8 +1,7 @@
 use Rattle.std.proofs.Common.{◌≤◌, List, ℕ, length, sym, subst, ◌∙◌}
-use Rattle.sporc_play.proofs.Common.{MAX_MEMBERS, IsGenesis, roster_of, Good, state_of, Opening, replay_opening}
+use Rattle.sporc_play.proofs.Common.{MAX_MEMBERS, IsGenesis, roster_of, Good, state_of, Opening, replay_opening, IfOk-weaker}
 use Rattle.sporc_play.proofs.Forgeries.{accepted_members, few_sealed, refused_members}
 use Rattle.sporc_play.proofs.forging.sealed_for.Goals as goal
-use Rattle.std.proofs.lemmas.Result.{IfOk-weaker}
 
 pub returns-in-Ok-clause-within : goal.returns-in-Ok-clause-within
 returns-in-Ok-clause-within c =

@@ -1,8 +1,7 @@
 use Rattle.std.proofs.Common.{ℕ, ap, ◌∙◌}
-use Rattle.sporc_play.proofs.Common.{state_of, unsigned_by}
+use Rattle.sporc_play.proofs.Common.{state_of, unsigned_by, IfOk-weaker}
 use Rattle.sporc_play.proofs.Forgeries.{signed_same}
 use Rattle.sporc_play.proofs.forging.sign_with.Goals as goal
-use Rattle.std.proofs.lemmas.Result.{IfOk-weaker}
 
 pub returns-in-Ok-sign-clause-entry : goal.returns-in-Ok-sign-clause-entry
 returns-in-Ok-sign-clause-entry c =

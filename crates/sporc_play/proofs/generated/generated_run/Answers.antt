@@ -1,7 +1,7 @@
 use Rattle.std.proofs.Common.{◌≡◌, ◌*◌, ◌/◌, ◌%◌, ℕ, arith, subst, sym, ◌∙◌}
 use Rattle.sporc_play.proofs.Common.{setup_of, batch, batches, generated_cast, after_each, opening, AreDeclared, StandsFor}
 use Rattle.sporc_play.proofs.Batched.{batches_more, run_room, stands_both}
-use Rattle.sporc_play.proofs.Generating.{generated_declared}
+use Rattle.sporc_play.proofs.GeneratedRun.{generated_declared}
 use Rattle.sporc_play.proofs.generated.generated_run.Goals as goal
 
 pub new-requires : goal.new-requires

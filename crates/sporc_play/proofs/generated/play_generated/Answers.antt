@@ -1,10 +1,8 @@
 use Rattle.std.proofs.Common.{rules, ◌≡◌, ℕ, List, Err, string_bytes, subst}
-use Rattle.sporc_play.proofs.Common.{Appends, generated_scene}
+use Rattle.sporc_play.proofs.Common.{Appends, generated_scene, AppendsPrefix}
 use Rattle.sporc_outside.specs.Counts.{Rose}
-use Rattle.sporc_outside.specs.Writing.{AppendsPrefix}
 use Rattle.sporc_play.specs.declared.fault.PlayFault.TheVariants as faults
-use Rattle.sporc_play.proofs.GeneratedRun.{generated_one}
-use Rattle.sporc_play.proofs.Generating.{generated_open}
+use Rattle.sporc_play.proofs.GeneratedRun.{generated_one, generated_open}
 use Rattle.sporc_play.proofs.generated.play_generated.Goals as goal
 
 pub summary-line-requires : goal.summary-line-requires

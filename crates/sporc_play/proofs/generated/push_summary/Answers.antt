@@ -1,8 +1,6 @@
 use Rattle.std.proofs.Common.{◌≡◌, ◌++◌, ℕ, List, codes, length, string_bytes, ap, sym, ◌∙◌}
-use Rattle.sporc_play.proofs.Common.{hash_of, state_of, Opening, committed_of, replay_opening}
-use Rattle.std.specs.Fmt.{decimal}
-use Rattle.hex.specs.Hex.{encode_lower}
-use Rattle.sporc_play.proofs.Summaries.{summary_told}
+use Rattle.sporc_play.proofs.Common.{hash_of, state_of, Opening, committed_of, replay_opening, decimal, encode_lower}
+use Rattle.sporc_play.proofs.GeneratedRun.{summary_told}
 use Rattle.sporc_play.proofs.generated.push_summary.Goals as goal
 
 pub returns : goal.returns

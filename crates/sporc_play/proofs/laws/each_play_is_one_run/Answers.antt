@@ -1,4 +1,4 @@
-use Rattle.sporc_play.proofs.OneRun.{one_run, typed_run}
+use Rattle.sporc_play.proofs.ClosedPlays.{one_run, typed_run}
 use Rattle.sporc_play.proofs.laws.each_play_is_one_run.Goals as goal
 
 pub returns : goal.returns

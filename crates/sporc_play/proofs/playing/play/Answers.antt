@@ -1,6 +1,6 @@
 use Rattle.std.proofs.Common.{ℕ, List, sym, subst}
 use Rattle.sporc_play.proofs.Common.{IsPlayScript, PlayLine}
-use Rattle.sporc_play.proofs.Played.{played}
+use Rattle.sporc_play.proofs.ClosedPlays.{played}
 use Rattle.sporc_play.proofs.playing.play.Goals as goal
 
 pub write_report-requires : goal.write_report-requires

@@ -1,6 +1,5 @@
 use Rattle.std.proofs.Common.{◌++◌, ℕ, List, ap, ◌∙◌, subst}
-use Rattle.sporc_play.proofs.Common.{Appends}
-use Rattle.sporc_outside.specs.Writing.{AppendsPrefix}
+use Rattle.sporc_play.proofs.Common.{Appends, AppendsPrefix}
 use Rattle.sporc_play.proofs.playing.write_line.Goals as goal
 
 pub returns-in_err-write_all-clause-prefix : goal.returns-in_err-write_all-clause-prefix

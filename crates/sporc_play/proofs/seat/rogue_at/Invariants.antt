@@ -1,6 +1,6 @@
 use Rattle.std.proofs.Common.{take}
 use Rattle.sporc_play.proofs.Common.{rogue_devices}
-use Rattle.sporc_play.proofs.Distinct.{IsNotIn}
+use Rattle.sporc_play.proofs.Places.{IsNotIn}
 use Rattle.sporc_play.proofs.seat.rogue_at.Given as goal
 
 abbrev pub invariant-loop-i : goal.invariant-loop-i

@@ -1,6 +1,6 @@
-use Rattle.std.proofs.Common.{◌≡◌, true, false, ap, sym, ◌∙◌}
-use Rattle.sporc_play.proofs.Common.{Device, same_device, one_same, same_one, Seat}
-use Rattle.sporc_play.proofs.Places.{element, not_in_more, nowhere}
+use Rattle.std.proofs.Common.{true, false, sym, ◌∙◌}
+use Rattle.sporc_play.proofs.Common.{same_one, Seat}
+use Rattle.sporc_play.proofs.Places.{element, not_in_more, not_same, nowhere}
 use Rattle.sporc_play.proofs.seat.seat_at.Goals as goal
 
 pub returns-then-is : goal.returns-then-is
@@ -11,13 +11,10 @@ returns-then-is c = record {
   );
 }
 
-apart : (a b : Device) → same_device a b ≡ false → a ≡ b → ⊥
-apart a b other same = let yes : same_device a b ≡ true = ap (same_device a) (sym same) ∙ one_same a in cc
-
 pub loop-i-preserved : goal.loop-i-preserved
 loop-i-preserved c =
     not_in_more (λ (x : Seat). x.device) c.args.device c.args.seats.now c.loop-i.i c.index-seats-i.result c.loop-i-test.true c.index-seats-i.is
-    (apart c.index-seats-i.result.device c.args.device (sym c.is.ensures.value ∙ c.if-is.false)) c.loop-i.invariant
+    (not_same c.index-seats-i.result.device c.args.device (sym c.is.ensures.value ∙ c.if-is.false)) c.loop-i.invariant
 
 pub unreachable-requires : goal.unreachable-requires
 unreachable-requires c = nowhere (λ (x : Seat). x.device) c.args.device c.args.seats.now c.loop-i.i c.loop-i-test.false c.loop-i.invariant c.requires.seated

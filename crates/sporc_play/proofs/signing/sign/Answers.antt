@@ -1,6 +1,6 @@
 use Rattle.std.proofs.Common.{◌++◌, Bool, List, ℕ, ap, ◌∙◌, string_bytes}
 use Rattle.sporc_play.proofs.Common.{Device, first_device, state_of, leaf_after, signed_line}
-use Rattle.sporc_play.proofs.Signed.{signing_is}
+use Rattle.sporc_play.proofs.Forgeries.{signing_is}
 use Rattle.sporc_play.proofs.signing.sign.Goals as goal
 
 pub returns-clause-line : goal.returns-clause-line

@@ -1,6 +1,5 @@
 use Rattle.std.proofs.Common.{◌≡◌, ◌-◌, ◌++◌, length, string_bytes}
-use Rattle.sporc_report.specs.Appending.{BeginsWith}
-use Rattle.sporc_report.specs.EntryLines.{committed, entry_lines, lines_behind}
+use Rattle.sporc_report.proofs.Common.{BeginsWith, committed, entry_lines, lines_behind}
 use Rattle.sporc_report.proofs.entries.push_entries.Given as goal
 
 abbrev pub invariant-lines : goal.invariant-lines

@@ -1,6 +1,5 @@
 use Rattle.std.proofs.Common.{ap, ◌∙◌, arith}
-use Rattle.sporc_report.proofs.Common.{take_all, hash_of}
-use Rattle.sporc_entry.specs.declared.genesis.Genesis.{Genesis}
+use Rattle.sporc_report.proofs.Common.{take_all, hash_of, Genesis}
 use Rattle.sporc_report.proofs.showing.last_hash.Goals as goal
 
 pub returns : goal.returns

@@ -1,7 +1,6 @@
 use Rattle.std.proofs.Common.{◌≡◌, ◌++◌, ℕ, List, string_bytes, codes, ap, sym, ◌∙◌}
-use Rattle.sporc_report.proofs.Common.{state_of, Opening, hash_of, Device, device_text}
+use Rattle.sporc_report.proofs.Common.{state_of, Opening, hash_of, Device, device_text, replay_opening}
 use Rattle.hex.specs.Hex.{encode_lower}
-use Rattle.sporc_client.proofs.Calls.{replay_opening}
 use Rattle.sporc_report.proofs.Parts.{told_by_last}
 use Rattle.sporc_report.proofs.showing.push_hash.Goals as goal
 

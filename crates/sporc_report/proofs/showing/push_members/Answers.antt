@@ -1,6 +1,5 @@
 use Rattle.std.proofs.Common.{◌≡◌, ◌++◌, string_bytes, codes, ap, sym, ◌∙◌}
-use Rattle.sporc_report.proofs.Common.{state_of, Opening, roster_of, Device, device_text, members_text}
-use Rattle.sporc_client.proofs.Calls.{replay_opening}
+use Rattle.sporc_report.proofs.Common.{state_of, Opening, roster_of, Device, device_text, members_text, replay_opening}
 use Rattle.sporc_report.proofs.Parts.{told_by_last}
 use Rattle.sporc_report.proofs.showing.push_members.Goals as goal
 

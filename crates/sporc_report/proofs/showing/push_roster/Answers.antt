@@ -1,6 +1,5 @@
 use Rattle.std.proofs.Common.{ℕ, List, ◌++◌, flat_map, string_bytes, subst, ap, ◌∙◌}
-use Rattle.sporc_report.proofs.Common.{take_all, Roster, member_at, members_text, text_of_member}
-use Rattle.std.specs.List.Sorted.{IsStrictlyIncreasing}
+use Rattle.sporc_report.proofs.Common.{take_all, Roster, member_at, members_text, text_of_member, IsStrictlyIncreasing}
 use Rattle.sporc_report.proofs.Rosters.{numbered_texts}
 use Rattle.sporc_report.proofs.showing.push_roster.Goals as goal
 

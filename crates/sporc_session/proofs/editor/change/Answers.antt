@@ -1,6 +1,6 @@
 use Rattle.sporc_session.proofs.Common.{known_of}
 use Rattle.sporc_session.proofs.Stating.{changed, changed_counts}
-use Rattle.sporc_session.proofs.Wearing.{edited_worn}
+use Rattle.sporc_session.proofs.Wearing.{edited_fault, replied_worn}
 use Rattle.sporc_session.proofs.editor.change.Goals as goal
 
 pub returns-clause-did : goal.returns-clause-did
@@ -15,4 +15,4 @@ returns-clause-counts g c =
 
 pub returns-clause-worn : goal.returns-clause-worn
 returns-clause-worn g c =
-    edited_worn c.args.pass c.number-number.result c.args.line c.change.result c.plain-answer.result c.edited.result c.plain-answer.ensures c.edited.ensures c.change.ensures.worn
+    replied_worn _ (edited_fault c.number-number.result c.args.line) c.args.pass c.change.result c.plain-answer.ensures c.edited.ensures c.change.ensures.worn

@@ -5,7 +5,7 @@ use Rattle.sporc_session.proofs.Tracing.{and_then}
 use Rattle.sporc_session.proofs.Phasing.{IsWhose, hello_sent}
 use Rattle.sporc_session.proofs.Stepping.{ask_did}
 use Rattle.sporc_session.proofs.Telling.{told, was_told, worn_stopped}
-use Rattle.sporc_session.proofs.Wearing.{told_worn, unsent_worn, worn_at}
+use Rattle.sporc_session.proofs.Wearing.{replied_worn, unsent_worn, worn_at, worn_fault}
 use Rattle.sporc_session.proofs.phase.greet.Goals as goal
 
 pub returns-in-Ok-clause-did : goal.returns-in-Ok-clause-did
@@ -24,4 +24,4 @@ returns-in-Ok-clause-worn g c =
 
 pub returns-in-Err-clause-worn : goal.returns-in-Err-clause-worn
 returns-in-Err-clause-worn g c =
-    worn_at c.plain-answer.result.1 c.worn.result c.in-Err.fault c.in-Err.is (told_worn c.args.pass c.membership.result c.plain-answer.result c.worn.result c.plain-answer.ensures c.worn.ensures c.membership.ensures.worn)
+    worn_at c.plain-answer.result.1 c.worn.result c.in-Err.fault c.in-Err.is (replied_worn _ worn_fault c.args.pass c.membership.result c.plain-answer.ensures c.worn.ensures c.membership.ensures.worn)

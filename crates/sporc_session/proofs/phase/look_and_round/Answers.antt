@@ -3,7 +3,7 @@ use Rattle.sporc_session.proofs.Common.{IsLookAt, always}
 use Rattle.sporc_session.proofs.Tracing.{and_then, stopped_within}
 use Rattle.sporc_session.proofs.Phasing.{look_small, round_begins}
 use Rattle.sporc_session.proofs.Telling.{told, was_told, worn_stopped}
-use Rattle.sporc_session.proofs.Wearing.{told_worn, worn_at}
+use Rattle.sporc_session.proofs.Wearing.{replied_worn, worn_at, worn_fault}
 use Rattle.sporc_session.proofs.phase.look_and_round.Goals as goal
 
 pub round-requires-clause-limit : goal.round-requires-clause-limit
@@ -19,4 +19,4 @@ returns-in-Err-clause-did g c n = record { ends = stopped_within n (n + 1) (omeg
 
 pub returns-in-Err-clause-worn : goal.returns-in-Err-clause-worn
 returns-in-Err-clause-worn g c =
-    worn_at c.plain-answer.result.1 c.worn.result c.in-Err.fault c.in-Err.is (told_worn c.args.pass c.look.result c.plain-answer.result c.worn.result c.plain-answer.ensures c.worn.ensures c.look.ensures.worn)
+    worn_at c.plain-answer.result.1 c.worn.result c.in-Err.fault c.in-Err.is (replied_worn _ worn_fault c.args.pass c.look.result c.plain-answer.ensures c.worn.ensures c.look.ensures.worn)

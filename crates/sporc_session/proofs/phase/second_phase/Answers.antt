@@ -4,7 +4,7 @@ use Rattle.sporc_session.proofs.Tracing.{and_then, did_none, did_stopped, did_th
 use Rattle.sporc_session.proofs.Knowing.{counts_then}
 use Rattle.sporc_session.proofs.Phasing.{look_small, round_begins, second_settles, second_spent, second_worn}
 use Rattle.sporc_session.proofs.Telling.{told, told_counts, was_told, worn_counts}
-use Rattle.sporc_session.proofs.Wearing.{told_worn, worn_at}
+use Rattle.sporc_session.proofs.Wearing.{replied_worn, worn_at, worn_fault}
 use Rattle.sporc_session.proofs.phase.second_phase.Goals as goal
 
 pub loop-look-init : goal.loop-look-init
@@ -73,7 +73,7 @@ returns-in-Err-one-clause-counts g c =
 
 pub returns-in-Err-clause-worn : goal.returns-in-Err-clause-worn
 returns-in-Err-clause-worn g c =
-    worn_at c.plain-answer.result.1 c.worn.result c.in-Err.fault c.in-Err.is (told_worn c.loop-look.mine c.look.result c.plain-answer.result c.worn.result c.plain-answer.ensures c.worn.ensures c.look.ensures.worn)
+    worn_at c.plain-answer.result.1 c.worn.result c.in-Err.fault c.in-Err.is (replied_worn _ worn_fault c.loop-look.mine c.look.result c.plain-answer.ensures c.worn.ensures c.look.ensures.worn)
 
 pub returns-in-Err-one-clause-worn : goal.returns-in-Err-one-clause-worn
 returns-in-Err-one-clause-worn g c =

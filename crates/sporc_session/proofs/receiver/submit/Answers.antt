@@ -1,6 +1,6 @@
 use Rattle.sporc_session.proofs.Common.{known_of}
 use Rattle.sporc_session.proofs.Submitting.{not_drawn, submitted_counts, submitted_one, submitted_short}
-use Rattle.sporc_session.proofs.Wearing.{made_worn, undrawn_unworn}
+use Rattle.sporc_session.proofs.Wearing.{made_fault, replied_worn, undrawn_unworn}
 use Rattle.sporc_session.proofs.receiver.submit.Goals as goal
 
 pub returns-in-Ok-clause-submitted : goal.returns-in-Ok-clause-submitted
@@ -9,7 +9,7 @@ returns-in-Ok-clause-submitted g c =
 
 pub returns-in-Ok-clause-within : goal.returns-in-Ok-clause-within
 returns-in-Ok-clause-within g c =
-    submitted_short (known_of c.args.pass) c.submit.result c.plain-answer.result c.made.result c.in-Ok.random c.plain-answer.ensures c.made.ensures c.submit.ensures.call
+    submitted_short (known_of c.args.pass) c.submit.result c.plain-answer.result c.made.result c.in-Ok.random c.plain-answer.ensures c.made.ensures c.submit.ensures.call c.submit.ensures.worn
 
 pub returns-in-Ok-clause-counts : goal.returns-in-Ok-clause-counts
 returns-in-Ok-clause-counts g c =
@@ -22,7 +22,7 @@ returns-in-Err-clause-submitted g c =
 
 pub returns-in-Ok-clause-worn : goal.returns-in-Ok-clause-worn
 returns-in-Ok-clause-worn g c =
-    made_worn c.args.pass c.submit.result c.plain-answer.result c.made.result c.plain-answer.ensures c.made.ensures c.submit.ensures.worn
+    replied_worn _ made_fault c.args.pass c.submit.result c.plain-answer.ensures c.made.ensures c.submit.ensures.worn
 
 pub returns-in-Err-clause-worn : goal.returns-in-Err-clause-worn
 returns-in-Err-clause-worn g c =

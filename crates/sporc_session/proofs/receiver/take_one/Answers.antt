@@ -2,7 +2,7 @@ use Rattle.std.proofs.Common.{◌≡◌, ◌+◌, ℕ, List, [], ◌∷◌, Opti
 use Rattle.sporc_session.proofs.Common.{Result, ⊤, Known, known_of, Accept, Item, Happened, Past, key_at, SessionFault, KnowsMore, TakeCause, TookOne}
 use Rattle.sporc_session.proofs.Knowing.{knows_none, knows_then}
 use Rattle.sporc_session.proofs.Telling.{TellsOr, told, told_knows, was_told}
-use Rattle.sporc_session.proofs.Wearing.{told_worn, worn_at}
+use Rattle.sporc_session.proofs.Wearing.{replied_worn, worn_at, worn_fault}
 use Rattle.sporc_session.proofs.receiver.take_one.Goals as goal
 
 -- the key was asked for, and then the entry was taken
@@ -31,4 +31,4 @@ returns-in-Err-clause-took g c =
 
 pub returns-in-Err-clause-worn : goal.returns-in-Err-clause-worn
 returns-in-Err-clause-worn g c =
-    worn_at c.plain-answer.result.1 c.worn.result c.in-Err.fault c.in-Err.is (told_worn c.args.pass c.key_for.result c.plain-answer.result c.worn.result c.plain-answer.ensures c.worn.ensures c.key_for.ensures.worn)
+    worn_at c.plain-answer.result.1 c.worn.result c.in-Err.fault c.in-Err.is (replied_worn _ worn_fault c.args.pass c.key_for.result c.plain-answer.ensures c.worn.ensures c.key_for.ensures.worn)

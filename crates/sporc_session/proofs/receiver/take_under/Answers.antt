@@ -1,7 +1,7 @@
 use Rattle.std.proofs.Common.{◌+◌}
 use Rattle.sporc_session.proofs.Common.{known_of}
 use Rattle.sporc_session.proofs.Taking.{took_counts, took_one}
-use Rattle.sporc_session.proofs.Wearing.{taken_worn}
+use Rattle.sporc_session.proofs.Wearing.{replied_worn, taken_fault}
 use Rattle.sporc_session.proofs.receiver.take_under.Goals as goal
 
 pub returns-clause-took : goal.returns-clause-took
@@ -14,4 +14,4 @@ returns-clause-counts g c =
 
 pub returns-clause-worn : goal.returns-clause-worn
 returns-clause-worn g c =
-    taken_worn c.args.pass (c.args.at + 1) c.accept_under.result c.plain-answer.result c.taken-took.result c.plain-answer.ensures c.taken-took.ensures c.accept_under.ensures.worn
+    replied_worn _ (taken_fault (c.args.at + 1)) c.args.pass c.accept_under.result c.plain-answer.ensures c.taken-took.ensures c.accept_under.ensures.worn

@@ -1,5 +1,5 @@
 use Rattle.sporc_session.proofs.Rounding.{check_made}
-use Rattle.sporc_session.proofs.Wearing.{checked_worn}
+use Rattle.sporc_session.proofs.Wearing.{checked_fault, replied_worn}
 use Rattle.sporc_session.proofs.round.check.Goals as goal
 
 pub returns-clause-did : goal.returns-clause-did
@@ -7,4 +7,4 @@ returns-clause-did g c link words count ready n = check_made c.is_flight.result 
 
 pub returns-clause-worn : goal.returns-clause-worn
 returns-clause-worn g c =
-    checked_worn c.args.pass c.args.refusal c.is_flight.result c.plain-answer.result c.checked.result c.plain-answer.ensures c.checked.ensures c.is_flight.ensures.worn
+    replied_worn _ (checked_fault c.args.refusal) c.args.pass c.is_flight.result c.plain-answer.ensures c.checked.ensures c.is_flight.ensures.worn

@@ -1,5 +1,5 @@
-use Rattle.std.proofs.Common.{[], List, ap, sym, subst, ◌∙◌, arith}
-use Rattle.sporc_suffix.proofs.Common.{Mark, Fits, later_over, forms_in, runs_of}
+use Rattle.std.proofs.Common.{[], ap, sym, subst, ◌∙◌, arith}
+use Rattle.sporc_suffix.proofs.Common.{Fits, later_over, forms_in, runs_of}
 use Rattle.sporc_suffix.proofs.Kept.{one_place}
 use Rattle.sporc_suffix.proofs.Passing.{passes}
 use Rattle.sporc_suffix.proofs.runs.over_one.Goals as goal
@@ -7,14 +7,12 @@ use Rattle.sporc_suffix.proofs.runs.over_one.Goals as goal
 pub restate_later-requires-clause-base : goal.restate_later-requires-clause-base
 restate_later-requires-clause-base g c =
     let here = one_place (runs_of c.args.level (forms_in c.args.forms.now)) c.args.from c.args.end c.run_at.result.now (omega (arith, c.if-from-end.false, c.requires.from)) c.requires.one c.requires.in_bounds c.run_at.ensures.value in
-    let P : List (List Mark) → Type 0 = λ fs. Fits c.args.q fs in
-    (passes c.args.q c.run_at.result.now [] (subst P here c.requires.fits)).base
+    (passes c.args.q c.run_at.result.now [] (subst (Fits c.args.q) here c.requires.fits)).base
 
 pub restate_later-requires-clause-limit : goal.restate_later-requires-clause-limit
 restate_later-requires-clause-limit g c =
     let here = one_place (runs_of c.args.level (forms_in c.args.forms.now)) c.args.from c.args.end c.run_at.result.now (omega (arith, c.if-from-end.false, c.requires.from)) c.requires.one c.requires.in_bounds c.run_at.ensures.value in
-    let P : List (List Mark) → Type 0 = λ fs. Fits c.args.q fs in
-    (passes c.args.q c.run_at.result.now [] (subst P here c.requires.fits)).limit
+    (passes c.args.q c.run_at.result.now [] (subst (Fits c.args.q) here c.requires.fits)).limit
 
 pub returns-clause-ok : goal.returns-clause-ok
 returns-clause-ok g c =

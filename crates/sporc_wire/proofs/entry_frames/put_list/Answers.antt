@@ -1,6 +1,5 @@
 use Rattle.std.proofs.Common.{ℕ, Vec, Global, length, arith, ap, length-append}
-use Rattle.sporc_wire.proofs.Common.{w32, to_be_bytes, counted}
-use Rattle.std.proofs.lemmas.List.Folds.{length-flat_map-take}
+use Rattle.sporc_wire.proofs.Common.{w32, to_be_bytes, counted, length-flat_map-take}
 use Rattle.sporc_wire.proofs.EntryFrames.{put_more, put_all}
 use Rattle.sporc_wire.proofs.entry_frames.put_list.Goals as goal
 

@@ -1,8 +1,6 @@
 use Rattle.std.proofs.Common.{ap, ◌-◌, ◌^◌}
-use Rattle.sporc_wire.proofs.Common.{counted_at, fault_as, values_at}
+use Rattle.sporc_wire.proofs.Common.{counted_at, fault_as, values_at, goes_on, ends, is_done, Bad}
 use Rattle.std.proofs.lemmas.Result.{err_from_is_err_and}
-use Rattle.sporc_bytes.proofs.Lists.{goes_on, ends, is_done}
-use Rattle.sporc_wire.specs.declared.message.BodyFault.TheVariants.{Bad}
 use Rattle.sporc_wire.proofs.to_client.read_list.Goals as goal
 
 pub returns-in_err-entry : goal.returns-in_err-entry

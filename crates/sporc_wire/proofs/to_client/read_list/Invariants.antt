@@ -1,6 +1,5 @@
 use Rattle.std.proofs.Common.{◌≡◌, ◌-◌, ◌^◌}
-use Rattle.sporc_wire.proofs.Common.{counted_at, values_at}
-use Rattle.sporc_bytes.proofs.Lists.{with_front}
+use Rattle.sporc_wire.proofs.Common.{counted_at, values_at, with_front}
 use Rattle.sporc_wire.proofs.to_client.read_list.Given as goal
 
 abbrev pub invariant-loop : goal.invariant-loop

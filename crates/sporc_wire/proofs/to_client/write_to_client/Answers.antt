@@ -1,6 +1,5 @@
 use Rattle.std.proofs.Common.{◌∙◌, ℕ, List, Vec, Global, ap, sym, subst}
-use Rattle.sporc_wire.proofs.Common.{Entries, framed, to_client_bytes}
-use Rattle.sporc_base.specs.Outcome.{GivesUnless}
+use Rattle.sporc_wire.proofs.Common.{Entries, framed, to_client_bytes, GivesUnless}
 use Rattle.sporc_wire.specs.declared.fault.FrameFault.TheVariants as faults
 use Rattle.sporc_wire.proofs.to_client.write_to_client.Goals as goal
 

@@ -1,6 +1,5 @@
 use Rattle.std.proofs.Common.{◌≡◌, ℕ, ◌+◌, List, length, ap, arith, length-append}
-use Rattle.sporc_wire.proofs.Common.{w16, to_be_bytes, to_server_bytes}
-use Rattle.sporc_wire.specs.declared.to_server.ToServer.TheVariants.{Hello}
+use Rattle.sporc_wire.proofs.Common.{w16, to_be_bytes, to_server_bytes, Hello}
 use Rattle.sporc_wire.proofs.to_server.body_len.Goals as goal
 
 hello_len : (document : List ℕ) (member : ℕ) → length (to_server_bytes (Hello document member)) ≡ length document + 3

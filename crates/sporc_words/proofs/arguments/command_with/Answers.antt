@@ -1,4 +1,4 @@
-use Rattle.sporc_words.specs.Arguments.{grammar_of, rule_for}
+use Rattle.sporc_words.proofs.Common.{grammar_of, rule_for}
 use Rattle.sporc_words.proofs.Added.{all_more, all_there}
 use Rattle.sporc_words.proofs.arguments.command_with.Goals as goal
 

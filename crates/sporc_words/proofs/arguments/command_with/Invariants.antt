@@ -1,5 +1,5 @@
 use Rattle.std.proofs.Common.{◌≡◌, drop, map}
-use Rattle.sporc_words.specs.Arguments.{grammar_of, named, rule_for, with_all}
+use Rattle.sporc_words.proofs.Common.{grammar_of, named, rule_for, with_all}
 use Rattle.sporc_words.proofs.arguments.command_with.Given as goal
 
 abbrev pub invariant-loop-argument : goal.invariant-loop-argument

@@ -1,6 +1,5 @@
 use Rattle.std.proofs.Common.{◌≡◌, Some, map, string_bytes, ap, sym, ◌∙◌}
-use Rattle.clap.specs.Words.{kind_of}
-use Rattle.clap.specs.declared.error.ErrorKind.TheVariants.{OutOfMemory}
+use Rattle.sporc_words.proofs.Common.{kind_of, OutOfMemory}
 use Rattle.sporc_words.specs.Arguments.{grammar_of}
 use Rattle.sporc_words.proofs.Taken.{refused, simple_of, taken_whole}
 use Rattle.sporc_words.proofs.matches.read_matches.Goals as goal

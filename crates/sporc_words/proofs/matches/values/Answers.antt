@@ -1,6 +1,5 @@
 use Rattle.std.proofs.Common.{◌∙◌}
-use Rattle.clap.specs.Words.{found_of}
-use Rattle.clap.proofs.WalkLemmas.{raw_values-rows}
+use Rattle.sporc_words.proofs.Common.{found_of, raw_values-rows}
 use Rattle.sporc_words.proofs.matches.values.Goals as goal
 
 pub returns : goal.returns

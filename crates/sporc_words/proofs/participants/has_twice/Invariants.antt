@@ -1,5 +1,5 @@
 use Rattle.std.proofs.Common.{◌≡◌, length}
-use Rattle.sporc_words.specs.Values.{has_twice}
+use Rattle.sporc_words.proofs.Common.{has_twice}
 use Rattle.sporc_words.proofs.participants.has_twice.Given as goal
 
 abbrev pub invariant-loop-first : goal.invariant-loop-first

@@ -1,6 +1,5 @@
 use Rattle.std.proofs.Common.{◌≡◌, drop}
-use Rattle.clap.specs.Walk.{texts}
-use Rattle.sporc_words.specs.Values.{all_participants}
+use Rattle.sporc_words.proofs.Common.{texts, all_participants}
 use Rattle.sporc_words.proofs.NamedLemmas.{behind}
 use Rattle.sporc_words.proofs.participants.parse_participants.Given as goal
 

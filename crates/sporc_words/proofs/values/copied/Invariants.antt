@@ -1,5 +1,5 @@
 use Rattle.std.proofs.Common.{◌≡◌, ◌++◌, drop}
-use Rattle.clap.specs.Walk.{texts}
+use Rattle.sporc_words.proofs.Common.{texts}
 use Rattle.sporc_words.proofs.values.copied.Given as goal
 
 abbrev pub invariant-loop-word : goal.invariant-loop-word

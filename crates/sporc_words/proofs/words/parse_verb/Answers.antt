@@ -1,4 +1,4 @@
-use Rattle.sporc_words.specs.Verbs.{verb_name, verb_of}
+use Rattle.sporc_words.proofs.Common.{verb_name, verb_of}
 use Rattle.sporc_script.proofs.Keyed.{named_is}
 use Rattle.sporc_words.proofs.VerbReader.{verb_exact}
 use Rattle.sporc_words.proofs.words.parse_verb.Goals as goal

@@ -1,19 +1,16 @@
-use Rattle.std.proofs.Common.{◌≡◌, ◌++◌, ◌∷◌, [], ℕ, List, length, ap, ◌∙◌}
-use Rattle.sporc_client.proofs.Common.{first_fault, LineModel, accept_fault, or_full, journal_has_room, refusal_of, plain_of, ClientModel, state_of, Accept}
-use Rattle.std.proofs.lemmas.Result.{err_from_is_err_and}
+use Rattle.std.proofs.Common.{◌++◌, ◌∷◌, [], ℕ, List, length, ap, ◌∙◌, subst, sym}
+use Rattle.sporc_client.proofs.Common.{first_fault, ClientModel, Accept, err_from_is_err_and}
+use Rattle.sporc_client.specs.Answers.{accept_fault}
 use Rattle.sporc_client.proofs.Checked.{accept_room}
-use Rattle.sporc_client.proofs.Comings.{SameLine, accept_fault_is, accept_model, accepted_there, can_settle, more_with, no_more, prepared_there, same_fields, same_model}
-use Rattle.sporc_client.proofs.Logs.{events_logged}
-use Rattle.sporc_client.proofs.Kept.{state_is}
+use Rattle.sporc_client.proofs.Comings.{SameLine, accept_model, accepted_there, can_settle, more_with, no_more, prepared_there, same_fields, same_model}
+use Rattle.sporc_client.proofs.Events.{events_logged, state_is}
 use Rattle.sporc_client.proofs.client.Client.accept_known.Goals as goal
 
 pub returns-in_err-prepared-clause-fault : goal.returns-in_err-prepared-clause-fault
+unfolding accept_fault
 returns-in_err-prepared-clause-fault g c =
-    let plain = plain_of c.self.inside.signer.key c.self.inside.line c.self.inside.own in
-    let is : accept_fault (state_of c.args.self.now) c.args.pos c.args.bytes.now ≡ or_full (journal_has_room plain) (refusal_of plain c.args.pos c.args.bytes.now) =
-    ap (λ p. accept_fault p c.args.pos c.args.bytes.now) (state_is c.self.invariant c.self.view_is) ∙ accept_fault_is plain c.args.pos c.args.bytes.now in
     let p = err_from_is_err_and c.from_residual.result c.from_residual.ensures.1 in
-    rw (p.1, p.2) (λ other. is ∙ c.in_err-prepared.ensures.fault other)
+    rw (p.1, p.2) (λ other. ap (λ p. accept_fault p c.args.pos c.args.bytes.now) (state_is c.self.invariant c.self.view_is) ∙ c.in_err-prepared.ensures.fault other)
 
 pub take_entry-requires : goal.take_entry-requires
 take_entry-requires g c =
@@ -32,11 +29,7 @@ pub invariant_of-self-in_err-take_entry : goal.invariant_of-self-in_err-take_ent
 invariant_of-self-in_err-take_entry g c =
     let did = c.in_ok-prepared.ensures in
     let same = c.in_err-take_entry.ensures.line_unchanged in
-    let lines : SameLine c.self.inside.line c.take_entry.new.line = record {
-      genesis = ap (λ (l : LineModel). l.genesis) same ∙ did.genesis;
-      kit = ap (λ (l : LineModel). l.kit) same ∙ did.kit;
-      entries = ap (λ (l : LineModel). l.entries) same ∙ did.entries;
-    } in
+    let lines = subst (SameLine c.self.inside.line) (sym same) (record { genesis = did.genesis; kit = did.kit; entries = did.entries }) in
     same_fields c.self.invariant c.take_entry.new.line c.take_entry.new.own lines c.in_err-take_entry.ensures.unchanged
 
 pub returns-in_err-take_entry-clause-log : goal.returns-in_err-take_entry-clause-log
@@ -44,11 +37,7 @@ returns-in_err-take_entry-clause-log g c =
     let inside = c.self.inside in
     let did = c.in_ok-prepared.ensures in
     let same = c.in_err-take_entry.ensures.line_unchanged in
-    let lines : SameLine inside.line c.take_entry.new.line = record {
-      genesis = ap (λ (l : LineModel). l.genesis) same ∙ did.genesis;
-      kit = ap (λ (l : LineModel). l.kit) same ∙ did.kit;
-      entries = ap (λ (l : LineModel). l.entries) same ∙ did.entries;
-    } in
+    let lines = subst (SameLine inside.line) (sym same) (record { genesis = did.genesis; kit = did.kit; entries = did.entries }) in
     let model = same_model inside.line c.take_entry.new.line inside.signer inside.ticket inside.own c.take_entry.new.own lines c.in_err-take_entry.ensures.unchanged in
     no_more c.from_residual-in_err-take_entry.result (Accept c.args.by c.args.bytes.now) c.args.self.now _ c.from_residual-in_err-take_entry.ensures.0 (model ∙ c.self.view_is)
 
@@ -61,8 +50,8 @@ invariant_of-self-2 g c =
     (accepted_there c.self.invariant c.check_entry.new.line c.in_ok-prepared.prepared lines did.prepared c.take_entry.new.line c.take_entry.new.own c.args.by room c.in_ok-take_entry.ensures.ok).invariant
 
 pub returns-clause-fault : goal.returns-clause-fault
-returns-clause-fault g c =
-    ap (λ p. accept_fault p c.args.pos c.args.bytes.now) (state_is c.self.invariant c.self.view_is) ∙ accept_fault_is (plain_of c.self.inside.signer.key c.self.inside.line c.self.inside.own) c.args.pos c.args.bytes.now ∙ c.in_ok-prepared.ensures.fault
+unfolding accept_fault
+returns-clause-fault g c = ap (λ p. accept_fault p c.args.pos c.args.bytes.now) (state_is c.self.invariant c.self.view_is) ∙ c.in_ok-prepared.ensures.fault
 
 pub returns-clause-ok : goal.returns-clause-ok
 returns-clause-ok g c = events_logged c.take_entry.new.line.entries c.take_entry.new.own.journal c.journal.result.now c.journal.ensures.value

@@ -1,12 +1,9 @@
 use Rattle.std.proofs.Common.{rules, ◌≡◌, List, ℕ, [], ◌∷◌, ◌++◌, Some, length, refl, ap, ◌∙◌, arith}
-use Rattle.sporc_client.proofs.Common.{chars, Mark, replacement, text_of, Event, discard_fault, plain_of, state_of, Discard, committed_of, shown_of}
-use Rattle.sporc_delta.proofs.Spelled.{length-encode_all}
+use Rattle.sporc_client.proofs.Common.{chars, Mark, replacement, text_of, Event, discard_fault, plain_of, state_of, Discard, committed_of, shown_of, length-encode_all}
 use Rattle.sporc_client.specs.declared.event.Event.TheVariants as events
 use Rattle.sporc_client.proofs.Checked.{events_left}
 use Rattle.sporc_client.proofs.Comings.{no_more, same_fields, same_line, same_model}
-use Rattle.sporc_client.proofs.Events.{discard_recorded, length_of_shown, replaced_base, shown_length}
-use Rattle.sporc_client.proofs.Logs.{events_logged}
-use Rattle.sporc_client.proofs.Kept.{state_is}
+use Rattle.sporc_client.proofs.Events.{discard_recorded, length_of_shown, replaced_base, shown_length, events_logged, state_is}
 use Rattle.sporc_client.proofs.client.Client.discard.Goals as goal
 
 pub returns-in_err-check_events-clause-fault : goal.returns-in_err-check_events-clause-fault

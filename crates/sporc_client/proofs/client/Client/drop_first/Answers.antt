@@ -1,8 +1,8 @@
-use Rattle.std.proofs.Common.{◌≡◌, List, [], ◌∷◌, ◌++◌, ap, ◌∙◌, arith}
-use Rattle.sporc_client.proofs.Common.{Mark, keep_marks, Event, Pending, drop, plain_of, state_of, Dropped, keeps, Drop, due}
+use Rattle.std.proofs.Common.{◌≡◌, List, [], ◌∷◌, ◌++◌, ap, ◌∙◌, arith, sym}
+use Rattle.sporc_client.proofs.Common.{Mark, keep_marks, Event, Pending, drop, plain_of, Dropped, keeps, Drop, due}
 use Rattle.sporc_client.specs.declared.event.Event.TheVariants as stored
 use Rattle.sporc_client.proofs.Comings.{same_fields, same_line}
-use Rattle.sporc_client.proofs.Events.{drop_recorded, length_of_shown, shown_length}
+use Rattle.sporc_client.proofs.Events.{drop_recorded, length_of_shown, shown_length, state_is}
 use Rattle.sporc_client.proofs.Submitting.{due_room, is_event}
 use Rattle.sporc_client.proofs.client.Client.drop_first.Goals as goal
 
@@ -16,8 +16,7 @@ pub record_drop-requires-clause-limit : goal.record_drop-requires-clause-limit
 record_drop-requires-clause-limit g c =
     let inside = c.self.inside in
     let plain = plain_of inside.signer.key inside.line inside.own in
-    let state : plain ≡ state_of c.args.self.now = c.self.invariant.state ∙ ap state_of c.self.view_is in
-    let is : due plain ≡ Drop c.args.fault = ap due state ∙ c.requires in
+    let is : due plain ≡ Drop c.args.fault = ap due (sym (state_is c.self.invariant c.self.view_is)) ∙ c.requires in
     rw c.in_ok-ready.ensures.unchanged.shown (due_room plain (ap is_event is))
 
 pub invariant_of-self-2 : goal.invariant_of-self-2
@@ -28,8 +27,7 @@ invariant_of-self-2 g c =
     let own = inside.own in
     let known = c.self.invariant in
     let plain = plain_of signer.key line own in
-    let state : plain ≡ state_of c.args.self.now = known.state ∙ ap state_of c.self.view_is in
-    let is : due plain ≡ Drop c.args.fault = ap due state ∙ c.requires in
+    let is : due plain ≡ Drop c.args.fault = ap due (sym (state_is known c.self.view_is)) ∙ c.requires in
     let did = c.record_drop.ensures in
     let ready = c.in_ok-ready.ensures.unchanged in
     let form : c.in_ok-ready.ready.form ≡ keeps plain = c.in_ok-ready.ensures.ok ∙ ap keep_marks (length_of_shown known) in

@@ -1,6 +1,6 @@
 use Rattle.std.proofs.Common.{◌≤◌, subst}
 use Rattle.sporc_client.proofs.Common.{client_model, ClientModel, Rise, first_leaf_of, leaves_of}
-use Rattle.sporc_client.proofs.FirstLeaf.{opened_before, rises_from_first, rises_since_open}
+use Rattle.sporc_client.proofs.Leaves.{opened_before, rises_from_first, rises_since_open}
 use Rattle.sporc_client.proofs.client.Client.journal.Goals as goal
 
 pub returns-clause-leaves : goal.returns-clause-leaves

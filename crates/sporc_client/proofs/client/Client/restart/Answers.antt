@@ -2,7 +2,7 @@ use Rattle.std.proofs.Common.{◌≡◌, ◌≤◌, List, ℕ, length, take, ap,
 use Rattle.sporc_client.proofs.Common.{restart_fault, plain_of, ClientModel, state_of, PlainClient, log_of_entries}
 use Rattle.sporc_client.proofs.Checked.{restart_fits}
 use Rattle.sporc_client.proofs.AcceptedHistories.{model_resumed, order_anew, resumed_invariant}
-use Rattle.sporc_client.proofs.Kept.{state_is}
+use Rattle.sporc_client.proofs.Events.{state_is}
 use Rattle.sporc_client.proofs.client.Client.restart.Goals as goal
 
 pub invariant_of-self : goal.invariant_of-self

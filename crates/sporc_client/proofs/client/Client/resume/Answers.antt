@@ -1,6 +1,6 @@
 use Rattle.std.proofs.Common.{None, refl, arith}
 use Rattle.sporc_client.proofs.AcceptedHistories.{model_resumed, resumed_invariant}
-use Rattle.sporc_client.proofs.SubmitLeaves.{order_begun}
+use Rattle.sporc_client.proofs.Leaves.{order_begun}
 use Rattle.sporc_client.proofs.client.Client.resume.Goals as goal
 
 pub invariant_of-result : goal.invariant_of-result

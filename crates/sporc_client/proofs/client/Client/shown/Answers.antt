@@ -1,10 +1,10 @@
 use Rattle.std.proofs.Common.{◌≡◌, ℕ, List, length, ap, sym, subst, ◌∙◌, arith}
 use Rattle.sporc_client.proofs.Common.{chars, encode_utf8_all, Mark, apply, base_len, keep_marks, text_of, Pending, plain_of, state_of, PlainClient, committed_of, shown_of, AreOver, in_one}
-use Rattle.sporc_delta.proofs.Spelled.{length-encode_all}
+use Rattle.sporc_client.proofs.Common.{length-encode_all}
 use Rattle.sporc_client.proofs.Comings.{stated_over}
 use Rattle.sporc_client.proofs.Rebased.{pending_in_one}
 use Rattle.sporc_client.proofs.Small.{length-shown, lengths}
-use Rattle.sporc_client.proofs.Kept.{state_is}
+use Rattle.sporc_client.proofs.Events.{state_is}
 use Rattle.sporc_client.proofs.client.Client.shown.Goals as goal
 
 pub in_one-requires-clause-over : goal.in_one-requires-clause-over

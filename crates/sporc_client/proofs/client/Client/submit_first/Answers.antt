@@ -1,10 +1,10 @@
 use Rattle.std.proofs.Common.{◌≡◌, ℕ, List, [], ◌∷◌, ◌++◌, Option, Some, refl, ap, sym, subst, ◌∙◌, true, arith}
-use Rattle.sporc_client.proofs.Common.{Mark, keep_marks, Event, ClientInvariant, plain_of, AreInOrder, leaves_of, state_of, IsSubmission, at_hand, Submit, log_of, PlainClient, keeps, due, is_signing}
+use Rattle.sporc_client.proofs.Common.{Mark, keep_marks, Event, ClientInvariant, plain_of, AreInOrder, leaves_of, IsSubmission, at_hand, Submit, log_of, PlainClient, keeps, due, is_signing}
 use Rattle.sporc_client.specs.declared.event.Event.TheVariants as stored
 use Rattle.sporc_client.proofs.Comings.{same_fields, same_line}
-use Rattle.sporc_client.proofs.Events.{length_of_shown, same_key, shown_length, submit_recorded}
+use Rattle.sporc_client.proofs.Events.{length_of_shown, same_key, shown_length, state_is, submit_recorded}
 use Rattle.sporc_client.proofs.Submitting.{due_room, signs_event}
-use Rattle.sporc_client.proofs.SubmitLeaves.{leaf_there, order_at_hand}
+use Rattle.sporc_client.proofs.Leaves.{leaf_there, order_at_hand}
 use Rattle.sporc_client.proofs.client.Client.submit_first.Goals as goal
 
 pub ready_keep-requires : goal.ready_keep-requires
@@ -17,8 +17,7 @@ pub record_submission-requires-clause-limit : goal.record_submission-requires-cl
 record_submission-requires-clause-limit g c =
     let inside = c.self.inside in
     let plain = plain_of inside.signer.key inside.line inside.own in
-    let state : plain ≡ state_of c.args.self.now = c.self.invariant.state ∙ ap state_of c.self.view_is in
-    let is : is_signing (due plain) ≡ true = ap (λ p. is_signing (due p)) state ∙ c.requires in
+    let is : is_signing (due plain) ≡ true = ap (λ p. is_signing (due p)) (sym (state_is c.self.invariant c.self.view_is)) ∙ c.requires in
     rw c.in_ok-ready.ensures.unchanged.shown (due_room plain (signs_event (due plain) is))
 
 pub invariant_of-self-in_err-made : goal.invariant_of-self-in_err-made
@@ -48,8 +47,6 @@ invariant_of-self-2 g c =
     let own = inside.own in
     let known = c.self.invariant in
     let plain = plain_of signer.key line own in
-    let state : plain ≡ state_of c.args.self.now = known.state ∙ ap state_of c.self.view_is in
-    let is : is_signing (due plain) ≡ true = ap (λ p. is_signing (due p)) state ∙ c.requires in
     let did = c.record_submission.ensures in
     let ready = c.in_ok-ready.ensures.unchanged in
     let made = c.in_ok-made.ensures in

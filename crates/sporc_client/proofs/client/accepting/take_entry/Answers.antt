@@ -1,7 +1,6 @@
 use Rattle.std.proofs.Common.{◌≡◌, ℕ, ◌+◌, ◌++◌, ◌∷◌, [], List, length, length-append, ap, sym, subst, ◌∙◌, arith}
-use Rattle.sporc_client.proofs.Common.{Mark, Event, Pending, CanCome, Effect, effect, flight_after, pending_after}
+use Rattle.sporc_client.proofs.Common.{Mark, Event, Pending, CanCome, Effect, effect, flight_after, pending_after, coming_at}
 use Rattle.sporc_client.specs.declared.event.Event.TheVariants as events
-use Rattle.sporc_client.specs.Taking.{coming_at}
 use Rattle.sporc_client.proofs.Comings.{coming_there, same_flight}
 use Rattle.sporc_client.proofs.client.accepting.take_entry.Goals as goal
 

@@ -13,14 +13,8 @@ returns-in_err-check_new_key-clause-fault c =
     (c.copied-old.ensures ∙ c.key.ensures.value) c.kit.ensures.value c.header.ensures.value c.started_key-key.ensures.value in
     unless_exit Memory _ p.0 c.in_err-check_new_key.field-0.0 _ p.1 p.2 (λ _. change_seen s ∙ c.in_err-check_new_key.ensures.fault)
 
-pub returns-clause-fault : goal.returns-clause-fault
-returns-clause-fault c =
-    let s = started_seen {kit = c.args.self.now.kit} c.requires.checked c.requires.change (c.epoch-epoch.ensures.value ∙ ap epoch_of c.heads.ensures.entries) c.own_device.ensures.value c.document.ensures.value
-    (c.copied-old.ensures ∙ c.key.ensures.value) c.kit.ensures.value c.header.ensures.value c.started_key-key.ensures.value in
-    change_seen s ∙ c.in_ok-check_new_key.ensures.fault
-
-pub returns-clause-ok : goal.returns-clause-ok
-returns-clause-ok c =
+pub returns : goal.returns
+returns c =
     let s = started_seen {kit = c.args.self.now.kit} c.requires.checked c.requires.change (c.epoch-epoch.ensures.value ∙ ap epoch_of c.heads.ensures.entries) c.own_device.ensures.value c.document.ensures.value
     (c.copied-old.ensures ∙ c.key.ensures.value) c.kit.ensures.value c.header.ensures.value c.started_key-key.ensures.value in
     let all : length c.args.self.now.entries ≤ length c.args.self.now.entries = omega arith in
@@ -28,5 +22,8 @@ returns-clause-ok c =
     c.text_len_at.ensures.value
     ∙ ap (λ (n : ℕ). length (text_of c.args.self.now.genesis c.args.self.now.kit (take n c.args.self.now.entries))) c.len-len.ensures.value
     ∙ ap (λ (entries : List (List ℕ)). length (text_of c.args.self.now.genesis c.args.self.now.kit entries)) (take_all (length c.args.self.now.entries) c.args.self.now.entries all) in
-    change_does c.args.self.now.genesis c.args.self.now.kit c.args.self.now.entries c.args.checked.now c.args.body.now (c.epoch-epoch.result + 1) (record { form = c.in_ok-form.form; key = c.started_key-key.result })
-    s.checked s.change s.epoch_is (c.in_ok-form.ensures.ok ∙ ap keep_marks text) s.key_is
+    record {
+      fault = change_seen s ∙ c.in_ok-check_new_key.ensures.fault;
+      ok = change_does c.args.self.now.genesis c.args.self.now.kit c.args.self.now.entries c.args.checked.now c.args.body.now (c.epoch-epoch.result + 1) (record { form = c.in_ok-form.form; key = c.started_key-key.result })
+          s.checked s.change s.epoch_is (c.in_ok-form.ensures.ok ∙ ap keep_marks text) s.key_is;
+    }

@@ -1,6 +1,5 @@
 use Rattle.std.proofs.Common.{◌≡◌, ◌≤◌, ◌++◌, ◌∷◌, [], arith, min, refl, sym, subst}
-use Rattle.sporc_line.proofs.Common.{LineModel, ok_of}
-use Rattle.sporc_line.specs.PreparedFields.{prepared_of}
+use Rattle.sporc_line.proofs.Common.{LineModel, ok_of, prepared_of}
 use Rattle.sporc_line.proofs.LineKeeps.{ready_here, prepared_here, prepared_fits, line_pushed}
 use Rattle.sporc_line.proofs.line.Line.commit.Goals as goal
 

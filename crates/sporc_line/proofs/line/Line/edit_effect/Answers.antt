@@ -39,12 +39,10 @@ over_forms-requires-clause-limit c =
     let s = edit_seen {kit = c.args.self.now.kit} {key = c.in-Some.key.now} c.requires.checked c.requires.edit (ap option_copied (sym c.in-Some.is) ∙ c.key.ensures.value) c.header-header.ensures.value c.stream_of.ensures.value c.body.ensures.value in
     seen_small s c.in_ok-marks.marks c.in_ok-marks.ensures.ok
 
-pub returns-clause-fault : goal.returns-clause-fault
-returns-clause-fault c =
+pub returns : goal.returns
+returns c =
     let s = edit_seen {kit = c.args.self.now.kit} {key = c.in-Some.key.now} c.requires.checked c.requires.edit (ap option_copied (sym c.in-Some.is) ∙ c.key.ensures.value) c.header-header.ensures.value c.stream_of.ensures.value c.body.ensures.value in
-    seen_right s c.in_ok-marks.marks c.in_ok-marks.ensures.ok (sym c.base_len.ensures.value ∙ c.if-base_len-text_len_at.false ∙ c.text_len_at.ensures.value)
-
-pub returns-clause-ok : goal.returns-clause-ok
-returns-clause-ok c =
-    let s = edit_seen {kit = c.args.self.now.kit} {key = c.in-Some.key.now} c.requires.checked c.requires.edit (ap option_copied (sym c.in-Some.is) ∙ c.key.ensures.value) c.header-header.ensures.value c.stream_of.ensures.value c.body.ensures.value in
-    seen_does s c.in_ok-marks.marks c.in_ok-form.form c.in_ok-marks.ensures.ok c.in_ok-form.ensures.ok
+    record {
+      fault = seen_right s c.in_ok-marks.marks c.in_ok-marks.ensures.ok (sym c.base_len.ensures.value ∙ c.if-base_len-text_len_at.false ∙ c.text_len_at.ensures.value);
+      ok = seen_does s c.in_ok-marks.marks c.in_ok-form.form c.in_ok-marks.ensures.ok c.in_ok-form.ensures.ok;
+    }

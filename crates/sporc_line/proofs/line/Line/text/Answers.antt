@@ -1,6 +1,5 @@
 use Rattle.std.proofs.Common.{◌≤◌, ap, arith, length, subst}
-use Rattle.sporc_line.proofs.Common.{text_of, LineModel}
-use Rattle.sporc_line.specs.declared.limits.TheConstants.{MAX_COMMITTED_LEN}
+use Rattle.sporc_line.proofs.Common.{text_of, LineModel, MAX_COMMITTED_LEN}
 use Rattle.sporc_line.proofs.LineKeeps.{text_small}
 use Rattle.sporc_line.proofs.line.Line.text.Goals as goal
 

@@ -1,5 +1,5 @@
 use Rattle.std.proofs.Common.{ap, sym, ◌∙◌}
-use Rattle.sporc_memory.specs.MemoryDisk.{bytes_of}
+use Rattle.sporc_memory.proofs.Common.{bytes_of}
 use Rattle.sporc_memory.proofs.DiskImages.{same_bytes, same_images}
 use Rattle.sporc_memory.proofs.memory_disk.MemoryDisk.enter.Goals as goal
 

@@ -1,8 +1,5 @@
 use Rattle.std.proofs.Common.{rules, ◌≡◌, ℕ, ◌≤◌, ◌++◌, List, length, take, drop, sym, subst, ◌∙◌, arith}
-use Rattle.std.proofs.Math.Seq.{take-length}
-use Rattle.std.proofs.lemmas.List.{take-append-le}
-use Rattle.sporc_memory.specs.declared.disk_call.DiskCall.{DiskCall}
-use Rattle.sporc_memory.specs.MemoryDisk.{IsSpoilt, state_after}
+use Rattle.sporc_memory.proofs.Common.{take-length, take-append-le, DiskCall, IsSpoilt, state_after}
 use Rattle.sporc_memory.proofs.memory_disk.MemoryDisk.spoilt.Goals as goal
 
 pub returns : goal.returns

@@ -1,6 +1,5 @@
 use Rattle.std.proofs.Common.{ℕ, List, Some, inl, inr, ap, sym, ◌∙◌, length, true, false}
-use Rattle.sporc_outside.specs.LeafDisk.{IsSameOutside, overwrite}
-use Rattle.sporc_memory.specs.MemoryDisk.{MemoryDiskModel, bytes_of}
+use Rattle.sporc_memory.proofs.Common.{IsSameOutside, overwrite, MemoryDiskModel, bytes_of}
 use Rattle.sporc_memory.proofs.DiskImages.{passes_unlogged, passes_write, others_write, others_unwritten, bytes_written, bytes_unwritten, same_outside}
 use Rattle.sporc_memory.proofs.memory_disk.MemoryDiskLeafDisk.write_at.Goals as goal
 

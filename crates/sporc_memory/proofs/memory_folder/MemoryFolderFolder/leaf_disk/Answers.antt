@@ -1,5 +1,5 @@
 use Rattle.std.proofs.Common.{◌≡◌, ◌∙◌, Some, ap₂, sym}
-use Rattle.sporc_outside.specs.Files.{file_in}
+use Rattle.sporc_memory.proofs.Common.{file_in}
 use Rattle.sporc_memory.proofs.Files.{each_lent}
 use Rattle.sporc_memory.proofs.memory_folder.MemoryFolderFolder.leaf_disk.Goals as goal
 

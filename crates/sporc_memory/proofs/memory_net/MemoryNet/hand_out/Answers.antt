@@ -1,5 +1,5 @@
 use Rattle.std.proofs.Common.{ap, sym, ◌∙◌}
-use Rattle.sporc_memory.specs.MemoryNetModel.{MemoryNetModel}
+use Rattle.sporc_memory.proofs.Common.{MemoryNetModel}
 use Rattle.sporc_memory.proofs.ListedItems.{fresh_before, last_first}
 use Rattle.sporc_memory.proofs.memory_net.MemoryNet.hand_out.Goals as goal
 

@@ -1,6 +1,5 @@
 use Rattle.std.proofs.Common.{ap, subst, ◌∙◌, ◌≤◌, length}
-use Rattle.std.specs.List.{All}
-use Rattle.sporc_entry.specs.declared.limits.TheConstants.{MAX_ENTRY}
+use Rattle.sporc_order.proofs.Common.{All, MAX_ENTRY}
 use Rattle.sporc_order.specs.OrderModel.{OrderModel}
 use Rattle.sporc_order.proofs.Batches.{is_batch, is_empty}
 use Rattle.sporc_order.proofs.Sizes.{is_few}

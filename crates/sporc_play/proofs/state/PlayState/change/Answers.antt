@@ -1,8 +1,8 @@
 use Rattle.std.proofs.Common.{refl}
+use Rattle.sporc_play.proofs.Common.{change_line}
 use Rattle.sporc_play.proofs.Becoming.{change_becomes, ok_then, seat_read}
 use Rattle.sporc_play.proofs.state.PlayState.change.Goals as goal
 use Rattle.sporc_play.proofs.Commands.{told}
-use Rattle.sporc_play.proofs.Common.{change_line}
 
 pub returns-clause-state : goal.returns-clause-state
 returns-clause-state c =

@@ -1,8 +1,8 @@
 use Rattle.std.proofs.Common.{refl}
+use Rattle.sporc_play.proofs.Common.{edit_events, edited_line}
 use Rattle.sporc_play.proofs.Becoming.{ok_then, seat_read}
 use Rattle.sporc_play.proofs.state.PlayState.edit.Goals as goal
 use Rattle.sporc_play.proofs.Commands.{adds_stand, told}
-use Rattle.sporc_play.proofs.Common.{edit_events, edited_line}
 
 pub returns-clause-state : goal.returns-clause-state
 returns-clause-state c =

@@ -1,7 +1,5 @@
 use Rattle.std.proofs.Common.{◌++◌, List, ap, ◌∙◌, string_bytes}
-use Rattle.sporc_play.proofs.Common.{journal_of}
-use Rattle.sporc_client.specs.declared.event.Event.{Event}
-use Rattle.sporc_report.specs.JournalLines.{journal_lines}
+use Rattle.sporc_play.proofs.Common.{journal_of, Event, journal_lines}
 use Rattle.sporc_play.proofs.Becoming.{ok_then}
 use Rattle.sporc_play.proofs.Kept.{found_by, journal_there, none_there}
 use Rattle.sporc_play.proofs.state.PlayState.journal.Goals as goal

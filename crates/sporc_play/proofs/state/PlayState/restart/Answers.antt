@@ -1,8 +1,8 @@
 use Rattle.std.proofs.Common.{refl}
+use Rattle.sporc_play.proofs.Common.{restart_line}
 use Rattle.sporc_play.proofs.Becoming.{ok_then, seat_read}
 use Rattle.sporc_play.proofs.state.PlayState.restart.Goals as goal
 use Rattle.sporc_play.proofs.Commands.{restart_stands, told}
-use Rattle.sporc_play.proofs.Common.{restart_line}
 
 pub returns-clause-state : goal.returns-clause-state
 returns-clause-state c =

@@ -1,6 +1,5 @@
 use Rattle.std.proofs.Common.{◌≡◌, Option, Some, None, List, ℕ, true, subst, ap, ◌∙◌}
-use Rattle.sporc_wire.proofs.Common.{is_some, not, CutsFirst, CutterModel, FitsLimit, filled, rest_of, unread}
-use Rattle.bytes.specs.Filled.{Filled}
+use Rattle.sporc_wire.proofs.Common.{is_some, not, CutsFirst, CutterModel, FitsLimit, filled, rest_of, unread, Filled}
 use Rattle.sporc_wire.proofs.Fronts.{first_frame-frame}
 use Rattle.sporc_wire.proofs.cutter.Cutter.cut.Goals as goal
 

@@ -1,9 +1,7 @@
 use Rattle.std.proofs.Common.{rules, ◌≡◌, Err, Ok, Result, ap, sym, subst, ◌∙◌}
-use Rattle.sporc_client.proofs.Common.{SubmitFault, Memory, plain_of, leaf_for, draw_fault, submission}
-use Rattle.sporc_base.specs.Outcome.{GivesUnless}
-use Rattle.sporc_client.specs.declared.client.submitting.draft.Made.{Made}
+use Rattle.sporc_client.proofs.Common.{SubmitFault, Memory, plain_of, leaf_for, draw_fault, submission, GivesUnless, Made}
 use Rattle.sporc_client.specs.declared.submitted.Submitted.TheVariants as submitted
-use Rattle.sporc_client.proofs.SubmitLeaves.{drawn_is, is_draw, no_leaf}
+use Rattle.sporc_client.proofs.Leaves.{drawn_is, is_draw, no_leaf}
 use Rattle.sporc_client.proofs.SubmitEntries.{undrawn}
 use Rattle.sporc_client.proofs.client.submitting.making.make_entry.Goals as goal
 

@@ -1,4 +1,4 @@
-use Rattle.std.proofs.Common.{drop}
+use Rattle.std.proofs.Common.{rules, drop}
 use Rattle.sporc_client.proofs.Common.{plain_of}
 use Rattle.sporc_client.proofs.SubmitEntries.{can_take, due_first, due_some, making, short_entry, signed_is, unsigned_is}
 use Rattle.sporc_client.proofs.client.submitting.making.make_signed.Goals as goal
@@ -25,8 +25,8 @@ sign_entry-requires g c =
     let short = short_entry plain random c.args.ticket item c.in-Ok.entry is unsigned in
     record { ticket_limit = c.requires.limit; version = unsigned.header.version; body_limit = short.body; limit = short.string }
 
-pub returns-in-Ok-clause-answer : goal.returns-in-Ok-clause-answer
-returns-in-Ok-clause-answer g c =
+pub returns-in-Ok : goal.returns-in-Ok
+returns-in-Ok g c =
     let key = c.args.signer.now.key in
     let plain = plain_of key c.args.line.now c.args.own.now in
     let item = c.first_item.result.now in
@@ -36,17 +36,5 @@ returns-in-Ok-clause-answer g c =
     let unsigned = unsigned_is key c.args.line.now c.args.own.now random c.args.ticket c.leaf.result c.second_half-new_key.result item c.in-Ok.entry c.leaf.ensures.value c.second_half-new_key.ensures.value
     e.value e.header e.spelled in
     let makes = making plain random c.args.ticket item c.in-Ok.entry is c.requires.sound c.told-random c.requires.limit unsigned in
-    (signed_is plain random c.first_half.result c.args.ticket item c.in-Ok.entry c.sign_entry.result makes unsigned c.first_half.ensures.value c.sign_entry.ensures.made).answer
-
-pub returns-in-Ok-clause-submission : goal.returns-in-Ok-clause-submission
-returns-in-Ok-clause-submission g c =
-    let key = c.args.signer.now.key in
-    let plain = plain_of key c.args.line.now c.args.own.now in
-    let item = c.first_item.result.now in
-    let random = c.args.random.now in
-    let e = c.in-Ok.ensures in
-    let is = due_first plain item (drop 1 c.args.own.now.pending) c.requires.due c.first_item.ensures in
-    let unsigned = unsigned_is key c.args.line.now c.args.own.now random c.args.ticket c.leaf.result c.second_half-new_key.result item c.in-Ok.entry c.leaf.ensures.value c.second_half-new_key.ensures.value
-    e.value e.header e.spelled in
-    let makes = making plain random c.args.ticket item c.in-Ok.entry is c.requires.sound c.told-random c.requires.limit unsigned in
-    (signed_is plain random c.first_half.result c.args.ticket item c.in-Ok.entry c.sign_entry.result makes unsigned c.first_half.ensures.value c.sign_entry.ensures.made).is_submission
+    let signed = signed_is plain random c.first_half.result c.args.ticket item c.in-Ok.entry c.sign_entry.result makes unsigned c.first_half.ensures.value c.sign_entry.ensures.made in
+    record { answer = signed.answer; made = search rules; submission = signed.is_submission; returned = search rules; unchanged = search rules }

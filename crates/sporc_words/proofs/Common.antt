@@ -1,0 +1,16 @@
+-- The names of this crate and of those below that many of its proofs cite, passed on from one place.
+pub use Rattle.clap.proofs.WalkLemmas.{first_value-rows, raw_values-rows}
+pub use Rattle.clap.specs.Walk.{Row, Text, is_empty, texts}
+pub use Rattle.clap.specs.Words.{AddsArg, App, Rule, fault_of, found_of, is_simple_and_free, kind_of, matches_of, rule_of, takes, with_rule}
+pub use Rattle.clap.specs.declared.error.ErrorKind.TheVariants.{OutOfMemory}
+pub use Rattle.std.proofs.lemmas.List.{drop_all, drop_more}
+pub use Rattle.std.proofs.lemmas.Option.{same_Some}
+pub use Rattle.std.specs.Prelude.{if◌then◌else◌, ⊤}
+pub use Rattle.sporc_script.proofs.Exact.{IsExact, map_some, named_exact}
+pub use Rattle.sporc_script.specs.Readers.{member_of, then_read}
+pub use Rattle.sporc_words.specs.Arguments.{check_app, client_app, compare_app, entries_app, found_app, grammar_of, keygen_app, named, public_app, rule_for, serve_all_app, serve_app, taken, text_app}
+pub use Rattle.sporc_words.specs.Arguments.{with_all}
+pub use Rattle.sporc_words.specs.Commands.{app_for, command_of}
+pub use Rattle.sporc_words.specs.Values.{all_participants, has_twice}
+pub use Rattle.sporc_words.specs.Verbs.{verb_name, verb_of}
+pub use Rattle.sporc_words.specs.declared.command.Verb.{Verb}
