@@ -1,8 +1,8 @@
 //! A client of a member's device.
 
-ghost use Rattle.std.specs.Prelude.{◌≡◌, ◌≢◌, ◌+◌, ◌<◌, ◌≤◌, ◌∷◌, ◌++◌, [], map as map_};
-ghost use Rattle.std.specs.Prelude.{drop, take, length, true, None, Some, IfOk, IfErr};
-ghost use Rattle.std.specs.Prelude.{OnOk, OnErr, option_copied};
+ghost use Rattle.std.specs.Prelude.{◌≡◌, ◌≢◌, ◌+◌, ◌<◌, ◌≤◌, ◌∷◌, ◌++◌, [], map as map_, drop};
+ghost use Rattle.std.specs.Prelude.{take, length, true, None, Some, IfOk, IfErr, OnOk, OnErr};
+ghost use Rattle.std.specs.Prelude.{option_copied};
 ghost use Rattle.std.specs.FinMap as map;
 ghost use Rattle.sporc_outside.specs.LeafDisk.{disk_images};
 ghost use Rattle.sporc_hash.specs.Chain.{chain};

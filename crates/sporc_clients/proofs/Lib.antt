@@ -3,7 +3,6 @@ pub mod Asking
 pub mod Counting
 pub mod CountsRose
 mod Examples
-pub mod Fetched
 pub mod LeafFiles
 pub mod LeavesTaken
 pub mod Lives

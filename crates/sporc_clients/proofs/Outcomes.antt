@@ -1,7 +1,7 @@
 -- What the command did, at each of its ends.
 use Rattle.std.proofs.Common.{◌≡◌, ℕ, ◌≤◌, List, ◌∷◌, length, Option, option_map, Result, Ok, Err, ap, subst, arith, ◌∙◌}
 use Rattle.sporc_clients.proofs.Common.{⊤, Device, NamedFile, ChanceTold, NetTold, Use, DiskTold, Words, Fault, History, Leaf, FileNames, file_name, Genesis, RingFile, Past, SessionFault, IsAttended}
-use Rattle.sporc_clients.proofs.Common.{NotAttended, begin_with, Wanted, ended, IsMemberFault, SayMember, ClientOutcome, ClientUse, names_of, IsLendFault, SaveOutcome, LmsPrivate, IsDiskOf}
+use Rattle.sporc_clients.proofs.Common.{NotAttended, begin_with, Wanted, IsMemberFault, SayMember, ClientOutcome, ClientUse, names_of, IsLendFault, SaveOutcome, LmsPrivate, IsDiskOf}
 use Rattle.sporc_files.specs.declared.fault.Fault.TheVariants as faults
 use Rattle.sporc_files.specs.Reading.{IsFileFault, SaysFileIfThere, any_bytes}
 use Rattle.sporc_clients.specs.declared.member_files.MemberFiles.{MemberFiles}
@@ -91,9 +91,3 @@ saved_as past name shown told now new low mid high result called same more is =
     saved_later past name told new low mid high result more
     (subst (λ (n : List ℕ). SaveOutcome past n (record { before = told; after = new; faults_before = mid; faults_after = high }) result) called
     (subst (λ (o : Option (List NamedFile)). SaveOutcome past shown (record { before = o; after = new; faults_before = mid; faults_after = high }) result) same is))
-
--- the answer, with other words for the disk's count and for the session's fault
-pub answers_so : (answer : Result ⊤ Fault) (n count : ℕ) (shown session : Result ⊤ SessionFault) (saved : Result ⊤ Fault) (printed : Result ⊤ Fault) → n ≡ count → shown ≡ session
-    → answer ≡ ended n shown saved printed → answer ≡ ended count session saved printed
-answers_so answer n count shown session saved printed counted same is =
-    is ∙ ap (λ (k : ℕ). ended k shown saved printed) counted ∙ ap (λ (s : Result ⊤ SessionFault). ended count s saved printed) same

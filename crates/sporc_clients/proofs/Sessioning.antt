@@ -1,5 +1,5 @@
 -- What a session did to a client, from the contracts of the shared client.
-use Rattle.std.proofs.Common.{◌≡◌, ◌≤◌, ℕ, List, [], Option, Ok, sym, ap, ◌∙◌, subst}
+use Rattle.std.proofs.Common.{◌≡◌, ◌≤◌, ℕ, List, [], Option, Ok, sym, ap, ◌∙◌, subst, arith}
 use Rattle.sporc_clients.proofs.Common.{count_of_both, NetTold, AppendsItem, TakesItem, link_told, IfErr, Result, ⊤, ChanceTold, Use, EditorLine, IsAllowed, Item, Past, items_of, SessionFault}
 use Rattle.sporc_clients.proofs.Common.{link_at, Wanted, IsSessionOf, LinkTold, stand_at, IsAllowedLog, IsFetch, InboxModel, LinkStand, empty_inbox}
 use Rattle.sporc_outside.specs.Nets.{HandsLink}
@@ -9,9 +9,10 @@ use Rattle.sporc_turn.specs.declared.known.Known.{Known}
 use Rattle.sporc_turn.specs.declared.pass.Pass.{Pass}
 use Rattle.sporc_turn.specs.Knowing.{first_known}
 use Rattle.sporc_turn.specs.Log.{StartsWith}
-use Rattle.sporc_turn.specs.Passes.{known_of}
-use Rattle.sporc_session.specs.Replies.{IsWornFor}
+use Rattle.sporc_turn.specs.Passes.{known_of, level_of}
+use Rattle.sporc_session.specs.Replies.{HasReadFor}
 use Rattle.sporc_session.specs.Sessions.{IsSession}
+use Rattle.sporc_clients.specs.Counts.{CountedIfFailed}
 use Rattle.sporc_session.proofs.Pasts.{past_goes_on}
 
 -- what number 0 knows as it is handed out
@@ -32,14 +33,18 @@ is_first k p e allowed = record {
 pub session_of : (wanted : Wanted) (editors : List (List EditorLine)) (before after : Past) (first : Known Item) (last : Pass Item) (inbox : InboxModel)
     (link : Use LinkTold) (chance : Use ChanceTold) (result : Result ⊤ SessionFault) → editors ≡ wanted.editors → first ≡ first_known (items_of before)
     → IsSession (stand_at first empty_inbox link.before chance.before) (stand_at (known_of last) inbox link.after chance.after) wanted.rounds wanted.until editors result
-    → IfErr result (IsWornFor last) → items_of after ≡ (known_of last).seen → IsAllowed after → IsSessionOf wanted before after link chance result
-session_of wanted editors before after first last inbox link chance result same opened session worn closed allowed =
+    → IfErr result (HasReadFor last) → items_of after ≡ (known_of last).seen → IsAllowed after → IsSessionOf wanted before after link chance result
+session_of wanted editors before after first last inbox link chance result same opened session read closed allowed =
     let from = stand_at (first_known (items_of before)) empty_inbox link.before chance.before in
     let to = stand_at (known_of last) inbox link.after chance.after in
     let s = subst (λ (es : List (List EditorLine)). IsSession from to wanted.rounds wanted.until es result) same
     (subst (λ (k : Known Item). IsSession (stand_at k empty_inbox link.before chance.before) to wanted.rounds wanted.until editors result) opened session) in
     let t = past_goes_on before after (subst (λ (l : List Item). StartsWith l (items_of before)) (sym s.log_is ∙ sym closed) s.legal.begins) in
-    record { pass = last; inbox = inbox; session = s; worn = worn; seen = sym closed; events = t.0; goes_on = t.1; allowed = allowed }
+    record { pass = last; inbox = inbox; session = s; read = read; seen = sym closed; events = t.0; goes_on = t.1; allowed = allowed }
+
+-- the disk of the client that came back has counted the fault that the session ended by
+pub disk_counted : (last : Pass Item) (disk_faults : ℕ) (result : Result ⊤ SessionFault) → IfErr result (HasReadFor last) → level_of last ≤ disk_faults → CountedIfFailed disk_faults result
+disk_counted last disk_faults result read low is = λ none. subst (λ (r : Result ⊤ SessionFault). IfErr r (HasReadFor last)) is read (omega (arith, none, low))
 
 -- a link that was shut tells what it told
 pub told_again : (old new : LinkTold) → new.written ≡ old.written → new.left ≡ old.left → new.faults ≡ old.faults → new ≡ old

@@ -1,6 +1,6 @@
 -- What a fault of a session is for the program, and which fault of a session and of what follows it
 -- is answered.
-use Rattle.std.specs.Prelude.{ℕ, ◌==◌, Result, ⊤, if◌then◌else◌}
+use Rattle.std.specs.Prelude.{Result, ⊤}
 use Rattle.lms_leaf.specs.declared.faults.LeafFault.TheVariants as leaves
 use Rattle.sporc_bytes.specs.Fields.{fault_as}
 use Rattle.sporc_session.specs.declared.fault.SessionFault.{SessionFault}
@@ -9,33 +9,27 @@ use Rattle.sporc_files.specs.declared.fault.Fault.{Fault}
 use Rattle.sporc_files.specs.declared.fault.Fault.TheVariants as faults
 use Rattle.sporc_files.specs.Faults.{first_fault}
 
--- a disk that failed has counted it, so its count is not found to be 0
-abbrev pub fault_of_disk : ℕ → Fault
-fault_of_disk disk_faults = if disk_faults == 0 then faults.Memory else faults.Outside
-
--- a fault of a session, by how many faults the disk of its leaves counted
-abbrev pub fault_of_session : ℕ → SessionFault → Fault
-fault_of_session disk_faults sessions.LinkFault = faults.Outside
-fault_of_session disk_faults (sessions.Refused position refusal) = faults.Refused position refusal
-fault_of_session disk_faults (sessions.NotSettled pending position) =
+abbrev pub fault_of_session : SessionFault → Fault
+fault_of_session sessions.LinkFault = faults.Outside
+fault_of_session (sessions.Refused position refusal) = faults.Refused position refusal
+fault_of_session (sessions.NotSettled pending position) =
     faults.Unsettled pending position
-fault_of_session disk_faults (sessions.BadMessage place) = faults.Message place
-fault_of_session disk_faults (sessions.Leaf (leaves.Exhausted next)) = faults.Leaf next
-fault_of_session disk_faults (sessions.Leaf leaves.DiskFault) = fault_of_disk disk_faults
-fault_of_session disk_faults sessions.HistoryFull = faults.FullHistory
-fault_of_session disk_faults (sessions.ServerRejected refusal) = faults.Rejected refusal
-fault_of_session disk_faults sessions.JournalFull = faults.FullJournal
-fault_of_session disk_faults (sessions.EditRefused editor line fault) =
-    faults.Edit editor line fault
-fault_of_session disk_faults (sessions.Worn ticket) = faults.Worn
-fault_of_session disk_faults sessions.ChanceFault = faults.Outside
-fault_of_session disk_faults (sessions.LinkEnded taken) = faults.LinkEnded taken
-fault_of_session disk_faults sessions.Memory = faults.Memory
+fault_of_session (sessions.BadMessage place) = faults.Message place
+fault_of_session (sessions.Leaf (leaves.Exhausted next)) = faults.Leaf next
+fault_of_session (sessions.Leaf leaves.DiskFault) = faults.Outside
+fault_of_session sessions.HistoryFull = faults.FullHistory
+fault_of_session (sessions.ServerRejected refusal) = faults.Rejected refusal
+fault_of_session sessions.JournalFull = faults.FullJournal
+fault_of_session (sessions.EditRefused editor line fault) = faults.Edit editor line fault
+fault_of_session (sessions.Worn ticket) = faults.Worn
+fault_of_session sessions.ChanceFault = faults.Outside
+fault_of_session (sessions.LinkEnded taken) = faults.LinkEnded taken
+fault_of_session sessions.Memory = faults.Memory
 
 -- The first fault: that of the session, of saving, or of printing, but for out of memory at one of
 -- the later ones. So if another fault is told, the history was saved, or its file would be too
 -- long, or a call of the folder failed, and journal and report were printed, or a call of the sink
 -- failed
-abbrev pub ended : ℕ → Result ⊤ SessionFault → Result ⊤ Fault → Result ⊤ Fault → Result ⊤ Fault
-ended disk_faults session saved printed =
-    first_fault (fault_as (fault_of_session disk_faults) session) (first_fault saved printed)
+abbrev pub ended : Result ⊤ SessionFault → Result ⊤ Fault → Result ⊤ Fault → Result ⊤ Fault
+ended session saved printed =
+    first_fault (fault_as fault_of_session session) (first_fault saved printed)

@@ -1,5 +1,6 @@
 -- Faults of a session that stand for a count that rose.
-use Rattle.std.specs.Prelude.{ℕ, Result, Ok, Err, ⊤}
+use Rattle.std.specs.Prelude.{◌≡◌, ◌≢◌, ℕ, Result, Ok, Err, ⊤}
+use Rattle.lms_leaf.specs.declared.faults.LeafFault.TheVariants as leaves
 use Rattle.sporc_outside.specs.Chances.{ChanceTold}
 use Rattle.sporc_outside.specs.Counts.{Rose}
 use Rattle.sporc_outside.specs.Uses.{Use}
@@ -32,3 +33,8 @@ RoseFor c fault = ⊤
 abbrev pub RoseIfFailed : CountsAround → Result ⊤ SessionFault → Type 0
 RoseIfFailed c (Ok done) = ⊤
 RoseIfFailed c (Err fault) = RoseFor c fault
+
+-- the count of the disk of the leaves, which was handed over with none, if that disk failed
+abbrev pub CountedIfFailed : ℕ → Result ⊤ SessionFault → Type 0
+CountedIfFailed disk_faults session =
+    session ≡ Err (faults.Leaf leaves.DiskFault) → disk_faults ≢ 0

@@ -27,10 +27,10 @@ module _ (address document : List ℕ) (member : ℕ) (net : Use NetTold) where
     pub fetch : IsFetch (link_at (link_told first) empty_inbox)
         (link_at (link_told last) inbox) document member fetched
 
-  -- Why they were not: no link was made, and the net's count of faults rose, or a fault came over
-  -- it, which is the same whatever a disk counted
+  -- why they were not: no link was made, and the net's count of faults rose, or a fault came over
+  -- it
   pub data NotFetched (fault : Fault) : Type 0 where
     unreached : MakesNoLink net address → Rose net.before.faults net.after.faults
         → fault ≡ faults.Outside → NotFetched fault
-    broken : {cause : SessionFault} → IsFetchAt (Err cause)
-        → ((disk_faults : ℕ) → fault ≡ fault_of_session disk_faults cause) → NotFetched fault
+    broken : {cause : SessionFault} → IsFetchAt (Err cause) → fault ≡ fault_of_session cause
+        → NotFetched fault

@@ -21,7 +21,7 @@ use Rattle.sporc_files.specs.declared.file.File.TheVariants.{History, Leaf}
 use Rattle.sporc_files.specs.Names.{FileNames, file_name}
 use Rattle.sporc_files.specs.Reading.{IsFileFault, SaysFileIfThere, any_bytes}
 use Rattle.sporc_clients.specs.Attending.{IsAttended, NotAttended, Signs}
-use Rattle.sporc_clients.specs.Counts.{CountsAround, RoseIfFailed, counts_around}
+use Rattle.sporc_clients.specs.Counts.{CountedIfFailed, CountsAround, RoseIfFailed, counts_around}
 use Rattle.sporc_clients.specs.Concluding.{FilesUse, LeavesAreTaken, PrintOutcome, SaveOutcome}
 use Rattle.sporc_clients.specs.Opening.{Begin, begin_with}
 use Rattle.sporc_clients.specs.declared.session.Wanted.{Wanted}
@@ -108,13 +108,14 @@ module _ {D : Type 0} (disks : D → DiskTold) (words : Words) (m : MemberFiles)
     pub attended : IsAttended (begin_of words m) history did.net
         (wanted_of words m) (signs_with m leaves) past did.chance session
     pub causes : RoseIfFailed (counts_of did) session
+    pub disk : CountedIfFailed (disks last).faults session
     pub saved : Result ⊤ Fault
     pub saves : SaveOutcome past (file_name (names_of words) (History words.device))
         (files_of did) saved
     pub printed : Result ⊤ Fault
     pub prints : PrintOutcome past did.out printed
     pub taken : LeavesAreTaken (disk_images (disks last)) past
-    pub answers : answer ≡ ended (disks last).faults session saved printed
+    pub answers : answer ≡ ended session saved printed
 
   -- why no session began: the leaf file is none of the key's; behind its opening, the saved history
   -- was not read; or the client could not go on with it

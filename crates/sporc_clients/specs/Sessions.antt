@@ -10,7 +10,7 @@ use Rattle.sporc_turn.specs.Passes.{known_of}
 use Rattle.sporc_client.specs.Log.{Logged}
 use Rattle.sporc_shared.specs.Items.{IsAllowed, Item, Past, items_of, with_events}
 use Rattle.sporc_session.specs.declared.fault.SessionFault.{SessionFault}
-use Rattle.sporc_session.specs.Replies.{IsWornFor}
+use Rattle.sporc_session.specs.Replies.{HasReadFor}
 use Rattle.sporc_session.specs.Sessions.{IsSession}
 use Rattle.sporc_session.specs.Traces.{Stand, stand}
 use Rattle.sporc_session.specs.Wires.{InboxModel, empty_inbox, link_stand}
@@ -35,8 +35,8 @@ abbrev pub stand_at : Known Item → InboxModel → LinkTold → ChanceTold → 
 stand_at known inbox link chance =
     stand known (link_stand link.written link.left link.faults inbox) chance.given chance.faults
 
--- A session led a client from one past to another, with this pass at its end: it added events to
--- its log. If it ended since the lock's tickets ran out, the pass has read that
+-- A session led a client from one past to another, with this pass at its end, which has read what
+-- a fault says of the lock: it added events to its log
 pub record IsSessionOf (wanted : Wanted) (before after : Past) (link : Use LinkTold)
     (chance : Use ChanceTold) (result : Result ⊤ SessionFault) : Type 0 where
   pub pass : Pass Item
@@ -45,7 +45,7 @@ pub record IsSessionOf (wanted : Wanted) (before after : Past) (link : Use LinkT
       (stand_at (first_known (items_of before)) empty_inbox link.before chance.before)
       (stand_at (known_of pass) inbox link.after chance.after)
       wanted.rounds wanted.until wanted.editors result
-  pub worn : IfErr result (IsWornFor pass)
+  pub read : IfErr result (HasReadFor pass)
   pub seen : (known_of pass).seen ≡ items_of after
   pub events : List Logged
   pub goes_on : after ≡ with_events before events

@@ -6,10 +6,10 @@ ghost use Rattle.sporc_outside.specs.Uses.{use_of};
 ghost use Rattle.sporc_client.specs.ClientModel.{Rise, leaves_of};
 ghost use Rattle.sporc_entry.specs.Genesis.{IsGenesis};
 ghost use Rattle.sporc_script.specs.declared.limits.TheConstants.{MAX_EDITORS};
-ghost use Rattle.sporc_shared.specs.Items.{past_of};
+ghost use Rattle.sporc_shared.specs.Items.{disk_faults, past_of};
 ghost use Rattle.sporc_clients.specs.Attending.{IsAttended, NotAttended, begin_at, saved_of};
 ghost use Rattle.sporc_clients.specs.Attending.{signs_of};
-ghost use Rattle.sporc_clients.specs.Counts.{RoseIfFailed, counts_around};
+ghost use Rattle.sporc_clients.specs.Counts.{CountedIfFailed, RoseIfFailed, counts_around};
 ghost use Rattle.sporc_clients.specs.Nets.{AsksAtMost};
 ghost use Rattle.sporc_clients.specs.Opening.{links_for_hints};
 
@@ -66,6 +66,8 @@ where
         (past_of ended.client).first_leaf ended.client.leaves.next (leaves_of ended.client.log)) }
     ensures causes { IfOk result (λ ended. RoseIfFailed (counts_around (N.told net.old).link_faults
         (N.told net.new).link_faults (use_of C.told chance.old chance.new)) ended.result) }
+    ensures disk { IfOk result
+        (λ ended. CountedIfFailed (disk_faults D.told ended.client) ended.result) }
     ensures err { IfErr result (λ e. NotAttended (begin_at member address.now) (saved_of member)
         (use_of N.told net.old net.new) e.0) }
     ensures returned { IfErr result (λ e. e.1 ≡ signer) }

@@ -167,7 +167,7 @@ where
                 printed,
                 disk,
             } = conclude(alloc, ended, out, files, name.as_str());
-            (end(disk.faults(), session, saved, printed), disk)
+            (end(session, saved, printed), disk)
         }
         Err((fault, signer)) => (Err(fault), signer.close()),
     }

@@ -6,7 +6,7 @@ ghost use Rattle.sporc_outside.specs.Nets.{AreShutBehind};
 ghost use Rattle.sporc_outside.specs.Uses.{use_of};
 ghost use Rattle.sporc_clients.specs.Fetching.{IsFetchAt, NotFetched};
 
-use crate::causes::fetch_fault;
+use crate::causes::session_fault;
 use sporc_files::Fault;
 use sporc_outside::{Dial, Link};
 use sporc_session::fetch;
@@ -44,6 +44,6 @@ pub(crate) fn fetch_entries<R: Wait, N: Dial>(
     net.take_back(link);
     match fetched {
         Ok(entries) => Ok(entries),
-        Err(fault) => Err(fetch_fault(fault)),
+        Err(fault) => Err(session_fault(fault)),
     }
 }

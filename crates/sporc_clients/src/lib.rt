@@ -17,14 +17,14 @@
 //! file; its session is one of `sporc_session` on that client's log (`IsSession`), over a link of
 //! its own; the file has exactly the entries of the client behind it, and what is printed is its
 //! journal and its report to the byte, or a prefix of them, however the session ended, and the
-//! session's fault comes first, unless memory ran out at one of these; a session that the link or
-//! the chance ended stands for a count that rose. The leaves of its submissions rise from the first
-//! of the opening on, and no crash frees their blocks on the disk that comes back. Where no session
-//! began, nothing is printed, no file has changed, and no word of the chance is taken; the fault
-//! names its cause. Whatever came of it, the files asked for are those of the device, the ring, the
-//! genesis and the scripts, and no others; links are asked for at the address alone, two at most;
-//! each disk is back, and each link, shut; and no count of faults has fallen. Over runs one behind
-//! another no leaf signs twice ([`laws`]).
+//! session's fault comes first, unless memory ran out at one of these; a session that the link, the
+//! chance or the leaf file's disk ended stands for a count that rose. The leaves of its submissions
+//! rise from the first of the opening on, and no crash frees their blocks on the disk that comes
+//! back. Where no session began, nothing is printed, no file has changed, and no word of the chance
+//! is taken; the fault names its cause. Whatever came of it, the files asked for are those of the
+//! device, the ring, the genesis and the scripts, and no others; links are asked for at the address
+//! alone, two at most; each disk is back, and each link, shut; and no count of faults has fallen.
+//! Over runs one behind another no leaf signs twice ([`laws`]).
 //!
 //! Only tested: two members who work with a server, each status that a session ends with, and each
 //! call outside failing in turn (`sporc_top_tests`). Neither: that the server answers, and,

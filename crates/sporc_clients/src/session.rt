@@ -4,8 +4,8 @@ ghost use Rattle.std.specs.Prelude.{◌≡◌, ◌≤◌, length, IfErr, IfOk, O
 ghost use Rattle.sporc_outside.specs.Uses.{use_of};
 ghost use Rattle.sporc_client.specs.ClientModel.{Rise, leaves_of};
 ghost use Rattle.sporc_script.specs.declared.limits.TheConstants.{MAX_EDITORS};
-ghost use Rattle.sporc_shared.specs.Items.{past_of};
-ghost use Rattle.sporc_clients.specs.Counts.{RoseIfFailed, counts_around};
+ghost use Rattle.sporc_shared.specs.Items.{disk_faults, past_of};
+ghost use Rattle.sporc_clients.specs.Counts.{CountedIfFailed, RoseIfFailed, counts_around};
 ghost use Rattle.sporc_clients.specs.Sessions.{IsSessionOf, link_use};
 
 use crate::platform::Platform;
@@ -59,6 +59,8 @@ pub(crate) fn run_session<
         (past_of ended.client).first_leaf ended.client.leaves.next (leaves_of ended.client.log)) }
     ensures causes { IfOk result (λ ended. RoseIfFailed (counts_around (L.told link.old).faults
         (L.told link.new).faults (use_of C.told chance.old chance.new)) ended.result) }
+    ensures disk { IfOk result
+        (λ ended. CountedIfFailed (disk_faults D.told ended.client) ended.result) }
     ensures chance_kept { (C.told chance.old).faults ≤ (C.told chance.new).faults }
     ensures shut { (L.told link.new).is_shut ≡ (L.told link.old).is_shut }
     ensures returned { IfErr result (λ e. e.0 ≡ client) }

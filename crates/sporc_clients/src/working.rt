@@ -6,8 +6,8 @@ ghost use Rattle.sporc_outside.specs.Told.{MayAppend};
 ghost use Rattle.sporc_outside.specs.Nets.{AreShutBehind};
 ghost use Rattle.sporc_outside.specs.Uses.{use_of};
 ghost use Rattle.sporc_script.specs.declared.limits.TheConstants.{MAX_EDITORS};
-ghost use Rattle.sporc_shared.specs.Items.{past_of};
-ghost use Rattle.sporc_clients.specs.Counts.{RoseIfFailed, counts_around};
+ghost use Rattle.sporc_shared.specs.Items.{disk_faults, past_of};
+ghost use Rattle.sporc_clients.specs.Counts.{CountedIfFailed, RoseIfFailed, counts_around};
 ghost use Rattle.sporc_clients.specs.Nets.{IsWork, NotBegun};
 
 use crate::platform::Platform;
@@ -44,6 +44,8 @@ where
         (past_of ended.client).first_leaf ended.client.leaves.next (leaves_of ended.client.log)) }
     ensures causes { IfOk result (λ ended. RoseIfFailed (counts_around (N.told net.old).link_faults
         (N.told net.new).link_faults (use_of C.told chance.old chance.new)) ended.result) }
+    ensures disk { IfOk result
+        (λ ended. CountedIfFailed (disk_faults D.told ended.client) ended.result) }
     ensures err { IfErr result (λ e. NotBegun address.now (use_of N.told net.old net.new)
         (N.told net.old).faults e.0) }
     ensures returned { IfErr result (λ e. e.1 ≡ client) }

@@ -1,6 +1,7 @@
 //! Keys, sealed.
 
-ghost use Rattle.std.specs.Prelude.{◌≡◌, ℕ, ◌<◌, ◌≤◌, ◌^◌, true, length, IfOk, filter, fold, is_none};
+ghost use Rattle.std.specs.Prelude.{◌≡◌, ℕ, ◌<◌, ◌≤◌, ◌^◌, true, length, IfOk, filter, fold};
+ghost use Rattle.std.specs.Prelude.{is_none};
 ghost use Rattle.std.specs.FinMap as map;
 ghost use Rattle.std.specs.List.{All};
 ghost use Rattle.sporc_base.specs.Outcome.{GivesUnless};

@@ -52,12 +52,11 @@ turn_answers g k k' s s' m r o ns log seen agrees same says greeted more is =
 
 pub turn_unanswered : (g : Genesis) (k k' : Known Item) (s s' : Bool) (m : ToServer) (found log : List Item)
     (why : Unanswered) → Agrees by_of k found → s' ≡ s → log ≡ found → k' ≡ adding (seeing k found) log → TakesTurn g k k' s s' m (Err (end_of why))
-turn_unanswered g k k' s s' m found log why agrees same more is =
-    (
-      found,
-      record { greeted_is = same; adds = adds_items k k' found log [] agrees.begins (more ∙ sym (append-nil found)) is },
-      elim why as (λ w. IsTurnEnd (end_of w)) [ unanswered.Memory ↦ tt | unanswered.Unkept ↦ tt ],
-    )
+turn_unanswered g k k' s s' m found log why agrees same more is = (
+  found,
+  record { greeted_is = same; adds = adds_items k k' found log [] agrees.begins (more ∙ sym (append-nil found)) is },
+  elim why as (λ w. IsTurnEnd (end_of w)) [ unanswered.Memory ↦ tt | unanswered.Unkept ↦ tt ],
+)
 
 -- no turn was taken
 pub adds_none : (k k' : Known Item) → k' ≡ k → SeesAndAdds k k' k.seen []

@@ -46,6 +46,8 @@ impl<T: Tail> Kept for Desk<T> {
 
     ghost by = { by_of };
 
+    ghost level = { λ d. 0 };
+
     #[tactic(auto, using(crate::proofs::Logs::placed_length))]
     fn logged(&self) -> u64 {
         u64::from(self.order.len()) + 1

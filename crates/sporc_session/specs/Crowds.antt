@@ -19,7 +19,7 @@ use Rattle.sporc_session.specs.declared.fault.SessionFault.TheVariants as faults
 use Rattle.sporc_session.specs.Traces.{CountsSame, Stand, stand_at}
 use Rattle.sporc_session.specs.Editing.{LinesDid}
 use Rattle.sporc_session.specs.Lines.{AreLinesDone, LineEnd}
-use Rattle.sporc_session.specs.Replies.{IsWornFor}
+use Rattle.sporc_session.specs.Replies.{HasReadFor}
 use Rattle.sporc_session.specs.Sessions.{FirstPhase}
 use Rattle.sporc_session.specs.Wires.{InboxModel}
 
@@ -60,7 +60,7 @@ CrowdEnds shared p q link inbox inbox' chance rounds scripts ends =
     (stand_at q link.after inbox' chance.after)
     rounds scripts (result_err ends.receiver) (result_err ends.editors)
     × (link.after.is_shut ≡ link.before.is_shut)
-    × IfErr ends.receiver (IsWornFor q) × IfErr ends.editors (IsWornFor q)
+    × IfErr ends.receiver (HasReadFor q) × IfErr ends.editors (HasReadFor q)
 
 -- an editor's thread did
 abbrev pub EditorEnds : {D : Type 0} → SharedClient D → Pass Item → Pass Item
@@ -68,7 +68,7 @@ abbrev pub EditorEnds : {D : Type 0} → SharedClient D → Pass Item → Pass I
 EditorEnds shared p q lines result =
     IsPassOf shared q × CountsSame (known_of p) (known_of q)
     × LinesDid (known_of p) (known_of q) lines (result_err result)
-    × IfErr result (IsWornFor q)
+    × IfErr result (HasReadFor q)
 
 -- the pass that a thread is to take: number 0, which may still be split so often
 abbrev pub IsFirst : {D : Type 0} → SharedClient D → Option (Pass Item) → ℕ → Type 0

@@ -1,12 +1,13 @@
 -- The replies of a shared client, and the faults of a session that they come to.
-use Rattle.std.specs.Prelude.{ℕ, List, Bool, true, false, Option, None, Some, Result, Ok, Err, ⊤}
+use Rattle.std.specs.Prelude.{◌≢◌, ℕ, List, Bool, true, false, Option, None, Some, Result, Ok, Err}
+use Rattle.std.specs.Prelude.{⊤}
 use Rattle.lms_leaf.specs.declared.faults.LeafFault.TheVariants as leaves
 use Rattle.sporc_head.specs.declared.refusal.Refusal.{Refusal}
 use Rattle.sporc_wire.specs.declared.fault.FrameFault.{FrameFault}
 use Rattle.sporc_wire.specs.declared.fault.FrameFault.TheVariants as frames
 use Rattle.sporc_turn.specs.declared.pass.Pass.{Pass}
 use Rattle.sporc_turn.specs.declared.turn.Worn.{Worn}
-use Rattle.sporc_turn.specs.Passes.{IsWorn}
+use Rattle.sporc_turn.specs.Passes.{IsWorn, level_of}
 use Rattle.sporc_client.specs.declared.fault.AcceptFault.{AcceptFault}
 use Rattle.sporc_client.specs.declared.fault.AcceptFault.TheVariants as accepts
 use Rattle.sporc_client.specs.declared.fault.EditFault.{EditFault}
@@ -84,7 +85,9 @@ unread_fault place (frames.BadMessage at) = faults.BadMessage at
 unread_fault place (frames.TooLong len) = faults.BadMessage place
 unread_fault place frames.Memory = faults.Memory
 
--- if a session ended since no ticket was left, its pass has read that
-abbrev pub IsWornFor : Pass Item → SessionFault → Type 0
-IsWornFor pass (faults.Worn ticket) = IsWorn pass
-IsWornFor pass _ = ⊤
+-- what the pass of a session that ended by this fault has read: that no ticket is left, or that the
+-- disk of the leaves counted a fault
+abbrev pub HasReadFor : Pass Item → SessionFault → Type 0
+HasReadFor pass (faults.Worn ticket) = IsWorn pass
+HasReadFor pass (faults.Leaf leaves.DiskFault) = level_of pass ≢ 0
+HasReadFor pass _ = ⊤

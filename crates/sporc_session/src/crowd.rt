@@ -8,7 +8,7 @@ ghost use Rattle.sporc_turn.specs.Passes.{known_of};
 ghost use Rattle.sporc_shared.specs.Passes.{IsPassOf};
 ghost use Rattle.sporc_session.specs.Traces.{stand_at};
 ghost use Rattle.sporc_session.specs.Crowds.{CrowdEnds, EditorEnds, IsCrowd, IsFirst, IsOther};
-ghost use Rattle.sporc_session.specs.Replies.{IsWornFor};
+ghost use Rattle.sporc_session.specs.Replies.{HasReadFor};
 
 use crate::context::Context;
 use crate::editor::do_lines;
@@ -54,8 +54,8 @@ pub(crate) fn crowd<
         (stand_at result.1 (L.told link.new) inbox.new (C.told chance.new))
         rounds scripts.now (result_err result.0.receiver) (result_err result.0.editors) }
     ensures shut { (L.told link.new).is_shut ≡ (L.told link.old).is_shut }
-    ensures worn { IfErr result.0.receiver (IsWornFor result.1)
-        × IfErr result.0.editors (IsWornFor result.1) }
+    ensures read { IfErr result.0.receiver (HasReadFor result.1)
+        × IfErr result.0.editors (HasReadFor result.1) }
 {
     let Some((script, others)) = scripts.split_first() else {
         let (receiver, first) = first_phase(context, link, inbox, chance, first, rounds);

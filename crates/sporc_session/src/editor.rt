@@ -12,7 +12,7 @@ ghost use Rattle.sporc_session.specs.Traces.{CountsSame, KnowsMore};
 ghost use Rattle.sporc_session.specs.Editing.{AskedDid, IsAtFront, IsWornFault, LineDid, LinesDid};
 ghost use Rattle.sporc_session.specs.Editing.{StatedDid, seen_of};
 ghost use Rattle.sporc_session.specs.Lines.{Changes, asked_by};
-ghost use Rattle.sporc_session.specs.Replies.{IsWornFor, edited_of};
+ghost use Rattle.sporc_session.specs.Replies.{HasReadFor, edited_of};
 
 use crate::context::Context;
 use crate::fault::SessionFault;
@@ -79,7 +79,7 @@ fn see<R: Wait, D: LeafDisk, G>(context: &Context<'_, R, D, G>, pass: Pass) -> W
     ensures knows { KnowsMore (known_of pass) (known_of result.1) [] }
     ensures ok { IfOk result.0 (λ seen. IsAtFront (known_of result.1) seen.front.events seen.len) }
     ensures err { IfErr result.0 IsWornFault }
-    ensures worn { IfErr result.0 (IsWornFor result.1) }
+    ensures read { IfErr result.0 (HasReadFor result.1) }
 {
     let (found, pass) = looked(context.shared.look(context.rt, pass));
     (worn(found), pass)
@@ -100,7 +100,7 @@ fn edit_at<R: Wait, D: LeafDisk, G>(
     ensures counts { CountsSame (known_of pass) (known_of result.1) }
     ensures did { StatedDid (known_of pass)
         (known_of result.1) line seen.front.events delta.now result.0 }
-    ensures worn { IfErr result.0 (IsWornFor result.1) }
+    ensures read { IfErr result.0 (HasReadFor result.1) }
 {
     let number = pass.number();
     let (answer, pass) = plain(context.shared.edit(context.rt, pass, seen.front, delta));
@@ -147,7 +147,7 @@ fn insert<R: Wait, D: LeafDisk, G>(
     ensures counts { CountsSame (known_of pass) (known_of result.1) }
     ensures did { AskedDid (known_of pass) (known_of result.1) line
         (asked_by (commands.Insert asked.now)) result.0 }
-    ensures worn { IfErr result.0 (IsWornFor result.1) }
+    ensures read { IfErr result.0 (HasReadFor result.1) }
 {
     let (found, pass) = see(context, pass);
     let seen = match found {
@@ -172,7 +172,7 @@ fn remove<R: Wait, D: LeafDisk, G>(
     ensures counts { CountsSame (known_of pass) (known_of result.1) }
     ensures did { AskedDid (known_of pass) (known_of result.1) line
         (asked_by (commands.Remove asked.now)) result.0 }
-    ensures worn { IfErr result.0 (IsWornFor result.1) }
+    ensures read { IfErr result.0 (HasReadFor result.1) }
 {
     let (found, pass) = see(context, pass);
     let seen = match found {
@@ -196,7 +196,7 @@ fn change<R: Wait, D: LeafDisk, G>(
     ensures lock { IsPassOf context.now.shared.now result.1 }
     ensures counts { CountsSame (known_of pass) (known_of result.1) }
     ensures did { AskedDid (known_of pass) (known_of result.1) line (Changes change) result.0 }
-    ensures worn { IfErr result.0 (IsWornFor result.1) }
+    ensures read { IfErr result.0 (HasReadFor result.1) }
 {
     let number = pass.number();
     let (answer, pass) = plain(context.shared.change(context.rt, pass, change));
@@ -213,7 +213,7 @@ fn do_line<R: Wait, D: LeafDisk, G: Gate>(
     ensures lock { IsPassOf context.now.shared.now result.1 }
     ensures counts { CountsSame (known_of pass) (known_of result.1) }
     ensures did { LineDid (known_of pass) (known_of result.1) line.now result.0 }
-    ensures worn { IfErr result.0 (IsWornFor result.1) }
+    ensures read { IfErr result.0 (HasReadFor result.1) }
 {
     let number = line.number;
     context.gate.before_line(context.rt, pass.number(), number);
@@ -282,7 +282,7 @@ pub(crate) fn do_lines<R: Wait, D: LeafDisk, G: Gate>(
     ensures lock { IsPassOf context.now.shared.now result.1 }
     ensures counts { CountsSame (known_of pass) (known_of result.1) }
     ensures did { LinesDid (known_of pass) (known_of result.1) lines.now (result_err result.0) }
-    ensures worn { IfErr result.0 (IsWornFor result.1) }
+    ensures read { IfErr result.0 (HasReadFor result.1) }
 {
     let mut mine = pass;
     for line in lines {

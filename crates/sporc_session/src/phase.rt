@@ -6,7 +6,7 @@ ghost use Rattle.sporc_turn.specs.Passes.{known_of};
 ghost use Rattle.sporc_shared.specs.Passes.{IsPassOf};
 ghost use Rattle.sporc_session.specs.Traces.{CountsSame, stand_at};
 ghost use Rattle.sporc_session.specs.Outcomes.{FirstDid, LinkDid};
-ghost use Rattle.sporc_session.specs.Replies.{IsWornFor};
+ghost use Rattle.sporc_session.specs.Replies.{HasReadFor};
 ghost use Rattle.sporc_session.specs.Protocol.{Asking, Between, is_unsettled};
 ghost use Rattle.sporc_session.specs.Sessions.{FirstPhase, SecondPhase};
 ghost use Rattle.sporc_session.specs.Wires.{link_at};
@@ -36,7 +36,7 @@ fn greet<R: Wait, D: LeafDisk, L: Link, G>(
         (link_at (L.told link.old) inbox.now) (link_at (L.told link.new) inbox.now)
         (λ n. Asking) (λ n. Between 0) result.0 }
     ensures shut { (L.told link.new).is_shut ≡ (L.told link.old).is_shut }
-    ensures worn { IfErr result.0 (IsWornFor result.1) }
+    ensures read { IfErr result.0 (HasReadFor result.1) }
 {
     let (answer, pass) = plain(context.shared.membership(context.rt, pass));
     match worn(answer) {
@@ -64,7 +64,7 @@ fn look_and_round<R: Wait, D: LeafDisk, L: Link, C: Chance, G: Gate>(
         (stand_at result.1 (L.told link.new) inbox.new (C.told chance.new))
         (Between n) (Between (n + 1)) result.0 }
     ensures shut { (L.told link.new).is_shut ≡ (L.told link.old).is_shut }
-    ensures worn { IfErr result.0 (IsWornFor result.1) }
+    ensures read { IfErr result.0 (HasReadFor result.1) }
 {
     let (answer, pass) = plain(context.shared.look(context.rt, pass));
     match worn(answer) {
@@ -90,7 +90,7 @@ fn rounds_of<R: Wait, D: LeafDisk, L: Link, C: Chance, G: Gate>(
         (stand_at result.1 (L.told link.new) inbox.new (C.told chance.new))
         (Between 0) (Between rounds) result.0 }
     ensures shut { (L.told link.new).is_shut ≡ (L.told link.old).is_shut }
-    ensures worn { IfErr result.0 (IsWornFor result.1) }
+    ensures read { IfErr result.0 (HasReadFor result.1) }
 {
     let mut mine = pass;
     let mut done = 0;
@@ -122,7 +122,7 @@ pub(crate) fn first_phase<R: Wait, D: LeafDisk, L: Link, C: Chance, G: Gate>(
         (stand_at result.1 (L.told link.new) inbox.new (C.told chance.new))
         rounds (result_err result.0) }
     ensures shut { (L.told link.new).is_shut ≡ (L.told link.old).is_shut }
-    ensures worn { IfErr result.0 (IsWornFor result.1) }
+    ensures read { IfErr result.0 (HasReadFor result.1) }
 {
     let (greeted, pass) = greet(context, link, inbox, pass);
     match greeted {
@@ -156,7 +156,7 @@ pub(crate) fn second_phase<R: Wait, D: LeafDisk, L: Link, C: Chance, G: Gate>(
         (stand_at result.1 (L.told link.new) inbox.new (C.told chance.new))
         rounds until result.0 }
     ensures shut { (L.told link.new).is_shut ≡ (L.told link.old).is_shut }
-    ensures worn { IfErr result.0 (IsWornFor result.1) }
+    ensures read { IfErr result.0 (HasReadFor result.1) }
 {
     let mut mine = pass;
     let mut done = 0;

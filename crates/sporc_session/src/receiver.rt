@@ -12,7 +12,7 @@ ghost use Rattle.sporc_shared.specs.Calls.{CallGives};
 ghost use Rattle.sporc_shared.specs.Passes.{IsPassOf, IsReplyOf, IsWornOnErr};
 ghost use Rattle.sporc_session.specs.Traces.{CountsSame};
 ghost use Rattle.sporc_session.specs.Outcomes.{Drew, DrewFew, SubmittedOne, TookAll, TookOne};
-ghost use Rattle.sporc_session.specs.Replies.{IsWornFor, made_of, plain_of, taken_of, worn_of};
+ghost use Rattle.sporc_session.specs.Replies.{HasReadFor, made_of, plain_of, taken_of, worn_of};
 
 use crate::context::Context;
 use crate::fault::SessionFault;
@@ -133,7 +133,7 @@ fn take_under<R: Wait, D: LeafDisk, G: Gate>(
     ensures lock { IsPassOf context.now.shared.now result.1 }
     ensures counts { CountsSame (known_of pass) (known_of result.1) }
     ensures took { TookOne (known_of pass) (known_of result.1) at entry result.0 }
-    ensures worn { IfErr result.0 (IsWornFor result.1) }
+    ensures read { IfErr result.0 (HasReadFor result.1) }
 {
     let position = at + 1;
     let (answer, pass) = plain(accept_under(context, pass, position, entry, key));
@@ -158,7 +158,7 @@ fn take_one<R: Wait, D: LeafDisk, G: Gate>(
     ensures lock { IsPassOf context.now.shared.now result.1 }
     ensures counts { CountsSame (known_of pass) (known_of result.1) }
     ensures took { TookOne (known_of pass) (known_of result.1) at entry result.0 }
-    ensures worn { IfErr result.0 (IsWornFor result.1) }
+    ensures read { IfErr result.0 (HasReadFor result.1) }
 {
     let (answer, pass) = plain(context.shared.key_for(context.rt, pass, entry.as_slice()));
     match worn(answer) {
@@ -181,7 +181,7 @@ pub(crate) fn take_all<R: Wait, D: LeafDisk, G: Gate>(
     ensures counts { CountsSame (known_of pass) (known_of result.1) }
     ensures took { TookAll (known_of pass) (known_of result.1) at
         (map (λ v. v.items) (into_iter_items entries)) result.0 }
-    ensures worn { IfErr result.0 (IsWornFor result.1) }
+    ensures read { IfErr result.0 (HasReadFor result.1) }
 {
     let Some(entry) = entries.next() else {
         return (Ok(()), pass);
@@ -232,7 +232,7 @@ pub(crate) fn submit<R: Wait, D: LeafDisk, C: Chance, G>(
     ensures submitted { SubmittedOne (known_of pass) (known_of result.1) (C.told chance.old).given
         (C.told chance.new).given (C.told chance.old).faults (C.told chance.new).faults result.0 }
     ensures within { IfOk result.0 (λ made. IfSome made (λ entry. length entry < MAX_BODY)) }
-    ensures worn { IfErr result.0 (IsWornFor result.1) }
+    ensures read { IfErr result.0 (HasReadFor result.1) }
 {
     match draw(chance) {
         Ok(random) => {

@@ -10,7 +10,7 @@ ghost use Rattle.sporc_session.specs.Traces.{CountsSame, stand_at};
 ghost use Rattle.sporc_session.specs.Outcomes.{GatheredAll, LinkDid, RoundDid};
 ghost use Rattle.sporc_session.specs.Protocol.{Between, Checking, Drains, Pulling, Sending};
 ghost use Rattle.sporc_session.specs.Protocol.{Submits, Taking};
-ghost use Rattle.sporc_session.specs.Replies.{IsWornFor, checked_of};
+ghost use Rattle.sporc_session.specs.Replies.{HasReadFor, checked_of};
 ghost use Rattle.sporc_session.specs.Wires.{LinkStand, link_at};
 
 use crate::context::Context;
@@ -41,7 +41,7 @@ fn gather<R: Wait, D: LeafDisk, L: Link, G: Gate>(
         (link_at (L.told link.old) inbox.old) (link_at (L.told link.new) inbox.new)
         at result.0 }
     ensures shut { (L.told link.new).is_shut ≡ (L.told link.old).is_shut }
-    ensures worn { IfErr result.0 (IsWornFor result.1) }
+    ensures read { IfErr result.0 (HasReadFor result.1) }
 {
     match pull(context.alloc, link, inbox, at) {
         Ok(entries) => {
@@ -74,7 +74,7 @@ fn drain<R: Wait, D: LeafDisk, L: Link, G: Gate>(
         (link_at (L.told link.old) inbox.old) (link_at (L.told link.new) inbox.new)
         (λ n. Taking n at [] (Drains entry refusal)) (λ n. Checking n entry refusal) result.0 }
     ensures shut { (L.told link.new).is_shut ≡ (L.told link.old).is_shut }
-    ensures worn { IfErr result.0 (IsWornFor result.1) }
+    ensures read { IfErr result.0 (HasReadFor result.1) }
 {
     let mut mine = pass;
     let mut now = at;
@@ -117,7 +117,7 @@ fn check<R: Wait, D: LeafDisk, G>(
     ensures counts { CountsSame (known_of pass) (known_of result.1) }
     ensures did { (link : LinkStand) → LinkDid (known_of pass) (known_of result.1) link link
         (λ n. Checking n entry.now refusal) (λ n. Between (n + 1)) result.0 }
-    ensures worn { IfErr result.0 (IsWornFor result.1) }
+    ensures read { IfErr result.0 (HasReadFor result.1) }
 {
     let (answer, pass) = plain(context.shared.is_flight(context.rt, pass, entry));
     (checked(refusal, answer), pass)
@@ -143,7 +143,7 @@ fn settle<R: Wait, D: LeafDisk, L: Link, G: Gate>(
         (link_at (L.told link.old) inbox.old) (link_at (L.told link.new) inbox.new)
         (λ n. Taking n at [] (Drains entry.now refusal)) (λ n. Between (n + 1)) result.0 }
     ensures shut { (L.told link.new).is_shut ≡ (L.told link.old).is_shut }
-    ensures worn { IfErr result.0 (IsWornFor result.1) }
+    ensures read { IfErr result.0 (HasReadFor result.1) }
 {
     let (drained, pass) = drain(context, link, inbox, pass, at);
     match drained {
@@ -171,7 +171,7 @@ fn offer<R: Wait, D: LeafDisk, L: Link, G: Gate>(
         (link_at (L.told link.old) inbox.old) (link_at (L.told link.new) inbox.new)
         (λ n. Sending n at entry) (λ n. Between (n + 1)) result.0 }
     ensures shut { (L.told link.new).is_shut ≡ (L.told link.old).is_shut }
-    ensures worn { IfErr result.0 (IsWornFor result.1) }
+    ensures read { IfErr result.0 (HasReadFor result.1) }
 {
     let answer = send_entry(context.alloc, link, inbox, &entry);
     match answer {
@@ -201,7 +201,7 @@ fn give<R: Wait, D: LeafDisk, L: Link, C: Chance, G: Gate>(
         (stand_at result.1 (L.told link.new) inbox.new (C.told chance.new))
         (λ n. Taking n at [] Submits) (λ n. Between (n + 1)) result.0 }
     ensures shut { (L.told link.new).is_shut ≡ (L.told link.old).is_shut }
-    ensures worn { IfErr result.0 (IsWornFor result.1) }
+    ensures read { IfErr result.0 (HasReadFor result.1) }
 {
     let (made, pass) = submit(context, chance, pass);
     match made {
@@ -231,7 +231,7 @@ pub(crate) fn round<R: Wait, D: LeafDisk, L: Link, C: Chance, G: Gate>(
         (stand_at result.1 (L.told link.new) inbox.new (C.told chance.new))
         (λ n. Pulling n at) (λ n. Between (n + 1)) result.0 }
     ensures shut { (L.told link.new).is_shut ≡ (L.told link.old).is_shut }
-    ensures worn { IfErr result.0 (IsWornFor result.1) }
+    ensures read { IfErr result.0 (HasReadFor result.1) }
 {
     let (gathered, pass) = gather(context, link, inbox, pass, at);
     match gathered {

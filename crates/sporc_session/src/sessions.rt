@@ -8,7 +8,7 @@ ghost use Rattle.sporc_turn.specs.Log.{Agrees};
 ghost use Rattle.sporc_shared.specs.Items.{by_of};
 ghost use Rattle.sporc_shared.specs.Passes.{IsPassOf};
 ghost use Rattle.sporc_session.specs.Traces.{IsAllowedLog};
-ghost use Rattle.sporc_session.specs.Replies.{IsWornFor};
+ghost use Rattle.sporc_session.specs.Replies.{HasReadFor};
 ghost use Rattle.sporc_session.specs.Sessions.{HasSession};
 
 use crate::context::Context;
@@ -70,7 +70,7 @@ pub fn session<
     ensures session { HasSession pass result.1 (use_of L.told link.old link.new)
         (use_of C.told chance.old chance.new) rounds until editors.now result.0 }
     ensures shut { (L.told link.new).is_shut ≡ (L.told link.old).is_shut }
-    ensures worn { IfErr result.0 (IsWornFor result.1) }
+    ensures read { IfErr result.0 (HasReadFor result.1) }
 {
     let context = Context {
         rt,

@@ -1,4 +1,4 @@
--- The past of a client after a call.
+-- The past of a client after a call, and the count of the disk of its leaves.
 use Rattle.std.proofs.Common.{◌≡◌, ℕ, List, [], ◌++◌, None, refl, ap, Result, Ok, Err}
 use Rattle.sporc_shared.proofs.Common.{added, ClientModel, first_leaf_of, leaf_in, leaves_of, Logged, submission_added, past_of, with_events}
 use Rattle.sporc_client.specs.Drawing.{gives_entry, kept_after}

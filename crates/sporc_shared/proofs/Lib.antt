@@ -1,4 +1,5 @@
 pub mod Afters
+pub mod Disks
 pub mod Journals
 pub mod Lengths
 pub mod Calling

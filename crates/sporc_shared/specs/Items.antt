@@ -3,6 +3,7 @@ use Rattle.std.specs.Prelude.{◌≡◌, ◌⊎◌, ℕ, List, ◌∷◌, ◌++�
 use Rattle.std.specs.Coded.{Coded, code_by, coded×, coded⊎, coded_ℕ}
 use Rattle.std.proofs.Common.{inl, inr}
 use Rattle.std.specs.declared.convert.Infallible.{Infallible}
+use Rattle.sporc_outside.specs.LeafDisk.{DiskTold}
 use Rattle.sporc_client.specs.Allowed.{is_allowed}
 use Rattle.sporc_client.specs.ClientModel.{ClientModel, first_leaf_of}
 use Rattle.sporc_client.specs.Codes.{logged_code, opening_code}
@@ -30,6 +31,10 @@ pub record Past : Type 0 where
 
 abbrev pub past_of : {D : Type 0} → ClientModel D → Past
 past_of c = record { opening = c.opening; first_leaf = first_leaf_of c; log = c.log }
+
+-- how many faults the disk of its leaves counted
+abbrev pub disk_faults : {D : Type 0} → (D → DiskTold) → ClientModel D → ℕ
+disk_faults disk_told c = (disk_told c.leaves.disk).faults
 
 -- its log
 abbrev pub items_of : Past → List Item

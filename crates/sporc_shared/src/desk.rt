@@ -7,7 +7,8 @@ use sporc_outside::LeafDisk;
 use sporc_turn::Kept;
 
 // The client under the lock, in a box, so that each turn moves a pointer alone. Its log begins with
-// what the client was opened with, and goes on with its events.
+// what the client was opened with, and goes on with its events; its level is how many faults the
+// disk of its leaves counted.
 #[derive(Drop)]
 pub struct Desk<D: LeafDisk> {
     pub client: Box<Client<D>>,
@@ -16,11 +17,13 @@ pub struct Desk<D: LeafDisk> {
 impl<D: LeafDisk> Kept for Desk<D> {
     type Item = Item;
 
-    ghost use Rattle.sporc_shared.specs.Items.{by_of, items_of, past_of};
+    ghost use Rattle.sporc_shared.specs.Items.{by_of, disk_faults, items_of, past_of};
 
     ghost log = { λ d. items_of (past_of d.client.value) };
 
     ghost by = { by_of };
+
+    ghost level = { λ d. disk_faults D.told d.client.value };
 
     fn logged(&self) -> u64 {
         count_events(&self.client) + 1

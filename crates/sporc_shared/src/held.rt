@@ -1,7 +1,7 @@
 //! What calls do to the client while it is out with a pass. Each answers, beside the call's answer,
 //! how many events the journal then has.
 
-ghost use Rattle.std.specs.Prelude.{◌≡◌, length, IfOk};
+ghost use Rattle.std.specs.Prelude.{◌≡◌, ◌≢◌, ◌≤◌, length, Err, IfOk};
 ghost use Rattle.sporc_base.specs.FirstFault.{AnswersUnless};
 ghost use Rattle.sporc_client.specs.Answers.{accept_fault, added, change_fault, edit_fault};
 ghost use Rattle.sporc_client.specs.Log.{Accept as Accepted, Change as Changed, Edit as Edited};
@@ -9,7 +9,7 @@ ghost use Rattle.sporc_client.specs.Submissions.{submission_added};
 ghost use Rattle.sporc_client.specs.Step.{is_flight};
 ghost use Rattle.sporc_turn.specs.Passes.{IsSameTurn, value_of};
 ghost use Rattle.sporc_shared.specs.Calls.{SubmitsAt};
-ghost use Rattle.sporc_shared.specs.Items.{IsAllowed, client_of, past_of, with_events};
+ghost use Rattle.sporc_shared.specs.Items.{IsAllowed, client_of, disk_faults, past_of, with_events};
 ghost use Rattle.sporc_shared.specs.Looks.{IsLookAt, key_at, membership_of};
 
 use crate::desk::Desk;
@@ -39,6 +39,8 @@ pub(crate) fn edit<D: LeafDisk>(
     ensures past { past_of (value_of held.new).client.value ≡ with_events
         (past_of (value_of held.old).client.value) (added result.0 (Edited by seen delta.now)) }
     ensures allowed { IsAllowed (past_of (value_of held.new).client.value) }
+    ensures level { disk_faults D.told (value_of held.new).client.value
+        ≡ disk_faults D.told (value_of held.old).client.value }
     ensures events { result.1 ≡ length (past_of (value_of held.new).client.value).log }
 {
     let desk = held.value();
@@ -61,6 +63,8 @@ pub(crate) fn change<D: LeafDisk>(
     ensures past { past_of (value_of held.new).client.value ≡ with_events
         (past_of (value_of held.old).client.value) (added result.0 (Changed by change)) }
     ensures allowed { IsAllowed (past_of (value_of held.new).client.value) }
+    ensures level { disk_faults D.told (value_of held.new).client.value
+        ≡ disk_faults D.told (value_of held.old).client.value }
     ensures events { result.1 ≡ length (past_of (value_of held.new).client.value).log }
 {
     let desk = held.value();
@@ -81,6 +85,10 @@ pub(crate) fn submit<D: LeafDisk>(
     ensures past { past_of (value_of held.new).client.value
         ≡ with_events (past_of (value_of held.old).client.value) (submission_added by result.0) }
     ensures allowed { IsAllowed (past_of (value_of held.new).client.value) }
+    ensures level { disk_faults D.told (value_of held.old).client.value
+        ≤ disk_faults D.told (value_of held.new).client.value }
+    ensures disk { result.0 ≡ Err SubmitFault.LeafFault
+        → disk_faults D.told (value_of held.new).client.value ≢ 0 }
     ensures events { result.1 ≡ length (past_of (value_of held.new).client.value).log }
 {
     let desk = held.value();
@@ -104,6 +112,8 @@ pub(crate) fn accept<D: LeafDisk>(
     ensures past { past_of (value_of held.new).client.value ≡ with_events
         (past_of (value_of held.old).client.value) (added result.0 (Accepted by bytes.now)) }
     ensures allowed { IsAllowed (past_of (value_of held.new).client.value) }
+    ensures level { disk_faults D.told (value_of held.new).client.value
+        ≡ disk_faults D.told (value_of held.old).client.value }
     ensures events { result.1 ≡ length (past_of (value_of held.new).client.value).log }
 {
     let desk = held.value();
@@ -128,6 +138,8 @@ pub(crate) fn accept_examined<D: LeafDisk>(
         ≡ with_events (past_of (value_of held.old).client.value)
         (added result.0 (Accepted by examined.now.entry)) }
     ensures allowed { IsAllowed (past_of (value_of held.new).client.value) }
+    ensures level { disk_faults D.told (value_of held.new).client.value
+        ≡ disk_faults D.told (value_of held.old).client.value }
     ensures events { result.1 ≡ length (past_of (value_of held.new).client.value).log }
 {
     let desk = held.value();

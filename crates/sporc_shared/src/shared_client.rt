@@ -1,6 +1,6 @@
 //! Clients that threads share.
 
-ghost use Rattle.std.specs.Prelude.{◌≡◌, ◌≢◌, ◌+◌, ◌<◌, ◌^◌, max, [], IfErr, IfOk};
+ghost use Rattle.std.specs.Prelude.{◌≡◌, ◌≢◌, ◌+◌, ◌<◌, ◌≤◌, ◌^◌, max, Err, IfErr, IfOk};
 ghost use Rattle.sporc_client.specs.Answers.{accept_fault, change_fault, edit_fault};
 ghost use Rattle.sporc_client.specs.ClientModel.{Rise, leaves_of};
 ghost use Rattle.sporc_client.specs.Log.{Accept as Accepted, Change as Changed, Edit as Edited};
@@ -8,10 +8,11 @@ ghost use Rattle.sporc_client.specs.Step.{is_flight};
 ghost use Rattle.sporc_client.specs.Submissions.{submission_added};
 ghost use Rattle.sporc_turn.specs.Knowing.{adding, copied, first_known, joined_with, splitting};
 ghost use Rattle.sporc_turn.specs.Log.{Agrees, Extends, StartsWith};
-ghost use Rattle.sporc_turn.specs.Passes.{known_held, known_of, out_of, read_of, value_of};
-ghost use Rattle.sporc_turn.specs.Passes.{IsHeldOf};
+ghost use Rattle.sporc_turn.specs.Passes.{known_held, known_of, level_held, level_of, out_of};
+ghost use Rattle.sporc_turn.specs.Passes.{read_of, value_of, IsHeldOf};
 ghost use Rattle.sporc_shared.specs.Calls.{CallGives, CallTells, IsCall, SubmitsAt};
-ghost use Rattle.sporc_shared.specs.Items.{IsAllowed, Past, by_of, client_of, items_of, past_of};
+ghost use Rattle.sporc_shared.specs.Items.{IsAllowed, Past, by_of, client_of, disk_faults};
+ghost use Rattle.sporc_shared.specs.Items.{items_of, past_of};
 ghost use Rattle.sporc_shared.specs.Looks.{IsLookAt, key_at, membership_of};
 ghost use Rattle.sporc_shared.specs.Passes.{HasFront, IsPassOf, IsReplyOf, IsWornOnErr};
 
@@ -127,6 +128,8 @@ impl<D: LeafDisk> SharedClient<D> {
             (known_of r.pass) before (submission_added (known_of pass).number r.answer)
             × SubmitsAt before random.now r.answer) }
         ensures front { HasFront result }
+        ensures disk { IfOk result
+            (λ r. r.answer ≡ Err SubmitFault.LeafFault → level_of r.pass ≢ 0) }
         ensures worn { IsWornOnErr pass result }
     {
         let by = pass.number();
@@ -246,11 +249,14 @@ impl<D: LeafDisk> SharedClient<D> {
         requires lock { IsHeldOf self.now.turn held }
         requires log { Extends by_of (known_held held)
             (items_of (past_of (value_of held).client.value)) }
+        requires level { level_held held ≤ disk_faults D.told (value_of held).client.value }
         ensures lock { IsPassOf self.now result.pass }
         ensures answer { result.answer ≡ answer }
         ensures front { result.front.events ≡ events }
         ensures known { known_of result.pass
             ≡ adding (known_held held) (items_of (past_of (value_of held).client.value)) }
+        ensures level { level_of result.pass
+            ≡ disk_faults D.told (value_of held).client.value }
         ensures agrees { Agrees by_of (known_of result.pass)
             (items_of (past_of (value_of held).client.value)) }
     {
@@ -277,7 +283,7 @@ impl<D: LeafDisk> SharedClient<D> {
 
     /// Joins a pass back to number 0, which keeps its items. It has seen the longer of both logs,
     /// and each of them is a prefix of that one. Of the next tickets that both read it keeps the
-    /// larger.
+    /// larger, and so of the levels that both saw.
     pub fn join(&self, a: Pass, b: Pass) -> Pass
         requires lock { IsPassOf self.now a × IsPassOf self.now b }
         requires first { (known_of a).number ≡ 0 }
@@ -285,6 +291,7 @@ impl<D: LeafDisk> SharedClient<D> {
         ensures lock { IsPassOf self.now result }
         ensures known { known_of result ≡ joined_with (known_of a) (known_of b) }
         ensures read { read_of result ≡ max (read_of a) (read_of b) }
+        ensures level { level_of result ≡ max (level_of a) (level_of b) }
         ensures first { StartsWith (known_of result).seen (known_of a).seen }
         ensures other { StartsWith (known_of result).seen (known_of b).seen }
         ensures agrees { Agrees by_of (known_of result) (known_of result).seen }
@@ -300,6 +307,7 @@ impl<D: LeafDisk> SharedClient<D> {
         requires first { (known_of pass).number ≡ 0 }
         ensures all { IfOk result (λ c. out_of pass ≡ 0) }
         ensures log { IfOk result (λ c. items_of (past_of c) ≡ (known_of pass).seen) }
+        ensures level { IfOk result (λ c. level_of pass ≤ disk_faults D.told c) }
         ensures agrees { IfOk result (λ c. Agrees by_of (known_of pass) (items_of (past_of c))) }
         ensures allowed { IfOk result (λ c. IsAllowed (past_of c)) }
         ensures leaves { IfOk result

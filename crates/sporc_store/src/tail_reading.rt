@@ -1,15 +1,14 @@
 //! The tail of a log that is read, unchecked.
 
-ghost use Rattle.std.specs.Prelude.{◌≡◌, ◌+◌, ◌≤◌, length, map, Ok, Err, IfOk, IfErr, OnOk};
-ghost use Rattle.std.specs.Prelude.{IsTrue};
+ghost use Rattle.std.specs.Prelude.{◌≡◌, ◌+◌, ◌≤◌, length, map, Ok, Err, IfOk, IfErr, OnOk, IsTrue};
 ghost use Rattle.std.specs.Int.{w32};
 ghost use Rattle.sporc_bytes.specs.Fields.{number_at};
 ghost use Rattle.sporc_head.specs.declared.limits.TheConstants.{MAX_ENTRIES};
 ghost use Rattle.sporc_outside.specs.declared.file_fault.TheConstants.{MAX_FILE};
 ghost use Rattle.sporc_store.specs.declared.tail_head.TheConstants.{TAIL_HEAD_LEN};
-ghost use Rattle.sporc_store.specs.TailBytes.{IsUnread, TakesOne, behind_head};
-ghost use Rattle.sporc_store.specs.TailBytes.{record_at, records_behind, records_of, tail_behind};
-ghost use Rattle.sporc_store.specs.TailBytes.{taken_from, taken_to};
+ghost use Rattle.sporc_store.specs.TailBytes.{IsUnread, TakesOne, behind_head, record_at};
+ghost use Rattle.sporc_store.specs.TailBytes.{records_behind, records_of, tail_behind, taken_from};
+ghost use Rattle.sporc_store.specs.TailBytes.{taken_to};
 
 use crate::saved_entry::SavedEntry;
 use crate::tail_fault::TailFault;

@@ -16,6 +16,10 @@ known_of p = (view_of p.badge).known
 abbrev pub read_of : {E : Type 0} → Pass E → ℕ
 read_of p = (view_of p.badge).read
 
+-- the level of the value, as the pass last saw it
+abbrev pub level_of : {E : Type 0} → Pass E → ℕ
+level_of p = (view_of p.badge).level
+
 -- the pass has read that every ticket was drawn
 abbrev pub IsWorn : {E : Type 0} → Pass E → Type 0
 IsWorn p = MAX_TICKETS ≤ read_of p
@@ -40,6 +44,10 @@ module _ {S E : Type 0} {g : Ghosts S E} where
   -- the next ticket, as the pass that holds the value last read it
   abbrev pub read_held : Held S E g → ℕ
   read_held h = h.holder.seat.me.0.read
+
+  -- the level that `take` found
+  abbrev pub level_held : Held S E g → ℕ
+  level_held h = h.holder.seat.me.0.level
 
   -- the value is one of this lock
   abbrev pub IsHeldOf : Turn S E → Held S E g → Type 0

@@ -12,9 +12,15 @@ use Rattle.sporc_turn.specs.Knowing.{joining, matched, nothing_known}
 
 module _ {E : Type 0} where
   -- the first view
-  abbrev pub newcomer : List E → View E
-  newcomer log =
-      record { waits = false; turns = false; ticket = 0; read = 0; known = first_known log }
+  abbrev pub newcomer : List E → ℕ → View E
+  newcomer log level = record {
+    waits = false;
+    turns = false;
+    ticket = 0;
+    read = 0;
+    level = level;
+    known = first_known log;
+  }
 
   -- the next ticket was read
   abbrev pub reading : View E → ℕ → View E
@@ -24,13 +30,14 @@ module _ {E : Type 0} where
   abbrev pub drawing : View E → ℕ → View E
   drawing v ticket = record v { waits = true; turns = false; ticket = ticket }
 
-  -- the turn came, with this log
-  abbrev pub serving : View E → List E → View E
-  serving v log = record v { waits = false; turns = true; known = seeing v.known log }
+  -- the turn came, with this log and this level
+  abbrev pub serving : View E → List E → ℕ → View E
+  serving v log level =
+      record v { waits = false; turns = true; level = level; known = seeing v.known log }
 
-  -- the log grew to this one
-  abbrev pub raising : View E → List E → View E
-  raising v log = record v { known = adding v.known log }
+  -- log and level grew to these
+  abbrev pub raising : View E → List E → ℕ → View E
+  raising v log level = record v { level = level; known = adding v.known log }
 
   -- the turn was passed on
   abbrev pub idling : View E → View E
@@ -41,15 +48,32 @@ module _ {E : Type 0} where
   left_of_split v = record v { known = splitting v.known }
 
   abbrev pub right_of_split : View E → View E
-  right_of_split v =
-      record { waits = false; turns = false; ticket = 0; read = v.read; known = copied v.known }
+  right_of_split v = record {
+    waits = false;
+    turns = false;
+    ticket = 0;
+    read = v.read;
+    level = v.level;
+    known = copied v.known;
+  }
 
   -- a join: the view of both, and the spent one
   abbrev pub of_both : View E → View E → View E
-  of_both v w = record v { read = max v.read w.read; known = joining v.known w.known }
+  of_both v w = record v {
+    read = max v.read w.read;
+    level = max v.level w.level;
+    known = joining v.known w.known;
+  }
 
   abbrev pub spent_view : View E
-  spent_view = record { waits = false; turns = false; ticket = 0; read = 0; known = nothing_known }
+  spent_view = record {
+    waits = false;
+    turns = false;
+    ticket = 0;
+    read = 0;
+    level = 0;
+    known = nothing_known;
+  }
 
 module _ {S E : Type 0} (m : Me (std.Option S) (View E)) where
   -- the next ticket was read, which is none below the one that was read before
@@ -60,20 +84,25 @@ module _ {S E : Type 0} (m : Me (std.Option S) (View E)) where
   abbrev pub DrawsTicket : ℕ → ℕ → Me (std.Option S) (View E) → Type 0
   DrawsTicket ticket r n = (r ≡ ticket → n ≡ (drawing m.0 ticket, m.1)) × (r ≢ ticket → n ≡ m)
 
-  -- a value whose log agrees with what the pass knows, and is no shorter than its news, is out with
-  -- the seat
-  abbrev pub TakesOut : (S → List E) → (E → ℕ) → Me (std.Option S) (View E) → Type 0
-  TakesOut logs by n = (x : S) × (n ≡ (serving m.0 (logs x), (0, Some x) ∷ m.1))
+  -- a value whose log agrees with what the pass knows, and is no shorter than its news, and whose
+  -- level is none below the one that the pass saw last, is out with the seat
+  abbrev pub TakesOut : (S → List E) → (S → ℕ) → (E → ℕ) → Me (std.Option S) (View E) → Type 0
+  TakesOut logs levels by n = (x : S)
+      × (n ≡ (serving m.0 (logs x) (levels x), (0, Some x) ∷ m.1))
       × Agrees by m.0.known (logs x) × (m.0.known.news ≤ length (logs x))
+      × (m.0.level ≤ levels x)
 
   -- the value is taken out, if the ticket is served
-  abbrev pub ReadsServing : (S → List E) → (E → ℕ) → ℕ → Me (std.Option S) (View E) → Type 0
-  ReadsServing logs by r n = (r ≡ m.0.ticket → TakesOut logs by n) × (r ≢ m.0.ticket → n ≡ m)
+  abbrev pub ReadsServing : (S → List E) → (S → ℕ) → (E → ℕ) → ℕ → Me (std.Option S) (View E)
+      → Type 0
+  ReadsServing logs levels by r n =
+      (r ≡ m.0.ticket → TakesOut logs levels by n) × (r ≢ m.0.ticket → n ≡ m)
 
-  -- the log is that of the value which the seat has
-  abbrev pub RaisesCount : (S → List E) → (E → ℕ) → Me (std.Option S) (View E) → Type 0
-  RaisesCount logs by n = (x : S) → m.1 ≡ (0, Some x) ∷ []
-      → (n ≡ (raising m.0 (logs x), m.1)) × Agrees by (adding m.0.known (logs x)) (logs x)
+  -- log and level are those of the value which the seat has
+  abbrev pub RaisesCount : (S → List E) → (S → ℕ) → (E → ℕ) → Me (std.Option S) (View E) → Type 0
+  RaisesCount logs levels by n = (x : S) → m.1 ≡ (0, Some x) ∷ []
+      → (n ≡ (raising m.0 (logs x) (levels x), m.1))
+      × Agrees by (adding m.0.known (logs x)) (logs x)
 
   -- the value is home, and the turn was passed on
   abbrev pub PassesServing : Me (std.Option S) (View E) → Type 0

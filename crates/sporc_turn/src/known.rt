@@ -41,5 +41,7 @@ pub struct View<E> {
     pub ticket: u64,
     /// The next ticket, as it was last read.
     pub read: u64,
+    /// The level of the value, as it was last seen.
+    pub level: u64,
     pub known: Known<E>,
 }

@@ -16,6 +16,8 @@ impl Kept for Tally {
 
     ghost by = { λ n. n };
 
+    ghost level = { λ t. 0 };
+
     fn logged(&self) -> u64 {
         self.numbers.len() as u64
     }

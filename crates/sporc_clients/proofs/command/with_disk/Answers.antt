@@ -1,10 +1,11 @@
 use Rattle.std.proofs.Common.{◌+◌, [], ◌∷◌, ap, option_map, refl, subst, sym, ◌∙◌}
-use Rattle.sporc_clients.proofs.Common.{shut_none, file_name, History, past_of, AsksAtMost, links_for_hints, names_of, no_history, no_leaves, no_session, not_worked, worked}
+use Rattle.sporc_clients.proofs.Common.{shut_none, ended, file_name, History, past_of, AsksAtMost, links_for_hints, names_of, no_history, no_leaves, no_session, not_worked, worked}
 use Rattle.sporc_files.proofs.Asking.{AsksOnly-none}
+use Rattle.sporc_clients.specs.Counts.{CountedIfFailed}
 use Rattle.sporc_clients.proofs.Addresses.{asks_never}
 use Rattle.sporc_clients.proofs.Asking.{asks_history, asks_history_again}
 use Rattle.sporc_clients.proofs.LeafFiles.{kept_to}
-use Rattle.sporc_clients.proofs.Outcomes.{answers_so, attended_at, history_fault, history_says, not_attended_at, saved_as}
+use Rattle.sporc_clients.proofs.Outcomes.{attended_at, history_fault, history_says, not_attended_at, saved_as}
 use Rattle.sporc_clients.proofs.command.with_disk.Goals as goal
 
 pub returns-in-Err-clause-outcome : goal.returns-in-Err-clause-outcome
@@ -23,8 +24,6 @@ pub returns-in-Ok-attend-clause-outcome : goal.returns-in-Ok-attend-clause-outco
 returns-in-Ok-attend-clause-outcome g c =
     let past = past_of c.in-Ok-attend.ended.client in
     let m = c.args.own.says in
-    -- what the disk's laws say in this thread, as in any that it may be sent to
-    let told_here = g.met.D.LeafDisk g.world.𝓛 g.world.𝓜 g.world.𝓡 ((λ s allowed. allowed), (λ patient. patient), (λ others. others), λ cuts. cuts) in
     worked (record {
       leaves = c.in-Ok.signer.leaves;
       history = option_map (λ bytes. bytes.items) c.in-Ok-history_of.both.0;
@@ -37,6 +36,7 @@ returns-in-Ok-attend-clause-outcome g c =
       attended = attended_at m.genesis c.args.words.now.device m.ring c.args.words.now.address c.as_str-address.result.now _ _ c.as_str-address.ensures.value
           _ m.tree c.in-Ok.signer.key _ past _ c.in-Ok-attend.ended.result c.in-Ok.ensures.key c.in-Ok-attend.ensures.attended;
       causes = c.in-Ok-attend.ensures.causes;
+      disk = subst (λ d. CountedIfFailed (g.D.LeafDisk.told d).faults c.in-Ok-attend.ended.result) (sym c.conclude-session.ensures.disk) c.in-Ok-attend.ensures.disk;
       saved = c.conclude-session.result.saved;
       saves = saved_as past _ c.as_str.result.now _ _ _ _ _ _ c.conclude-session.result.saved
           (c.as_str.ensures.value ∙ c.in-Ok-history_of.ensures.name ∙ ap (λ n. file_name n (History c.args.words.now.device)) c.names_of.ensures.value)
@@ -44,8 +44,7 @@ returns-in-Ok-attend-clause-outcome g c =
       printed = c.conclude-session.result.printed;
       prints = c.conclude-session.ensures.printed;
       taken = c.conclude-session.ensures.taken;
-      answers = answers_so _ c.faults.result _ c.conclude-session.result.session c.in-Ok-attend.ended.result c.conclude-session.result.saved c.conclude-session.result.printed
-          (c.faults.ensures.value ∙ sym (told_here.faults_are_told c.conclude-session.result.disk)) c.conclude-session.ensures.session c.end.ensures.value;
+      answers = c.end.ensures.value ∙ ap (λ s. ended s c.conclude-session.result.saved c.conclude-session.result.printed) c.conclude-session.ensures.session;
     })
 
 pub returns-clause-outcome : goal.returns-clause-outcome

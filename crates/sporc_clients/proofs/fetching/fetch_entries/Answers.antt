@@ -1,7 +1,6 @@
 use Rattle.std.proofs.Common.{Ok, Err, refl, rules}
 use Rattle.sporc_clients.proofs.Common.{shut_none, shut_one, link_told}
 use Rattle.sporc_clients.specs.Fetching.{broken, unreached}
-use Rattle.sporc_clients.proofs.Fetched.{no_disk_failed}
 use Rattle.sporc_clients.proofs.Sessioning.{fetched_again, told_again, link_used}
 use Rattle.sporc_clients.proofs.fetching.fetch_entries.Goals as goal
 
@@ -22,11 +21,6 @@ returns-in-Err-clause-shut g c =
 pub returns-in_default-clause-err : goal.returns-in_default-clause-err
 returns-in_default-clause-err g c =
     unreached (record { may_ask = c.connect.ensures.may_ask; coming = search rules; returned = c.connect.ensures.did.returned; counted = c.connect.ensures.did.links }) (search rules) refl
-
-pub fetch_fault-requires : goal.fetch_fault-requires
-fetch_fault-requires g c =
-    let (inbox, fetch) = c.fetch-fetched.ensures.fetch in
-    record { no_disk = no_disk_failed _ _ c.args.document.now c.args.member c.fetch-fetched.result c.in-Err.fault c.in-Err.is fetch }
 
 pub returns-in-Ok-fetched-clause-ok : goal.returns-in-Ok-fetched-clause-ok
 returns-in-Ok-fetched-clause-ok g c =
@@ -56,4 +50,4 @@ returns-in-Err-clause-err g c =
       inbox = inbox;
       fetch = fetched_again _ _ inbox c.args.document.now c.args.member c.fetch-fetched.result (Err c.in-Err.fault) same c.in-Err.is fetch;
     })
-    c.fetch_fault.ensures.value
+    c.session_fault.ensures.value

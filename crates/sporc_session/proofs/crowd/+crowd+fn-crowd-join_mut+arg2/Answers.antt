@@ -1,7 +1,7 @@
 use Rattle.std.proofs.Common.{rules, ap}
 use Rattle.sporc_session.proofs.Common.{result_err, known_of, LinesDid, link_at}
 use Rattle.sporc_session.proofs.Crowding.{crowd_failed, crowd_last, crowd_step}
-use Rattle.sporc_session.proofs.Wearing.{worn_join}
+use Rattle.sporc_session.proofs.Wearing.{read_join}
 use Rattle.sporc_session.proofs.crowd.+crowd+fn-crowd-join_mut+arg2.Goals as goal
 
 pub returns-in_default-clause-crowd : goal.returns-in_default-clause-crowd
@@ -23,10 +23,10 @@ returns-clause-crowd g c' c =
     r.0.0.receiver c.with_editor.result.receiver r.1.0 r.0.0.editors c.with_editor.result.editors
     c.in-Some.ensures.cases.0 c.with_editor.ensures.receiver c.with_editor.ensures.editors c.in-Ok.ensures.old c.in-Ok.ensures.new editor (search rules)
 
-pub returns-clause-worn : goal.returns-clause-worn
-returns-clause-worn g c' c =
+pub returns-clause-read : goal.returns-clause-read
+returns-clause-read g c' c =
     let r = c.join_mut-first.result in
-    worn_join r.0.1 r.1.1 c.join.result c.join.ensures.read r.0.0.receiver c.with_editor.result.receiver r.1.0 r.0.0.editors c.with_editor.result.editors
+    read_join r.0.1 r.1.1 c.join.result c.join.ensures.read c.join.ensures.level r.0.0.receiver c.with_editor.result.receiver r.1.0 r.0.0.editors c.with_editor.result.editors
     c.with_editor.ensures.receiver c.with_editor.ensures.editors (search rules) (search rules)
 
 pub returns-clause-shut : goal.returns-clause-shut

@@ -39,6 +39,6 @@ pub returns-clause-did : goal.returns-clause-did
 returns-clause-did g c =
     did_all (known_of c.args.pass) (known_of c.loop-line.mine) c.args.lines.now c.loop-line.line-index c.loop-line.invariant.done.0 (drop_all c.loop-line.line-index c.args.lines.now c.loop-line-test.false) c.loop-line.invariant.done.1
 
-pub returns-in-Err-clause-worn : goal.returns-in-Err-clause-worn
-returns-in-Err-clause-worn g c =
-    worn_at c.do_line-one.result.1 c.do_line-one.result.0 c.in-Err.fault c.in-Err.is c.do_line-one.ensures.worn
+pub returns-in-Err-clause-read : goal.returns-in-Err-clause-read
+returns-in-Err-clause-read g c =
+    worn_at c.do_line-one.result.1 c.do_line-one.result.0 c.in-Err.fault c.in-Err.is c.do_line-one.ensures.read

@@ -13,6 +13,6 @@ returns-clause-counts g c =
     stated_counts (known_of c.args.pass) c.number-number.result c.args.line c.number-number.ensures.value c.edit.result c.plain-answer.result c.edited.result c.plain-answer.ensures c.edited.ensures c.edit.ensures.worn
     c.args.seen.front.events c.args.delta.now c.edit.ensures.call
 
-pub returns-clause-worn : goal.returns-clause-worn
-returns-clause-worn g c =
+pub returns-clause-read : goal.returns-clause-read
+returns-clause-read g c =
     replied_worn _ (edited_fault c.number-number.result c.args.line) c.args.pass c.edit.result c.plain-answer.ensures c.edited.ensures c.edit.ensures.worn

@@ -16,6 +16,6 @@ returns-clause-did g c =
 pub returns-in-Err-clause-did : goal.returns-in-Err-clause-did
 returns-in-Err-clause-did g c = asked_worn (known_of c.args.pass) (known_of c.see-found.result.1) c.args.line (asked_by (commands.Insert c.args.asked.now)) c.in-Err.fault c.see-found.ensures.knows (subst (λ (r : Result Seen SessionFault). IfErr r IsWornFault) c.in-Err.is c.see-found.ensures.err)
 
-pub returns-in-Err-clause-worn : goal.returns-in-Err-clause-worn
-returns-in-Err-clause-worn g c =
-    worn_at c.see-found.result.1 c.see-found.result.0 c.in-Err.fault c.in-Err.is c.see-found.ensures.worn
+pub returns-in-Err-clause-read : goal.returns-in-Err-clause-read
+returns-in-Err-clause-read g c =
+    worn_at c.see-found.result.1 c.see-found.result.0 c.in-Err.fault c.in-Err.is c.see-found.ensures.read

@@ -12,6 +12,6 @@ returns-clause-ok g c = (saw (known_of c.args.pass) c.look.result c.looked-found
 pub returns-clause-err : goal.returns-clause-err
 returns-clause-err g c = (saw (known_of c.args.pass) c.look.result c.looked-found.result c.worn.result c.looked-found.ensures c.worn.ensures c.look.ensures.call c.look.ensures.front c.look.ensures.worn).err
 
-pub returns-clause-worn : goal.returns-clause-worn
-returns-clause-worn g c =
+pub returns-clause-read : goal.returns-clause-read
+returns-clause-read g c =
     seen_worn c.args.pass c.look.result c.looked-found.result c.worn.result c.looked-found.ensures c.worn.ensures c.look.ensures.worn

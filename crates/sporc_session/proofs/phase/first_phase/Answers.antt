@@ -11,6 +11,6 @@ returns-in-Ok-clause-phase g c = first_then (was_done c.in-Ok.is (c.greet-greete
 pub returns-in-Err-clause-phase : goal.returns-in-Err-clause-phase
 returns-in-Err-clause-phase g c = stopped_within 0 c.args.rounds (omega arith) (was_stopped c.in-Err.is (c.greet-greeted.ensures.did _ _ always 0))
 
-pub returns-in-Err-clause-worn : goal.returns-in-Err-clause-worn
-returns-in-Err-clause-worn g c =
-    worn_at c.greet-greeted.result.1 c.greet-greeted.result.0 c.in-Err.fault c.in-Err.is c.greet-greeted.ensures.worn
+pub returns-in-Err-clause-read : goal.returns-in-Err-clause-read
+returns-in-Err-clause-read g c =
+    worn_at c.greet-greeted.result.1 c.greet-greeted.result.0 c.in-Err.fault c.in-Err.is c.greet-greeted.ensures.read

@@ -18,10 +18,10 @@ pub returns-in-Err-clause-did : goal.returns-in-Err-clause-did
 returns-in-Err-clause-did g c words count ready n =
     record { ends = worn_stopped c.in-Err.is (told IsWhose c.membership.result c.plain-answer.ensures c.worn.ensures c.membership.ensures.call c.membership.ensures.worn) }
 
-pub returns-in-Ok-clause-worn : goal.returns-in-Ok-clause-worn
-returns-in-Ok-clause-worn g c =
+pub returns-in-Ok-clause-read : goal.returns-in-Ok-clause-read
+returns-in-Ok-clause-read g c =
     unsent_worn c.plain-answer.result.1 _ _ _ c.send.result c.send.ensures.sent.err
 
-pub returns-in-Err-clause-worn : goal.returns-in-Err-clause-worn
-returns-in-Err-clause-worn g c =
+pub returns-in-Err-clause-read : goal.returns-in-Err-clause-read
+returns-in-Err-clause-read g c =
     worn_at c.plain-answer.result.1 c.worn.result c.in-Err.fault c.in-Err.is (replied_worn _ worn_fault c.args.pass c.membership.result c.plain-answer.ensures c.worn.ensures c.membership.ensures.worn)

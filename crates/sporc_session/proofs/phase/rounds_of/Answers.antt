@@ -22,6 +22,6 @@ returns-in-Err-clause-did g c = record {
   ends = stopped_within (c.loop-done.done + 1) c.args.rounds (omega (arith, c.loop-done-test.true)) (did_stopped c.loop-done.invariant.did (was_stopped c.in-Err.is (c.look_and_round-one.ensures.did c.loop-done.done)));
 }
 
-pub returns-in-Err-clause-worn : goal.returns-in-Err-clause-worn
-returns-in-Err-clause-worn g c =
-    worn_at c.look_and_round-one.result.1 c.look_and_round-one.result.0 c.in-Err.fault c.in-Err.is c.look_and_round-one.ensures.worn
+pub returns-in-Err-clause-read : goal.returns-in-Err-clause-read
+returns-in-Err-clause-read g c =
+    worn_at c.look_and_round-one.result.1 c.look_and_round-one.result.0 c.in-Err.fault c.in-Err.is c.look_and_round-one.ensures.read

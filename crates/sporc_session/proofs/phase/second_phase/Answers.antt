@@ -71,10 +71,10 @@ returns-in-Err-one-clause-counts g c =
     counts_then (known_of c.args.pass) (known_of c.loop-look.mine) (known_of c.round-one.result.1) c.loop-look.invariant.counts
     (counts_then (known_of c.loop-look.mine) (known_of c.plain-answer.result.1) (known_of c.round-one.result.1) looked c.round-one.ensures.counts)
 
-pub returns-in-Err-clause-worn : goal.returns-in-Err-clause-worn
-returns-in-Err-clause-worn g c =
+pub returns-in-Err-clause-read : goal.returns-in-Err-clause-read
+returns-in-Err-clause-read g c =
     worn_at c.plain-answer.result.1 c.worn.result c.in-Err.fault c.in-Err.is (replied_worn _ worn_fault c.loop-look.mine c.look.result c.plain-answer.ensures c.worn.ensures c.look.ensures.worn)
 
-pub returns-in-Err-one-clause-worn : goal.returns-in-Err-one-clause-worn
-returns-in-Err-one-clause-worn g c =
-    worn_at c.round-one.result.1 c.round-one.result.0 c.in-Err-one.fault c.in-Err-one.is c.round-one.ensures.worn
+pub returns-in-Err-one-clause-read : goal.returns-in-Err-one-clause-read
+returns-in-Err-one-clause-read g c =
+    worn_at c.round-one.result.1 c.round-one.result.0 c.in-Err-one.fault c.in-Err-one.is c.round-one.ensures.read

@@ -19,6 +19,6 @@ returns-in-Err-clause-took g c' c =
     took_first (known_of c.args.pass) (known_of c.take_one-one.result.1) c.args.at (bytes_of (into_iter_items c.args.entries)) c.new.result rest c.in-Err.fault c.take_one-one.result.0
     c.in-Err.is (ap bytes_of c.in-Some.ensures.items ∙ ap (λ (e : List ℕ). e ∷ rest) (sym c.new.ensures.value)) c.take_one-one.ensures.took
 
-pub returns-in-Err-clause-worn : goal.returns-in-Err-clause-worn
-returns-in-Err-clause-worn g c' c =
-    worn_at c.take_one-one.result.1 c.take_one-one.result.0 c.in-Err.fault c.in-Err.is c.take_one-one.ensures.worn
+pub returns-in-Err-clause-read : goal.returns-in-Err-clause-read
+returns-in-Err-clause-read g c' c =
+    worn_at c.take_one-one.result.1 c.take_one-one.result.0 c.in-Err.fault c.in-Err.is c.take_one-one.ensures.read

@@ -29,6 +29,6 @@ returns-in-Err-clause-took g c =
     took_none P (known_of c.args.pass) (known_of c.plain-answer.result.1) c.args.at c.args.entry c.in-Err.fault c.worn.result c.in-Err.is
     (told P c.key_for.result c.plain-answer.ensures c.worn.ensures c.key_for.ensures.call c.key_for.ensures.worn)
 
-pub returns-in-Err-clause-worn : goal.returns-in-Err-clause-worn
-returns-in-Err-clause-worn g c =
+pub returns-in-Err-clause-read : goal.returns-in-Err-clause-read
+returns-in-Err-clause-read g c =
     worn_at c.plain-answer.result.1 c.worn.result c.in-Err.fault c.in-Err.is (replied_worn _ worn_fault c.args.pass c.key_for.result c.plain-answer.ensures c.worn.ensures c.key_for.ensures.worn)

@@ -12,6 +12,6 @@ pub returns-clause-counts : goal.returns-clause-counts
 returns-clause-counts g c =
     took_counts (known_of c.args.pass) c.args.at c.args.entry c.accept_under.result c.plain-answer.result c.plain-answer.ensures c.accept_under.ensures.call c.accept_under.ensures.worn
 
-pub returns-clause-worn : goal.returns-clause-worn
-returns-clause-worn g c =
+pub returns-clause-read : goal.returns-clause-read
+returns-clause-read g c =
     replied_worn _ (taken_fault (c.args.at + 1)) c.args.pass c.accept_under.result c.plain-answer.ensures c.taken-took.ensures c.accept_under.ensures.worn

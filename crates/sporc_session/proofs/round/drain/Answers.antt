@@ -32,6 +32,6 @@ pub returns-clause-did : goal.returns-clause-did
 returns-clause-did g c entry refusal words count ready n =
     record { ends = drain_done n c.loop-more.now entry refusal c.loop-more-test.false (c.loop-more.invariant.did entry refusal words count ready n) }
 
-pub returns-in-Err-clause-worn : goal.returns-in-Err-clause-worn
-returns-in-Err-clause-worn g c =
-    worn_at c.gather-gathered.result.1 c.gather-gathered.result.0 c.in-Err.fault c.in-Err.is c.gather-gathered.ensures.worn
+pub returns-in-Err-clause-read : goal.returns-in-Err-clause-read
+returns-in-Err-clause-read g c =
+    worn_at c.gather-gathered.result.1 c.gather-gathered.result.0 c.in-Err.fault c.in-Err.is c.gather-gathered.ensures.read

@@ -14,10 +14,10 @@ returns-in-Err-took-clause-gathered g c =
     gather_err c.in-Ok.entries c.in-Err-took.is c.in-Ok.ensures.pulled.ok
     (subst (λ es. TookAll (known_of c.args.pass) (known_of c.take_all-took.result.1) c.args.at es c.take_all-took.result.0) (ap (λ (es : List (Vec ℕ Global)). map (λ v. v.items) es) c.into_iter-came.ensures.rest ∙ c.into_vec.ensures.value) c.take_all-took.ensures.took)
 
-pub returns-in-Err-took-clause-worn : goal.returns-in-Err-took-clause-worn
-returns-in-Err-took-clause-worn g c =
-    worn_at c.take_all-took.result.1 c.take_all-took.result.0 c.in-Err-took.fault c.in-Err-took.is c.take_all-took.ensures.worn
+pub returns-in-Err-took-clause-read : goal.returns-in-Err-took-clause-read
+returns-in-Err-took-clause-read g c =
+    worn_at c.take_all-took.result.1 c.take_all-took.result.0 c.in-Err-took.fault c.in-Err-took.is c.take_all-took.ensures.read
 
-pub returns-in-Err-clause-worn : goal.returns-in-Err-clause-worn
-returns-in-Err-clause-worn g c =
+pub returns-in-Err-clause-read : goal.returns-in-Err-clause-read
+returns-in-Err-clause-read g c =
     asked_unworn c.args.pass _ _ _ c.in-Err.fault c.in-Err.ensures.pulled.err

@@ -14,6 +14,6 @@ returns-in-Some-clause-did g c ready n =
 pub returns-in-Err-clause-did : goal.returns-in-Err-clause-did
 returns-in-Err-clause-did g c ready n = record { ends = made_stopped c.submit-made.ensures.kept c.in-Err.is c.submit-made.ensures.submitted }
 
-pub returns-in-Err-clause-worn : goal.returns-in-Err-clause-worn
-returns-in-Err-clause-worn g c =
-    worn_at c.submit-made.result.1 c.submit-made.result.0 c.in-Err.fault c.in-Err.is c.submit-made.ensures.worn
+pub returns-in-Err-clause-read : goal.returns-in-Err-clause-read
+returns-in-Err-clause-read g c =
+    worn_at c.submit-made.result.1 c.submit-made.result.0 c.in-Err.fault c.in-Err.is c.submit-made.ensures.read

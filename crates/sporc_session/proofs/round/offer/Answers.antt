@@ -16,8 +16,8 @@ returns-in-Ok-clause-did g c words count ready n =
 pub returns-clause-did : goal.returns-clause-did
 returns-clause-did g c words count ready n = record { ends = sent_stopped c.in-Err.is c.send_entry-answer.ensures.answered.err }
 
-pub returns-clause-worn : goal.returns-clause-worn
-returns-clause-worn g c =
+pub returns-clause-read : goal.returns-clause-read
+returns-clause-read g c =
     asked_worn c.args.pass (link_at (g.L.Stream.told c.args.link.now) c.args.inbox.now)
     (link_at (g.L.Stream.told c.send_entry-answer.new.link) c.send_entry-answer.new.inbox)
     (to_server.Submit c.args.entry) c.send_entry-answer.result c.in-Err.fault c.in-Err.is c.send_entry-answer.ensures.answered.err

@@ -10,6 +10,6 @@ pub returns-in-Err-clause-did : goal.returns-in-Err-clause-did
 returns-in-Err-clause-did g c words count ready n =
     record { ends = was_stopped c.in-Err.is (c.drain-drained.ensures.did c.args.entry.now c.args.refusal words count ready n) }
 
-pub returns-in-Err-clause-worn : goal.returns-in-Err-clause-worn
-returns-in-Err-clause-worn g c =
-    worn_at c.drain-drained.result.1 c.drain-drained.result.0 c.in-Err.fault c.in-Err.is c.drain-drained.ensures.worn
+pub returns-in-Err-clause-read : goal.returns-in-Err-clause-read
+returns-in-Err-clause-read g c =
+    worn_at c.drain-drained.result.1 c.drain-drained.result.0 c.in-Err.fault c.in-Err.is c.drain-drained.ensures.read

@@ -25,10 +25,10 @@ returns-clause-session g c =
     let crowd = crowd_from (known_of c.args.pass) (g.L.Stream.told c.args.link.now).written (g.L.Stream.told c.args.link.now).left (g.L.Stream.told c.args.link.now).faults (g.C.Chance.told c.args.chance.now).given (g.C.Chance.told c.args.chance.now).faults c.new-inbox.result _ _ _ _ _ c.new-inbox.ensures.value first.ensures.crowd in
     (c.second_phase.new.inbox, session_settled (stand_at c.args.pass (g.L.Stream.told c.args.link.now) empty_inbox (g.C.Chance.told c.args.chance.now)) (stand_at first.result.1 (g.L.Stream.told first.new.link) first.new.inbox (g.C.Chance.told first.new.chance)) c.args.rounds c.args.until c.args.editors.now (result_err first.result.0.receiver) (result_err first.result.0.editors) begins crowd (stand_at c.second_phase.result.1 (g.L.Stream.told c.second_phase.new.link) c.second_phase.new.inbox (g.C.Chance.told c.second_phase.new.chance)) c.second_phase.result.0 (ap result_err c.in_default.is) (ap result_err c.in_default-editors.is) c.second_phase.ensures.counts c.second_phase.ensures.phase)
 
-pub returns-in-Err-clause-worn : goal.returns-in-Err-clause-worn
-returns-in-Err-clause-worn g c =
-    worn_at c.crowd-pass.result.1 c.crowd-pass.result.0.receiver c.in-Err.fault c.in-Err.is c.crowd-pass.ensures.worn.0
+pub returns-in-Err-clause-read : goal.returns-in-Err-clause-read
+returns-in-Err-clause-read g c =
+    worn_at c.crowd-pass.result.1 c.crowd-pass.result.0.receiver c.in-Err.fault c.in-Err.is c.crowd-pass.ensures.read.0
 
-pub returns-in-Err-editors-clause-worn : goal.returns-in-Err-editors-clause-worn
-returns-in-Err-editors-clause-worn g c =
-    worn_at c.crowd-pass.result.1 c.crowd-pass.result.0.editors c.in-Err-editors.fault c.in-Err-editors.is c.crowd-pass.ensures.worn.1
+pub returns-in-Err-editors-clause-read : goal.returns-in-Err-editors-clause-read
+returns-in-Err-editors-clause-read g c =
+    worn_at c.crowd-pass.result.1 c.crowd-pass.result.0.editors c.in-Err-editors.fault c.in-Err-editors.is c.crowd-pass.ensures.read.1
