@@ -40,6 +40,13 @@ function import(text,   module, names, n, i, part) {
     }
 }
 
+# a Rust import, of one name or of several, as one of the definitions'
+function import_rust(text) {
+    gsub(/::/, ".", text)
+    if (text !~ /\{/ && match(text, /\.[A-Za-z_0-9]+;$/)) text = substr(text, 1, RSTART) "{" substr(text, RSTART + 1, RLENGTH - 2) "};"
+    import(text)
+}
+
 # the words of a line of a definition, but for those behind a dot, which are fields
 function take_words(text, name) {
     sub(/ *--.*/, "", text)
@@ -55,10 +62,10 @@ FNR == 1 { name = ""; comment = 0; inside = "" }
 
 FILENAME ~ /\.rt$/ {
     if ($0 ~ /^ghost use /) { import($0); next }
-    if ($0 ~ /^use /) next
+    if ($0 ~ /^use /) { import_rust($0); next }
     if ($0 ~ /^\/\/\//) { comment++; next }
     if ($0 ~ /^pub fn /) { name = $3; sub(/[^a-z_0-9].*/, "", name); defined[FILENAME, name] = 1; size[FILENAME, name] = comment; comment = 0 }
-    if (name && $0 ~ /[^ ]/) { size[FILENAME, name]++; if ($0 !~ /^pub fn|^\{\}/) take_words($0, name) }
+    if (name && $0 ~ /[^ ]/) { size[FILENAME, name]++; take_words($0, name) }
     if ($0 ~ /^\{\}/) name = ""
     next
 }

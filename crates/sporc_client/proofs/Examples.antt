@@ -1,6 +1,7 @@
--- Worked examples: logs, pending edits that another's edit passes, what events do to a client, and what a run keeps.
-use Rattle.std.proofs.Common.{◌≡◌, List, [], ◌∷◌, ◌++◌, None, refl}
-use Rattle.sporc_client.proofs.Common.{Keep, Insert, Device, first_device, Keys, journal_of, Opening, PlainClient, opened, beyond, rebased, Setup, Move, Open, Happen, Give, Restart, after_all}
+-- Worked examples: logs, pending edits that another's edit passes, what events do to a client, what a run keeps, and the
+-- leaves that calls spend.
+use Rattle.std.proofs.Common.{◌≡◌, List, [], ◌∷◌, ◌++◌, None, Some, refl}
+use Rattle.sporc_client.proofs.Common.{Keep, Insert, Device, first_device, Keys, LeafUse, leaves_used, journal_of, Opening, PlainClient, opened, beyond, rebased, Setup, Move, Open, Happen, Give, Restart, after_all}
 use Rattle.sporc_client.proofs.Common.{opening_of, start, replay_from}
 use Rattle.sporc_delta.specs.Marks.{Remove}
 use Rattle.sporc_client.specs.declared.event.Event.TheVariants as stored
@@ -75,3 +76,15 @@ signed_for_good s ring = refl
 -- no other device has a client then, and what is handed to one that has none changes nothing
 no_one_else : (s : Setup) (ring : Keys) → (after_all s start (signs ring ++ Give further 1 (7 ∷ []) ∷ [])).clients further ≡ None
 no_one_else s ring = refl
+
+-- ---- leaves: a submission runs out of memory behind its draw, the next spends the ticket, the one after it draws
+
+abbrev three_calls : List LeafUse
+three_calls =
+    record { leaf = None; after = record { next = 8; ticket = Some 7 } }
+    ∷ record { leaf = Some 7; after = record { next = 8; ticket = None } }
+    ∷ record { leaf = Some 8; after = record { next = 9; ticket = None } }
+    ∷ []
+
+its_leaves : leaves_used three_calls ≡ 7 ∷ 8 ∷ []
+its_leaves = refl

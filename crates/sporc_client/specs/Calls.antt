@@ -4,7 +4,15 @@ use Rattle.std.specs.Prelude.{◌≡◌, ◌≢◌, List, map, Some}
 use Rattle.sporc_member.specs.declared.device.Device.{Device}
 use Rattle.sporc_client.specs.Log.{Logged}
 use Rattle.sporc_client.specs.PlainClient.{PlainClient}
-use Rattle.sporc_client.specs.Run.{Setup, World, Move, Happen, IsRun, after_all}
+use Rattle.sporc_client.specs.Run.{Setup, World, Move, Open, Happen, Give, Restart}
+use Rattle.sporc_client.specs.Run.{IsRun, after_all}
+
+-- whose client a move is of
+abbrev pub mover_of : Move → Device
+mover_of (Open who ring) = who
+mover_of (Happen who event) = who
+mover_of (Give who position bytes) = who
+mover_of (Restart who k) = who
 
 -- a client's events as moves
 abbrev pub events_of : Device → List Logged → List Move

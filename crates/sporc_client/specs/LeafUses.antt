@@ -1,6 +1,6 @@
 -- Which leaves a client's entries are signed by, over all its calls.
 use Rattle.std.specs.Prelude.{◌≡◌, ℕ, ◌+◌, ◌≤◌, List, [], ◌∷◌, Option, None, Some, Result, Ok, Err}
-use Rattle.std.specs.Prelude.{◌⊎◌, ⊤, refl}
+use Rattle.std.specs.Prelude.{◌⊎◌, ⊤}
 use Rattle.std.specs.List.{filter_map}
 use Rattle.sporc_client.specs.declared.fault.SubmitFault.{SubmitFault}
 use Rattle.sporc_client.specs.declared.submitted.Submitted.{Submitted}
@@ -64,16 +64,3 @@ AreUses s (call ∷ uses) =
 -- the leaves of the entries that calls gave
 abbrev pub leaves_used : List LeafUse → List ℕ
 leaves_used uses = filter_map (λ call. call.leaf) uses
-
--- ---- worked example: a submission runs out of memory behind its draw, the next spends the ticket,
--- the one after it draws
-
-abbrev three_calls : List LeafUse
-three_calls =
-    record { leaf = None; after = record { next = 8; ticket = Some 7 } }
-    ∷ record { leaf = Some 7; after = record { next = 8; ticket = None } }
-    ∷ record { leaf = Some 8; after = record { next = 9; ticket = None } }
-    ∷ []
-
-its_leaves : leaves_used three_calls ≡ 7 ∷ 8 ∷ []
-its_leaves = refl

@@ -1,7 +1,7 @@
 -- What a session did to a client, from the contracts of the shared client.
 use Rattle.std.proofs.Common.{◌≡◌, ◌≤◌, ℕ, List, [], Option, Ok, sym, ap, ◌∙◌, subst, arith}
 use Rattle.sporc_clients.proofs.Common.{count_of_both, NetTold, AppendsItem, TakesItem, link_told, IfErr, Result, ⊤, ChanceTold, Use, EditorLine, IsAllowed, Item, Past, items_of, SessionFault}
-use Rattle.sporc_clients.proofs.Common.{link_at, Wanted, IsSessionOf, LinkTold, stand_at, IsAllowedLog, IsFetch, InboxModel, LinkStand, empty_inbox}
+use Rattle.sporc_clients.proofs.Common.{link_stand, Wanted, IsSessionOf, LinkTold, stand_at, IsAllowedLog, IsFetch, InboxModel, LinkStand, empty_inbox}
 use Rattle.sporc_outside.specs.Nets.{HandsLink}
 use Rattle.sporc_outside.specs.Streams.{StreamTold, Shuts}
 use Rattle.sporc_clients.specs.Nets.{UsesLink}
@@ -9,7 +9,7 @@ use Rattle.sporc_turn.specs.declared.known.Known.{Known}
 use Rattle.sporc_turn.specs.declared.pass.Pass.{Pass}
 use Rattle.sporc_turn.specs.Knowing.{first_known}
 use Rattle.sporc_turn.specs.Log.{StartsWith}
-use Rattle.sporc_turn.specs.Passes.{known_of, level_of}
+use Rattle.sporc_turn.specs.Passes.{known_of, watermark_of}
 use Rattle.sporc_session.specs.Replies.{HasReadFor}
 use Rattle.sporc_session.specs.Sessions.{IsSession}
 use Rattle.sporc_clients.specs.Counts.{CountedIfFailed}
@@ -43,12 +43,12 @@ session_of wanted editors before after first last inbox link chance result same 
     record { pass = last; inbox = inbox; session = s; read = read; seen = sym closed; events = t.0; goes_on = t.1; allowed = allowed }
 
 -- the disk of the client that came back has counted the fault that the session ended by
-pub disk_counted : (last : Pass Item) (disk_faults : ℕ) (result : Result ⊤ SessionFault) → IfErr result (HasReadFor last) → level_of last ≤ disk_faults → CountedIfFailed disk_faults result
+pub disk_counted : (last : Pass Item) (disk_faults : ℕ) (result : Result ⊤ SessionFault) → IfErr result (HasReadFor last) → watermark_of last ≤ disk_faults → CountedIfFailed disk_faults result
 disk_counted last disk_faults result read low is = λ none. subst (λ (r : Result ⊤ SessionFault). IfErr r (HasReadFor last)) is read (omega (arith, none, low))
 
 -- a link that was shut tells what it told
 pub told_again : (old new : LinkTold) → new.written ≡ old.written → new.left ≡ old.left → new.faults ≡ old.faults → new ≡ old
-told_again old new written left faults i = record { written = written i; left = left i; faults = faults i }
+told_again old new written left faults i = record { left = left i; written = written i; faults = faults i }
 
 pub over_same_link : (wanted : Wanted) (before after : Past) (first : LinkTold) (chance : Use ChanceTold) (result : Result ⊤ SessionFault)
     (old new : LinkTold) → new.written ≡ old.written → new.left ≡ old.left → new.faults ≡ old.faults
@@ -78,7 +78,7 @@ link_used {told = told} {net = net} {shut = shut} {link = link} address after ha
 
 -- a fetch by an equal answer
 pub fetched_again : (first : LinkStand) (old : LinkTold) {new : LinkTold} (inbox : InboxModel) (document : List ℕ) (member : ℕ) (result fetched : Result (List (List ℕ)) SessionFault) → new ≡ old
-    → result ≡ fetched → IsFetch first (link_at old inbox) document member result → IsFetch first (link_at new inbox) document member fetched
+    → result ≡ fetched → IsFetch first (link_stand old inbox) document member result → IsFetch first (link_stand new inbox) document member fetched
 fetched_again first old inbox document member result fetched same is fetch =
-    subst (λ (t : LinkTold). IsFetch first (link_at t inbox) document member fetched) (sym same)
-    (subst (λ (r : Result (List (List ℕ)) SessionFault). IsFetch first (link_at old inbox) document member r) is fetch)
+    subst (λ (t : LinkTold). IsFetch first (link_stand t inbox) document member fetched) (sym same)
+    (subst (λ (r : Result (List (List ℕ)) SessionFault). IsFetch first (link_stand old inbox) document member r) is fetch)

@@ -25,12 +25,12 @@ pub record FilesUse : Type 0 where
   pub faults_before : ℕ
   pub faults_after : ℕ
 
-abbrev pub files_use : {F : Type 0} → (F → FolderTold) → F → F → FilesUse
-files_use told old new = record {
-  before = (told old).files;
-  after = (told new).files;
-  faults_before = (told old).faults;
-  faults_after = (told new).faults;
+abbrev pub files_use : Use FolderTold → FilesUse
+files_use folder = record {
+  before = folder.before.files;
+  after = folder.after.files;
+  faults_before = folder.before.faults;
+  faults_after = folder.after.faults;
 }
 
 -- the file of a client's history

@@ -34,7 +34,7 @@ abbrev pub RoseIfFailed : CountsAround → Result ⊤ SessionFault → Type 0
 RoseIfFailed c (Ok done) = ⊤
 RoseIfFailed c (Err fault) = RoseFor c fault
 
--- the count of the disk of the leaves, which was handed over with none, if that disk failed
+-- if the disk of the leaves ended a session, it has counted a fault
 abbrev pub CountedIfFailed : ℕ → Result ⊤ SessionFault → Type 0
 CountedIfFailed disk_faults session =
     session ≡ Err (faults.Leaf leaves.DiskFault) → disk_faults ≢ 0

@@ -8,14 +8,9 @@ use Rattle.sporc_files.specs.declared.fault.Fault.{Fault}
 use Rattle.sporc_files.specs.declared.fault.Fault.TheVariants as faults
 use Rattle.sporc_session.specs.declared.fault.SessionFault.{SessionFault}
 use Rattle.sporc_session.specs.Fetches.{IsFetch}
-use Rattle.sporc_session.specs.Wires.{InboxModel, LinkStand, empty_inbox, link_stand}
+use Rattle.sporc_session.specs.Wires.{InboxModel, empty_inbox, link_at}
 use Rattle.sporc_clients.specs.Causes.{fault_of_session}
 use Rattle.sporc_clients.specs.Nets.{MakesNoLink, UsesLink}
-use Rattle.sporc_clients.specs.Sessions.{LinkTold, link_told}
-
--- what a link tells, beside what was taken off it
-abbrev pub link_at : LinkTold → InboxModel → LinkStand
-link_at told inbox = link_stand told.written told.left told.faults inbox
 
 module _ (address document : List ℕ) (member : ℕ) (net : Use NetTold) where
   -- all entries of a server were fetched over a link to an address, or a fault came
@@ -24,8 +19,7 @@ module _ (address document : List ℕ) (member : ℕ) (net : Use NetTold) where
     pub last : StreamTold
     pub uses : UsesLink net address first last
     pub inbox : InboxModel
-    pub fetch : IsFetch (link_at (link_told first) empty_inbox)
-        (link_at (link_told last) inbox) document member fetched
+    pub fetch : IsFetch (link_at first empty_inbox) (link_at last inbox) document member fetched
 
   -- why they were not: no link was made, and the net's count of faults rose, or a fault came over
   -- it

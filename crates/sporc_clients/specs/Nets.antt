@@ -1,8 +1,7 @@
 -- A link that a net hands out and takes back.
-use Rattle.std.specs.Prelude.{◌≡◌, ◌≤◌, ℕ, List, ◌++◌, replicate, Option, Result, ⊤}
+use Rattle.std.specs.Prelude.{◌≡◌, ◌≤◌, ℕ, List, Result, ⊤}
 use Rattle.sporc_outside.specs.Counts.{Rose, count_of_both}
 use Rattle.sporc_outside.specs.Told.{AppendsItem, IsFalseIfTold, IsTrueIfTold, MayAppend, TakesItem}
-use Rattle.sporc_outside.specs.Told.{IfBoth}
 use Rattle.sporc_files.specs.declared.fault.Fault.{Fault}
 use Rattle.sporc_files.specs.declared.fault.Fault.TheVariants as faults
 use Rattle.sporc_outside.specs.Chances.{ChanceTold}
@@ -12,12 +11,8 @@ use Rattle.sporc_outside.specs.Streams.{StreamTold}
 use Rattle.sporc_shared.specs.Items.{Past}
 use Rattle.sporc_session.specs.declared.fault.SessionFault.{SessionFault}
 use Rattle.sporc_clients.specs.declared.session.Wanted.{Wanted}
-use Rattle.sporc_clients.specs.Sessions.{IsSessionOf, link_told}
-
--- told addresses asked for grew by this one alone, and by it so often at most
-abbrev pub AsksAtMost : ℕ → Option (List (List ℕ)) → Option (List (List ℕ)) → List ℕ → Type 0
-AsksAtMost most before after address = IfBoth before after
-    (λ asked more. (times : ℕ) × (times ≤ most) × (more ≡ asked ++ replicate times address))
+use Rattle.sporc_session.specs.Wires.{link_told}
+use Rattle.sporc_clients.specs.Sessions.{IsSessionOf}
 
 -- The net handed out a link to an address, without faults and not shut. It was not shut before what
 -- was done over it had ended; then it was, and the net took it back

@@ -23,6 +23,7 @@ use Rattle.sporc_files.specs.Reading.{IsFileFault, SaysFileIfThere, any_bytes}
 use Rattle.sporc_clients.specs.Attending.{IsAttended, NotAttended, Signs}
 use Rattle.sporc_clients.specs.Counts.{CountedIfFailed, CountsAround, RoseIfFailed, counts_around}
 use Rattle.sporc_clients.specs.Concluding.{FilesUse, LeavesAreTaken, PrintOutcome, SaveOutcome}
+use Rattle.sporc_clients.specs.Concluding.{files_use}
 use Rattle.sporc_clients.specs.Opening.{Begin, begin_with}
 use Rattle.sporc_clients.specs.declared.session.Wanted.{Wanted}
 use Rattle.sporc_clients.specs.declared.member_files.MemberFiles.{MemberFiles}
@@ -55,12 +56,7 @@ counts_of did = counts_around did.net.before.link_faults did.net.after.link_faul
 
 -- its files
 abbrev pub files_of : ClientUse → FilesUse
-files_of did = record {
-  before = did.folder.before.files;
-  after = did.folder.after.files;
-  faults_before = did.folder.before.faults;
-  faults_after = did.folder.after.faults;
-}
+files_of did = files_use did.folder
 
 -- ---- what it was asked for
 

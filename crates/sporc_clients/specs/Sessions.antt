@@ -1,5 +1,5 @@
 -- What a session did to a client.
-use Rattle.std.specs.Prelude.{◌≡◌, ℕ, List, Option, IfErr, Result, ⊤}
+use Rattle.std.specs.Prelude.{◌≡◌, List, IfErr, Result, ⊤}
 use Rattle.sporc_outside.specs.Chances.{ChanceTold}
 use Rattle.sporc_outside.specs.Streams.{StreamTold}
 use Rattle.sporc_outside.specs.Uses.{Use}
@@ -13,27 +13,17 @@ use Rattle.sporc_session.specs.declared.fault.SessionFault.{SessionFault}
 use Rattle.sporc_session.specs.Replies.{HasReadFor}
 use Rattle.sporc_session.specs.Sessions.{IsSession}
 use Rattle.sporc_session.specs.Traces.{Stand, stand}
-use Rattle.sporc_session.specs.Wires.{InboxModel, empty_inbox, link_stand}
+use Rattle.sporc_session.specs.Wires.{InboxModel, LinkTold, empty_inbox, link_stand, link_told}
 use Rattle.sporc_clients.specs.declared.session.Wanted.{Wanted}
 
--- what a link tells, with its count of faults
-pub record LinkTold : Type 0 where
-  pub written : Option (List ℕ)
-  pub left : Option (List ℕ)
-  pub faults : ℕ
-
--- what a link tells, but for whether it was shut
-abbrev pub link_told : StreamTold → LinkTold
-link_told link = record { written = link.written; left = link.left; faults = link.faults }
-
--- the same of a use of it
+-- what a use of a link told, but for whether it was shut
 abbrev pub link_use : Use StreamTold → Use LinkTold
 link_use link = record { before = link_told link.before; after = link_told link.after }
 
 -- what number 0 knows of the client's log, beside what the link and the chance tell
 abbrev pub stand_at : Known Item → InboxModel → LinkTold → ChanceTold → Stand
 stand_at known inbox link chance =
-    stand known (link_stand link.written link.left link.faults inbox) chance.given chance.faults
+    stand known (link_stand link inbox) chance.given chance.faults
 
 -- A session led a client from one past to another, with this pass at its end, which has read what
 -- a fault says of the lock: it added events to its log

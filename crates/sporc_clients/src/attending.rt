@@ -10,7 +10,7 @@ ghost use Rattle.sporc_shared.specs.Items.{disk_faults, past_of};
 ghost use Rattle.sporc_clients.specs.Attending.{IsAttended, NotAttended, begin_at, saved_of};
 ghost use Rattle.sporc_clients.specs.Attending.{signs_of};
 ghost use Rattle.sporc_clients.specs.Counts.{CountedIfFailed, RoseIfFailed, counts_around};
-ghost use Rattle.sporc_clients.specs.Nets.{AsksAtMost};
+ghost use Rattle.sporc_files.specs.Uses.{AsksAtMost};
 ghost use Rattle.sporc_clients.specs.Opening.{links_for_hints};
 
 use crate::platform::Platform;

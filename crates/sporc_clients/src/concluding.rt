@@ -45,7 +45,7 @@ pub(crate) fn conclude<D: LeafDisk, O: Sink, F: Folder>(
         (leaves_of ended.client.log) }
     ensures session { result.session ≡ ended.result }
     ensures saved { SaveOutcome (past_of ended.client) name.now
-        (files_use F.told files.old files.new) result.saved }
+        (files_use (use_of F.told files.old files.new)) result.saved }
     ensures printed { PrintOutcome (past_of ended.client)
         (use_of O.told out.old out.new) result.printed }
     ensures disk { result.disk ≡ ended.client.leaves.disk }
@@ -75,7 +75,7 @@ fn save_history<D: LeafDisk, F: Folder>(
     name: &str,
 ) -> Result<(), Fault>
     ensures saved { SaveOutcome (past_of client.now) name.now
-        (files_use F.told files.old files.new) result }
+        (files_use (use_of F.told files.old files.new)) result }
     ensures lent { (F.told files.new).lent ≡ (F.told files.old).lent }
     ensures may_ask { MayAppend (F.told files.old).asked (F.told files.new).asked name.now }
     ensures kept { (F.told files.old).faults ≤ (F.told files.new).faults }

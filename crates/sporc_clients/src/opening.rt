@@ -4,7 +4,7 @@ ghost use Rattle.std.specs.Prelude.{◌≡◌, ◌≤◌, [], IfErr, IfOk};
 ghost use Rattle.sporc_entry.specs.Genesis.{IsGenesis};
 ghost use Rattle.sporc_outside.specs.Nets.{AreShutBehind};
 ghost use Rattle.sporc_outside.specs.Uses.{use_of};
-ghost use Rattle.sporc_clients.specs.Nets.{AsksAtMost};
+ghost use Rattle.sporc_files.specs.Uses.{AsksAtMost};
 ghost use Rattle.sporc_clients.specs.Opening.{NotOpened, Opens, begin_with, links_for_hints};
 
 use crate::fetching::fetch_entries;

@@ -8,7 +8,7 @@ ghost use Rattle.sporc_outside.specs.Uses.{use_of};
 ghost use Rattle.sporc_files.specs.Faults.{AnswersUnlessOutside};
 ghost use Rattle.sporc_clients.specs.Attending.{IsResumed, NotResumed, begin_at, client_with};
 ghost use Rattle.sporc_clients.specs.Attending.{saved_of};
-ghost use Rattle.sporc_clients.specs.Nets.{AsksAtMost};
+ghost use Rattle.sporc_files.specs.Uses.{AsksAtMost};
 ghost use Rattle.sporc_clients.specs.Opening.{links_for_hints};
 ghost use Rattle.sporc_clients.specs.Resuming.{entries_by, read_whole, whole_before};
 

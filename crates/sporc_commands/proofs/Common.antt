@@ -1,10 +1,10 @@
 -- The names of this crate and of those below that many of its proofs cite, passed on from one place.
-pub use Rattle.sporc_files.proofs.Answering.{fails_first, tells_alone, tells_behind, tells_later, tells_memory}
-pub use Rattle.sporc_files.proofs.Asking.{AsksOnly-among, AsksOnly-none, AsksOnly-trans, asks_again, asks_first, asks_then}
+pub use Rattle.sporc_files.proofs.Answering.{fails_first, tells_alone, tells_behind, tells_later}
+pub use Rattle.sporc_files.proofs.Asking.{AsksOnly-among, AsksOnly-none, AsksOnly-trans, asks_first, asks_then}
 pub use Rattle.sporc_files.proofs.FaultCases.{WriteCase, WriteFailed, WriteMemory, file_later, if_err, write_case}
-pub use Rattle.sporc_files.specs.Faults.{AnswersUnlessOutside, IsOutsideFault, unless_stopped, whole}
+pub use Rattle.sporc_files.specs.Faults.{AnswersUnlessOutside, IsOutsideFault, whole}
 pub use Rattle.sporc_files.specs.Names.{FileNames, file_name, names_of_document}
-pub use Rattle.sporc_files.specs.Reading.{IsAppendingFault, IsFileFault, SaysFile, SaysFileIfThere, any_bytes, genesis_file, key_file, own_key_file}
+pub use Rattle.sporc_files.specs.Reading.{IsFileFault, SaysFile, any_bytes, genesis_file, key_file, own_key_file}
 pub use Rattle.sporc_files.specs.Uses.{AsksOnly}
 pub use Rattle.sporc_files.specs.Writing.{LeavesFile, Stores, StoresFirst, StoresPrefix, file_with, with_files, with_one}
 pub use Rattle.sporc_files.specs.declared.fault.Fault.{Fault}
@@ -13,18 +13,16 @@ pub use Rattle.sporc_keys.specs.Founding.{CanFound, IsFounding, in_order, is_fir
 pub use Rattle.sporc_keys.specs.RingFile.{ring_file_bytes, ring_file_of_member}
 pub use Rattle.sporc_keys.specs.declared.named.Named.{Named}
 pub use Rattle.sporc_keys.specs.declared.ring_file.RingFile.{RingFile}
-pub use Rattle.sporc_order.specs.OrderModel.{OrderModel}
-pub use Rattle.sporc_store.specs.SavedFile.{IsPrefix, Taken, read_to, saved_in}
+pub use Rattle.sporc_store.specs.SavedFile.{Taken, read_to, saved_in}
 pub use Rattle.sporc_words.specs.declared.standing.Participant.{Participant}
-pub use Rattle.std.proofs.lemmas.List.{append_cancel_left, length-append, map-append, replicate-append-replicate, take-append-drop, take-take, take_at, take_more}
+pub use Rattle.std.proofs.lemmas.List.{map-append, take-append-drop, take_more}
 pub use Rattle.std.proofs.lemmas.Result.{err_from_is_err_and}
 pub use Rattle.std.specs.Global.{Vec}
 pub use Rattle.std.specs.List.{AllByRecursion, Contains, slice_get}
-pub use Rattle.std.specs.Prelude.{IfOk, IfSome, Ok, codes, length, option_map, replicate, ◌++◌}
-pub use Rattle.sporc_bytes.specs.Fields.{fault_as, ◌>>=◌}
-pub use Rattle.sporc_outside.specs.AppendFile.{AppendTold, file_images}
-pub use Rattle.sporc_outside.specs.Counts.{Rose, count_of_both}
-pub use Rattle.sporc_outside.specs.Files.{ChangesFile, HasFile, HasNoFile, IsAppendedTo, TakesFile, file_in, made_in, or_empty, with_bytes, with_file}
+pub use Rattle.std.specs.Prelude.{Ok, codes, length, ◌++◌}
+pub use Rattle.sporc_bytes.specs.Fields.{◌>>=◌}
+pub use Rattle.sporc_outside.specs.Counts.{Rose}
+pub use Rattle.sporc_outside.specs.Files.{HasNoFile, file_in, with_file}
 pub use Rattle.sporc_outside.specs.Uses.{Use, use_of}
 pub use Rattle.sporc_outside.specs.declared.named_file.NamedFile.{NamedFile}
 pub use Rattle.sporc_hash.specs.Chain.{chain, genesis_value, last_value, next_value}
@@ -37,27 +35,20 @@ pub use Rattle.sporc_line.specs.LineModel.{LineModel}
 pub use Rattle.sporc_outside.specs.Folders.{FolderTold}
 pub use Rattle.sporc_outside.specs.Streams.{IsUnwritten, StreamTold}
 pub use Rattle.lms_tree.specs.LmsPrivate.{LmsPrivate, lms_public_of}
-pub use Rattle.sporc_store.specs.Loading.{a_member, accepted_from, an_order, loaded}
+pub use Rattle.sporc_store.specs.Loading.{a_member, loaded}
 pub use Rattle.std.specs.Result.{IfErr, OnOk}
 pub use Rattle.std.specs.Str.{bytes_eq}
 pub use Rattle.sporc_keys.specs.declared.new_key.NewKey.{NewKey}
 pub use Rattle.sporc_keys.specs.KeyFile.{key_file_bytes, key_file_of, private_in}
-pub use Rattle.std.proofs.lemmas.Bool.{and_parts, false_from_ne_true, le-ltb, leb-true, lt-ltb, not-true, or_parts}
+pub use Rattle.std.proofs.lemmas.Bool.{and_parts, leb-true, not-true, or_parts}
 pub use Rattle.sporc_words.specs.declared.found.Found.{Found}
 pub use Rattle.sporc_words.specs.declared.standing.Standing.TheVariants.{Founder, Joiner}
-pub use Rattle.sporc_outside.specs.declared.file_fault.TheConstants.{MAX_FILE}
 pub use Rattle.sporc_commands.specs.Checking.{AreCheckedFiles, CheckedFiles, CheckedLine, FindsLine, IsCheckedLine, checked_files, checked_in, checked_line, entries_for_hints, examined, kit_in}
 pub use Rattle.sporc_commands.specs.Checking.{line_in, line_of_whole}
 pub use Rattle.sporc_commands.specs.Comparing.{AreOfOneGenesis, Chains, FindsChains, IsVerdictLine, both_chains, chain_in, chains_in, values_of}
-pub use Rattle.sporc_commands.specs.Contents.{AnswersOfFile, IsFileAt, bytes_in, entries_in, entries_of, genesis_in, said}
+pub use Rattle.sporc_files.specs.Contents.{AnswersOfFile, IsFileAt, bytes_in, entries_in, entries_of, genesis_in, said}
 pub use Rattle.sporc_commands.specs.Founding.{AreNamed, FirstBadKey, FoundOutcome, IsNamed, IsStoreFault, MayFound, found_files, founding_files, key_read, keys_read, names_in, ring_of_founding}
 pub use Rattle.sporc_commands.specs.Founding.{rings_written}
-pub use Rattle.sporc_commands.specs.Outcomes.{CompareOutcome, Examines, FailsToBegin, IsRound, ServeOutcome, log_line}
-pub use Rattle.sporc_commands.specs.Rounds.{AsksAgain, ends, stands}
-pub use Rattle.sporc_commands.specs.Serving.{FindsOrder, FindsOrderBehind, HasLogged, ended, fault_of_tail, logged, logged_in, order_behind, order_of_whole, order_with, served_files, tail_in}
-pub use Rattle.sporc_commands.specs.Serving.{with_tail}
-pub use Rattle.sporc_commands.specs.Tails.{GivesAll, GivesBack, KeepsBehind, KeepsLast, LogTailModel, after_last}
+pub use Rattle.sporc_commands.specs.Outcomes.{CompareOutcome, Examines}
 pub use Rattle.sporc_commands.specs.Telling.{IsJust, lines_from, text_at, text_in}
-pub use Rattle.sporc_commands.specs.declared.opening.LoggedOrder.{LoggedOrder}
-pub use Rattle.sporc_commands.specs.declared.opening.OpenedOrder.{OpenedOrder}
 pub use Rattle.sporc_commands.specs.KeyMaking.{StoresKey, key_line}

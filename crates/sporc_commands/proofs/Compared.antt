@@ -6,7 +6,7 @@ use Rattle.sporc_commands.proofs.Common.{chains_in, values_of, CompareOutcome, f
 use Rattle.sporc_bytes.proofs.Fields.{bind_ok}
 use Rattle.sporc_hash.specs.Chain.{chain_after}
 use Rattle.sporc_files.specs.declared.file.File.TheVariants as files
-use Rattle.sporc_commands.proofs.ReadFiles.{is_there, reads_none, says, there}
+use Rattle.sporc_files.proofs.ReadFiles.{is_there, reads_none, says, there}
 
 -- both chains, and the second behind the first
 abbrev pair_of : List (List ℕ) → List (List ℕ) → Chains

@@ -4,7 +4,7 @@ use Rattle.sporc_commands.proofs.Common.{◌>>=◌, Rose, NamedFile, Genesis, De
 use Rattle.sporc_commands.proofs.Common.{any_bytes, genesis_file, own_key_file, AnswersUnlessOutside, IsFileAt, bytes_in, said, CheckedLine, FindsLine, checked_line, examined, kit_in, line_of_whole}
 use Rattle.sporc_commands.proofs.Common.{tells_behind, tells_later, LmsPrivate, a_member, loaded}
 use Rattle.sporc_files.specs.declared.file.File.TheVariants as files
-use Rattle.sporc_commands.proofs.ReadFiles.{is_there, reads_none, reads_value, says, there}
+use Rattle.sporc_files.proofs.ReadFiles.{is_there, reads_none, reads_value, says, there}
 
 -- a history was loaded behind the opening of its line
 pub accepted : (genesis shown : Genesis) (device : Device) (ring : RingFile) (history : List ℕ) (line : LineModel) (kit : Kit) (taken : Taken) (r : Result LineModel Fault)

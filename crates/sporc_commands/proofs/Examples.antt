@@ -1,18 +1,15 @@
--- Worked examples of the definitions: the lines of `check`, `compare` and `serve`, as docs/MANUAL.md has them, and which fault comes first.
-use Rattle.std.proofs.Common.{◌≡◌, ◌≢◌, List, ℕ, [], ◌∷◌, None, Some, Ok, Err, codes, refl, ap, append-nil, arith}
+-- Worked examples of the definitions: the lines of `check` and `compare`, as docs/MANUAL.md has them, and which fault comes first.
+use Rattle.std.proofs.Common.{◌≡◌, ◌≢◌, List, ℕ, [], ◌∷◌, None, Some, Ok, Err, codes, refl, arith}
 use Rattle.sporc_commands.proofs.Common.{Genesis, chain, last_value, next_value, read_to, Kit, first_device, Device, IsCheckedLine, checked_in, line_of_whole, text_at, text_in, Chains, IsVerdictLine}
-use Rattle.sporc_commands.proofs.Common.{chains_in, OrderModel, ended, logged, order_of_whole, order_with, with_tail, after_last, log_line}
+use Rattle.sporc_commands.proofs.Common.{chains_in}
 use Rattle.std.specs.Fmt.{digits}
 use Rattle.sporc_hash.specs.Chain.{chain_after, value_after}
 use Rattle.sporc_hash.specs.declared.verdict.Verdict.TheVariants.{Same, Prefix, Longer, ForkedAfter}
 use Rattle.sporc_head.specs.declared.refusal.Refusal.TheVariants.{BadSignature}
-use Rattle.sporc_serve.specs.declared.fault.ServeFault.TheVariants as serving
 use Rattle.sporc_store.specs.declared.stop.Stop.TheVariants.{Cut, End, Foreign, Refused}
 use Rattle.sporc_files.specs.declared.fault.Fault.TheVariants as faults
 use Rattle.sporc_files.specs.declared.file.File.TheVariants as files
 use Rattle.sporc_line.specs.Document.{forms_from}
-use Rattle.sporc_store.specs.Loading.{accepted_behind}
-use Rattle.sporc_store.specs.TailBytes.{tail_behind}
 
 -- the second device of member 2
 abbrev phone : Device
@@ -90,35 +87,3 @@ module _ (genesis a b c : List ℕ) where
 
 no_genesis : (history : List ℕ) → chains_in (first_device 1) (first_device 2) (record { genesis = None; first = Some history; second = None }) ≡ Err (faults.Missing files.Genesis)
 no_genesis history = refl
-
--- ---- serve
-
-one_entry_saved : log_line 1 ≡ codes "log 1\n"
-unfolding digits
-one_entry_saved = refl
-
--- a server without a log begins with no entries
-no_log : (genesis : Genesis) → logged genesis None ≡ Ok (order_with genesis [])
-no_log genesis = refl
-
-a_cut_log : (genesis : Genesis) (a : List ℕ) → order_of_whole files.Log genesis (read_to (a ∷ []) (Cut 34)) ≡ Err (faults.Malformed files.Log 34)
-a_cut_log genesis a = refl
-
--- a tail without bytes, as one that is not there, adds nothing
-no_tail : (order : OrderModel) → with_tail order [] ≡ Ok order
-unfolding tail_behind accepted_behind
-no_tail order = ap (λ (es : List (List ℕ)). Ok (order_with order.genesis es)) (append-nil order.entries)
-
--- a removal that fails is told behind a time that ended well, and not behind a fault of that
-a_tail_left : after_last (Ok tt) (Err faults.Outside) ≡ Err faults.Outside
-a_tail_left = refl
-
-a_fault_before : after_last (Err faults.Worn) (Err faults.Outside) ≡ Err faults.Worn
-a_fault_before = refl
-
--- it could not listen, and saved its log: `fault outside` is told
-no_sessions : ended (Err serving.ListenFault) (Ok tt) ≡ Err faults.Outside
-no_sessions = refl
-
-sessions_alone : ended (Ok tt) (Err faults.FullFile) ≡ Err faults.FullFile
-sessions_alone = refl

@@ -1,15 +1,9 @@
 mod Examples
 pub mod Compared
 pub mod Examined
-pub mod ReadFiles
 pub mod Lines
-pub mod Logs
 pub mod Prefixes
 pub mod Taken
-pub mod Tails
-pub mod Opened
-pub mod Roundabout
-pub mod Given
 pub mod KeyFiles
 pub mod Storing
 pub mod MayFound

@@ -20,7 +20,7 @@ use Rattle.sporc_files.specs.Faults.{AnswersUnlessOutside, whole}
 use Rattle.sporc_files.specs.Names.{FileNames, file_name}
 use Rattle.sporc_files.specs.Opening.{kit_by}
 use Rattle.sporc_files.specs.Reading.{own_key_file}
-use Rattle.sporc_commands.specs.Contents.{IsFileAt, bytes_in, genesis_in, said}
+use Rattle.sporc_files.specs.Contents.{IsFileAt, bytes_in, genesis_in, said}
 
 -- ---- files
 

@@ -15,7 +15,7 @@ use Rattle.sporc_files.specs.declared.file.File.{File}
 use Rattle.sporc_files.specs.declared.file.File.TheVariants as files
 use Rattle.sporc_files.specs.Names.{FileNames, file_name}
 use Rattle.sporc_files.specs.Faults.{AnswersUnlessOutside}
-use Rattle.sporc_commands.specs.Contents.{IsFileAt, genesis_in, entries_in}
+use Rattle.sporc_files.specs.Contents.{IsFileAt, genesis_in, entries_in}
 
 -- the files of a comparison, in the order in which they are read
 pub record ComparedFiles : Type 0 where

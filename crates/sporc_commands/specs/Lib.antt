@@ -1,14 +1,8 @@
 pub mod KeyMaking
 pub mod Founding
 pub mod KeyShowing
-pub mod Contents
 pub mod Checking
 pub mod Telling
 pub mod Comparing
-pub mod Serving
 pub mod Uses
-pub mod Moments
-pub mod Tails
-pub mod Opening
-pub mod Rounds
 pub mod Outcomes

@@ -1,33 +1,17 @@
--- What each command did: what it read, what it wrote and saved, and why it did not do all its work.
-use Rattle.std.specs.Prelude.{◌≡◌, ◌⊎◌, ◌≤◌, ℕ, List, [], ◌∷◌, ◌++◌, codes, length, Option}
-use Rattle.std.specs.Prelude.{option_map, Result, Ok, Err}
-use Rattle.std.specs.Fmt.{decimal}
-use Rattle.std.specs.Io.KnownBytes.{Appends}
-use Rattle.sporc_outside.specs.Counts.{Rose}
-use Rattle.sporc_outside.specs.Files.{ChangesFile, made_in, with_file}
+-- What each command did: what it read, what it wrote, and why it did not do all its work.
+use Rattle.std.specs.Prelude.{ℕ, List, [], ◌∷◌, Option, Result}
 use Rattle.sporc_outside.specs.Uses.{Use}
-use Rattle.sporc_outside.specs.Writing.{AppendsPrefix}
-use Rattle.sporc_outside.specs.Streams.{IsUnwritten, StreamTold}
+use Rattle.sporc_outside.specs.Streams.{StreamTold}
 use Rattle.sporc_outside.specs.Folders.{FolderTold}
-use Rattle.sporc_outside.specs.Nets.{NetTold}
 use Rattle.sporc_member.specs.declared.device.Device.{Device}
-use Rattle.sporc_order.specs.OrderModel.{OrderModel}
-use Rattle.sporc_serve.specs.Served.{IsServed}
 use Rattle.sporc_files.specs.declared.fault.Fault.{Fault}
-use Rattle.sporc_files.specs.declared.fault.Fault.TheVariants as faults
 use Rattle.sporc_files.specs.declared.file.File.TheVariants as files
-use Rattle.sporc_files.specs.Names.{FileNames, file_name}
+use Rattle.sporc_files.specs.Names.{FileNames}
 use Rattle.sporc_commands.specs.Checking.{AreCheckedFiles, CheckedFiles, IsCheckedLine}
 use Rattle.sporc_commands.specs.Checking.{checked_files, checked_in}
 use Rattle.sporc_commands.specs.Comparing.{AreComparedFiles, ComparedFiles, IsVerdictLine}
 use Rattle.sporc_commands.specs.Comparing.{chains_in}
 use Rattle.sporc_commands.specs.Telling.{IsJust, lines_in, text_in}
-use Rattle.sporc_commands.specs.Moments.{ChangesFolderAlone, Moment, at_end, folder_between}
-use Rattle.sporc_commands.specs.Moments.{sink_between}
-use Rattle.sporc_commands.specs.Rounds.{GoRounds, IsRoundOf, Round, Standing}
-use Rattle.sporc_commands.specs.Serving.{AreServedFiles, HasLogged, ServedFiles, order_in}
-use Rattle.sporc_commands.specs.Serving.{saved_log}
-use Rattle.sporc_commands.specs.Tails.{GivesBack, after_last}
 use Rattle.sporc_commands.specs.Uses.{OnlyReads, WritesLine}
 
 -- ---- check, text and entries
@@ -67,97 +51,3 @@ pub record CompareOutcome {T : Type 0} (names : FileNames) (m n : Device) (folde
   pub are : AreComparedFiles folder.before.files names m n content
   pub reads : OnlyReads names (files.Genesis ∷ files.History m ∷ files.History n ∷ []) folder
   pub writes : WritesLine (IsVerdictLine m n) folder out (chains_in m n content) answer
-
--- ---- serve
-
--- the line that says how many entries were saved
-abbrev pub log_line : ℕ → List ℕ
-log_line len = codes "log " ++ (decimal len ++ codes "\n")
-
--- the file of an order's entries was written
-pub record SavesLog (names : FileNames) (folder : Use FolderTold)
-    (order : OrderModel) : Type 0 where
-  pub log : List ℕ
-  pub saved : saved_log order ≡ Ok log
-  pub files : folder.after.files
-      ≡ option_map (λ old. with_file old (file_name names files.Log) log) folder.before.files
-
--- how an order's entries were saved and this line was written, by the answer
-module _ (names : FileNames) (folder : Use FolderTold) (out : Use StreamTold) (order : OrderModel)
-    (line : List ℕ) where
-  abbrev pub KeepsLog : {T : Type 0} → Result T Fault → Type 0
-  KeepsLog (Ok done) =
-      SavesLog names folder order × Appends out.before.written out.after.written line
-  KeepsLog (Err faults.Memory) = (folder.after.files ≡ folder.before.files) × IsUnwritten out
-  KeepsLog (Err faults.FullFile) = (saved_log order ≡ Err faults.FullFile)
-      × (folder.after.files ≡ folder.before.files) × IsUnwritten out
-  KeepsLog (Err faults.Outside) = (Rose folder.before.faults folder.after.faults
-      × ChangesFile folder.before.files folder.after.files (file_name names files.Log)
-      × IsUnwritten out)
-      ⊎ (SavesLog names folder order × Rose out.before.faults out.after.faults
-      × AppendsPrefix out.before.written out.after.written line)
-  KeepsLog (Err fault) = ⊥
-
--- why nothing was served, where the folder's count of faults went from `before` to `after`
-abbrev pub FailsToBegin : {T : Type 0} → ℕ → ℕ → Result OrderModel Fault → Result T Fault → Type 0
-FailsToBegin before after found (Ok done) = ⊥
-FailsToBegin before after found (Err faults.Memory) = Unit {0}
-FailsToBegin before after found (Err faults.Outside) = Rose before after
-FailsToBegin before after found (Err fault) = found ≡ Err fault
-
--- the files were read, of which the tail's was made if there was none, and nothing else was done
-pub record IsOpened (names : FileNames) (folder : Use FolderTold) (out : Use StreamTold)
-    (opened : Moment) : Type 0 where
-  pub files : opened.folder.files
-      ≡ option_map (λ told. made_in told (file_name names files.Tail)) folder.before.files
-  pub since : folder.before.faults ≤ opened.folder.faults
-  pub written : opened.out.written ≡ out.before.written
-  pub sink_faults : opened.out.faults ≡ out.before.faults
-
--- the log of an order was saved between two moments, and the line of how many entries it has was
--- written
-abbrev pub KeepsOne : FileNames → OrderModel → Moment → Moment → Result (Unit {0}) Fault → Type 0
-KeepsOne names order a b saved = KeepsLog names (folder_between a b) (sink_between a b) order
-    (log_line (length order.entries)) saved
-
-module _ (names : FileNames) (sessions : ℕ) where
-  -- one round: sessions were served from an order, and what came of it was saved
-  abbrev pub IsRound : Standing OrderModel → Round OrderModel → Type 0
-  IsRound = IsRoundOf IsServed (KeepsOne names) sessions
-
-  module _ (times : ℕ) (folder : Use FolderTold) (out : Use StreamTold) (old new : NetTold) where
-    -- nothing was served: a file failed, memory ran out, or the folder failed; no file but the
-    -- tail's may have changed
-    pub record NotServed {T : Type 0} (answer : Result T Fault) : Type 0 where
-      pub content : ServedFiles
-      pub are : AreServedFiles folder.before.files names content
-      pub changes : ChangesFile folder.before.files folder.after.files (file_name names files.Tail)
-      pub fails : FailsToBegin folder.before.faults folder.after.faults (order_in content) answer
-      pub net : new ≡ old
-      pub unwritten : IsUnwritten out
-
-    -- Sessions were served from the order in the files, so many times at the most, and what came of
-    -- each time was saved. Then the tail is gone if the log has all entries, and else it gives them
-    pub record ServedAndKept (answer : Result (Unit {0}) Fault) : Type 0 where
-      pub content : ServedFiles
-      pub are : AreServedFiles folder.before.files names content
-      pub before : OrderModel
-      pub begins : order_in content ≡ Ok before
-      pub logged : ℕ
-      pub has_logged : HasLogged content logged
-      pub opened : Moment
-      pub is_opened : IsOpened names folder out opened
-      pub last : Round OrderModel
-      pub rounds : GoRounds IsRound times
-          (record { held = before; moment = opened; net = old }) last
-      pub net : new ≡ last.after.net
-      pub given : Result (Unit {0}) Fault
-      pub gives : GivesBack (file_name names files.Tail)
-          (folder_between last.after.moment (at_end folder out)) logged
-          last.after.held.genesis.document last.after.held.entries last.saved given
-      pub alone : ChangesFolderAlone last.after.moment (at_end folder out)
-      pub answer_is : answer ≡ after_last last.answer given
-
-    -- `serve NAME ADDRESS --sessions K --times T`
-    abbrev pub ServeOutcome : Result (Unit {0}) Fault → Type 0
-    ServeOutcome answer = NotServed answer ⊎ ServedAndKept answer

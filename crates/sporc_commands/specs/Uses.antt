@@ -1,5 +1,5 @@
 -- What commands have in common: how they use a folder, and how they write one line.
-use Rattle.std.specs.Prelude.{◌≡◌, ◌⊎◌, ◌≤◌, ℕ, List, map, Result, Ok, Err}
+use Rattle.std.specs.Prelude.{◌≡◌, ◌⊎◌, ℕ, List, map, Result, Ok, Err}
 use Rattle.std.specs.Io.KnownBytes.{Appends}
 use Rattle.sporc_outside.specs.Counts.{Rose}
 use Rattle.sporc_outside.specs.Uses.{Use}
@@ -17,9 +17,7 @@ use Rattle.sporc_files.specs.Uses.{AsksOnly}
 -- these files of a document alone were asked for, and none was changed
 pub record OnlyReads (names : FileNames) (read : List File) (folder : Use FolderTold) : Type 0 where
   pub unchanged : folder.after.files ≡ folder.before.files
-  pub lent : folder.after.lent ≡ folder.before.lent
   pub may_ask : AsksOnly (map (file_name names) read) folder.before.asked folder.after.asked
-  pub kept : folder.before.faults ≤ folder.after.faults
 
 -- ---- one line
 

@@ -5,7 +5,7 @@ ghost use Rattle.sporc_hash.specs.Chain.{chain};
 ghost use Rattle.sporc_entry.specs.Genesis.{IsGenesis, genesis_bytes};
 ghost use Rattle.sporc_files.specs.Names.{file_name};
 ghost use Rattle.sporc_files.specs.Uses.{AsksOnly};
-ghost use Rattle.sporc_commands.specs.Contents.{AnswersOfFile};
+ghost use Rattle.sporc_files.specs.Contents.{AnswersOfFile};
 ghost use Rattle.sporc_commands.specs.Comparing.{chain_in, values_of};
 
 use crate::entries::read_entries;

@@ -1,6 +1,6 @@
 //! `check NAME M`.
 
-ghost use Rattle.std.specs.Prelude.{◌≤◌, IfOk, string_bytes};
+ghost use Rattle.std.specs.Prelude.{◌≡◌, ◌≤◌, IfOk, string_bytes};
 ghost use Rattle.sporc_commands.specs.Checking.{IsCheckedLine};
 ghost use Rattle.sporc_commands.specs.Outcomes.{CheckOutcome};
 ghost use Rattle.sporc_outside.specs.Uses.{use_of};
@@ -30,6 +30,8 @@ pub fn check<R: Threads + Wait + Sync, F: Folder, O: Sink, G: Gate + Sync>(
 ) -> Result<(), Fault>
     ensures outcome { CheckOutcome (names_of_document asked.now.name) asked.now.device
         (use_of F.told files.old files.new) (use_of O.told out.old out.new) result }
+    ensures lent { (F.told files.new).lent ≡ (F.told files.old).lent }
+    ensures files_kept { (F.told files.old).faults ≤ (F.told files.new).faults }
     ensures out_kept { (O.told out.old).faults ≤ (O.told out.new).faults }
 {
     let names = Names::of_document(asked.name.as_str());

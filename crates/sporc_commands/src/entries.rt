@@ -5,7 +5,7 @@ ghost use Rattle.sporc_store.specs.SavedFile.{saved_in};
 ghost use Rattle.sporc_files.specs.Names.{file_name};
 ghost use Rattle.sporc_files.specs.Uses.{AsksOnly};
 ghost use Rattle.sporc_files.specs.Faults.{AnswersUnlessOutside, whole};
-ghost use Rattle.sporc_commands.specs.Contents.{AnswersOfFile, entries_in, entries_of};
+ghost use Rattle.sporc_files.specs.Contents.{AnswersOfFile, entries_in, entries_of};
 
 use sporc_files::{Fault, File, Names, read_bytes, stopped};
 use sporc_outside::Folder;

@@ -4,7 +4,7 @@ ghost use Rattle.std.specs.Prelude.{◌≡◌, [], IfOk};
 ghost use Rattle.sporc_entry.specs.Genesis.{IsGenesis};
 ghost use Rattle.sporc_store.specs.SavedFile.{read_to};
 ghost use Rattle.sporc_files.specs.Faults.{AnswersUnlessOutside};
-ghost use Rattle.sporc_commands.specs.Contents.{entries_of};
+ghost use Rattle.sporc_files.specs.Contents.{entries_of};
 ghost use Rattle.sporc_commands.specs.Checking.{checked_line, entries_for_hints, examined, kit_in};
 ghost use Rattle.sporc_commands.specs.Checking.{line_of_whole};
 

@@ -1,5 +1,4 @@
-//! Commands of the program that no session of a client is behind, over a folder, a sink, a chance
-//! and a net.
+//! Commands of the program that no session is behind, over a folder, a sink and a chance.
 //!
 //! - [`keygen`] makes a device's key: `NAME.M.key`, then `NAME.M.leaf`, or `NAME.M.D.key` and
 //!   `NAME.M.D.leaf`, and prints the public key. [`public`] prints that line again, of a key file
@@ -11,14 +10,12 @@
 //!   the first of them.
 //! - [`list_entries`]: a line for each of its entries.
 //! - [`compare`]: how the saved history of one device stands to that of another.
-//! - [`serve`]: serves sessions from the log of a document, and saves the log, by [`open_order`],
-//!   [`save_log`] and [`end`].
 //!
 //! ```text
 //! // plan.1.key, plan.1.leaf, and `key` with 112 digits
-//! keygen(alloc, &mut files, &mut chance, &mut out, &asked)?;
+//! keygen(rt, alloc, &mut files, &mut chance, &mut out, &asked)?;
 //! // plan.genesis, plan.1.ring, plan.2.ring
-//! found(alloc, &mut files, &mut chance, &asked)?;
+//! found(rt, alloc, &mut files, &mut chance, &asked)?;
 //! // `checked 3`, or Fault::Refused(2, Refusal::BadSignature)
 //! check(rt, alloc, &mut files, &mut out, &asked, &OpenGate)?;
 //! // `Buy bread.`, or Fault::Ahead(0)
@@ -27,20 +24,17 @@
 //! list_entries(rt, alloc, &mut files, &mut out, &asked, &OpenGate)?;
 //! // `2 2.1 forked after 3`
 //! compare(alloc, &mut files, &mut out, &asked)?;
-//! // `log 12`
-//! serve(rt, alloc, &mut files, &mut net, &mut out, &asked, &OpenGate)?;
 //! ```
 //!
 //! Proved: of `keygen`, `found` and `public`, which files are asked for, which stand after each
 //! answer, of which words of the chance they are made, what is printed, and why a command failed.
-//! For each other command one relation, in `specs/Outcomes.antt`, between its words, the folder,
-//! the sink and the net as it found and left them, and its answer: what the files say is a function
-//! of their bytes (`Checking`, `Telling`, `Comparing`, `Serving`), whose first fault is answered,
-//! unless memory runs out or something outside fails. Only tested: the files of a document in
-//! memory, the names asked for, in their order, each call outside failing in turn, the lines of
-//! histories with real signatures, and that calls succeed with ample memory
-//! (`sporc_commands_tests`). Neither: that a chance is random, that a real folder keeps what is
-//! written, and that a client gets an answer.
+//! For each other command one relation, in `specs/Outcomes.antt`, between its words, the folder and
+//! the sink as it found and left them, and its answer: what the files say is a function of their
+//! bytes (`Checking`, `Telling`, `Comparing`), whose first fault is answered, unless memory runs
+//! out or something outside fails. Only tested: the files of a document in memory, the names asked
+//! for, in their order, each call outside failing in turn, the lines of histories with real
+//! signatures, and that calls succeed with ample memory (`sporc_commands_tests`). Neither: that a
+//! chance is random, and that a real folder keeps what is written.
 #![tactic(auto)]
 
 mod chains;
@@ -53,12 +47,7 @@ mod key_making;
 mod key_showing;
 pub mod laws;
 mod listing;
-mod log;
-mod opening;
 mod reading;
-mod rounds;
-mod serving;
-mod tail;
 mod texts;
 
 pub use checking::check;
@@ -67,9 +56,4 @@ pub use founding::found;
 pub use key_making::keygen;
 pub use key_showing::public;
 pub use listing::list_entries;
-pub use log::{read_log, save_log};
-pub use opening::{OpenedOrder, open_order, open_order_behind};
-pub use rounds::{RoundEnd, Rounds};
-pub use serving::{after_last, end, keep_tail, remove_tail, serve};
-pub use tail::LogTail;
 pub use texts::text;

@@ -31,6 +31,8 @@ pub fn list_entries<R: Threads + Wait + Sync, F: Folder, O: Sink, G: Gate + Sync
 ) -> Result<(), Fault>
     ensures outcome { EntriesOutcome (names_of_document asked.now.name) asked.now.device
         asked.now.from (use_of F.told files.old files.new) (use_of O.told out.old out.new) result }
+    ensures lent { (F.told files.new).lent ≡ (F.told files.old).lent }
+    ensures files_kept { (F.told files.old).faults ≤ (F.told files.new).faults }
     ensures out_kept { (O.told out.old).faults ≤ (O.told out.new).faults }
 {
     let names = Names::of_document(asked.name.as_str());

@@ -3,6 +3,7 @@ pub use Rattle.sporc_order.specs.OrderModel.{OrderModel}
 pub use Rattle.sporc_order.specs.declared.tail.Tail.{Ghosts}
 pub use Rattle.sporc_serve.specs.Endings.{Inlet, IsFirst, inlet_at}
 pub use Rattle.sporc_serve.specs.Logs.{IsLogOf, by_of, order_at, placed}
+pub use Rattle.sporc_serve.specs.Crowds.{IsOther}
 pub use Rattle.sporc_serve.specs.Served.{IsWornAt, log_at_first}
 pub use Rattle.sporc_serve.specs.Traces.{Leads, LeadsFrom, ServerStand, stand, stand_at}
 pub use Rattle.sporc_serve.specs.Visits.{AreBehind, AreFrom, CameOpen, IsServedSession, NoneUnkept, TellsOf, Visit, came, handed_back, visit, with_end}
@@ -30,7 +31,7 @@ pub use Rattle.sporc_serve.proofs.Serving.{first_is, none_of, tells_before}
 pub use Rattle.sporc_serve.proofs.Crowding.{IsLastTicket, behind_more, behind_none, from_more, from_none, kept_more, last_ticket, tells_more}
 pub use Rattle.sporc_entry.specs.declared.genesis.Genesis.{Genesis}
 pub use Rattle.sporc_docs.specs.Crowds.{AllSit, IsCrowd}
-pub use Rattle.sporc_docs.specs.Hands.{AllHands, Both, HasFirst, HasPass, HasRoom, HavePasses, HaveRoom, IsEmpty, Joins, JoinsAt, LogsBegin, MayHave, Splits, SplitsAt, column, pass_at}
+pub use Rattle.sporc_docs.specs.Hands.{AllHands, Both, HasFirst, HasRoom, HavePasses, HaveRoom, IsEmpty, Joins, JoinsAt, LogsBegin, MayHave, Splits, SplitsAt, column, pass_at}
 pub use Rattle.sporc_docs.specs.Lists.{AreApart, is_of, list_of, place_of, route_of}
 pub use Rattle.sporc_docs.specs.Locks.{AreBack, AreEnding, AreOpen, Closes, Ends, IsBack, KnowsFirst}
 pub use Rattle.sporc_docs.specs.Machine.{Asked, Event, IsIsolated, Machine, after_event, answers_of, answers_to, asked_at, asked_by, asked_of, at_first, behind, bound_by, bound_in, bound_with}

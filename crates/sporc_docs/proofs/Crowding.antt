@@ -1,7 +1,7 @@
 -- Sessions of many documents beside one another.
 use Rattle.std.proofs.Common.{◌≡◌, ◌∙◌, ℕ, suc, ◌≤◌, false, List, [], ◌∷◌, length, Option, Some, None, Result, Ok, Err, slice_get, refl, sym, subst, arith, bytes_eq}
 use Rattle.sporc_docs.proofs.Common.{NetTold, StreamTold, Pass, Turn, known_of, stream_of, ToServer, Hello, Ghosts, Desk, SessionEnd, ServeFault, Item, stand_at, Inlet, inlet_at, IsFirst, visit, came}
-use Rattle.sporc_docs.proofs.Common.{handed_back, AreFrom, AreBehind, TellsOf, with_end, Hand, IsCrowd, AllHands, Both, HasPass, HavePasses, LogsBegin, MayHave, pass_at, named_by, IsUnboundEnd, Sits}
+use Rattle.sporc_docs.proofs.Common.{handed_back, AreFrom, AreBehind, TellsOf, with_end, Hand, IsCrowd, AllHands, Both, IsOther, HavePasses, LogsBegin, MayHave, pass_at, named_by, IsUnboundEnd, Sits}
 use Rattle.sporc_docs.proofs.Common.{IsLastTicket, last_ticket, tells_more, kept_more, from_more, from_none, behind_more, behind_none}
 use Rattle.sporc_outside.specs.Counts.{Rose}
 use Rattle.sporc_outside.specs.Told.{AppendsItem, TakesItem, IsFalseIfTold}
@@ -19,7 +19,7 @@ named_within documents (Hello d member) place h =
     (found.2, subst (λ (j : ℕ). slice_get documents j ≡ Some found.2) (sym at) found.3)
 named_within documents m place h = absurd cc
 
-has_is : {T : Type 0} {gs : Ghosts T} (t : Turn (Desk T gs) Item) (q : Option (Pass Item)) → HasPass t q → (p : Pass Item) × (q ≡ Some p)
+has_is : {T : Type 0} {gs : Ghosts T} (t : Turn (Desk T gs) Item) (q : Option (Pass Item)) → IsOther t q → (p : Pass Item) × (q ≡ Some p)
 has_is t None h = absurd h
 has_is t (Some p) h = (p, refl)
 
@@ -42,8 +42,8 @@ module _ {T : Type 0} {gs : Ghosts T} (turns : List (Turn (Desk T gs) Item)) (do
   sits_last h h' b a end have have' size logs (Some place, sits) =
       let d = named_within documents sits.bound.2 place sits.bound.3.names in
       let t = same_place documents turns place d.0 size d.1 in
-      let p = has_is t.0 (pass_at place h) (both_at HasPass turns h have place t.0 t.1) in
-      let p' = has_is t.0 (pass_at place h') (both_at HasPass turns h' have' place t.0 t.1) in
+      let p = has_is t.0 (pass_at place h) (both_at IsOther turns h have place t.0 t.1) in
+      let p' = has_is t.0 (pass_at place h') (both_at IsOther turns h' have' place t.0 t.1) in
       let log = logs place p.0 p.1 in
       let session = ((sits.serves place p.0 p'.0 p.1 p'.1).0 refl).2 log.0 log.1 in
       last_ticket log.0 (stand_at (known_of p.0) b (stream_of []) false)

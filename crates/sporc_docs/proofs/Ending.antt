@@ -1,7 +1,7 @@
 -- The sessions of many documents, once their passes were joined back.
 use Rattle.std.proofs.Common.{option_map, ◌≡◌, ◌≢◌, ◌∙◌, ℕ, zero, suc, List, [], ◌∷◌, length, map, reverse, Option, Some, None, Result, Err, slice_get, refl, ap, sym, subst, arith}
 use Rattle.sporc_docs.proofs.Common.{length-map, NetTold, Known, Pass, Turn, splitting, known_of, OrderModel, Ghosts, Desk, Item, log_at_first, ServeFault, Visit, CameOpen, came, handed_back, AreFrom}
-use Rattle.sporc_docs.proofs.Common.{AreBehind, NoneUnkept, TellsOf, Hand, AllSit, IsCrowd, Both, AllHands, HasFirst, HasPass, MayHave, LogsBegin, Splits, SplitsAt, JoinsAt, column, pass_at, AreApart}
+use Rattle.sporc_docs.proofs.Common.{AreBehind, NoneUnkept, TellsOf, Hand, AllSit, IsCrowd, Both, AllHands, HasFirst, IsOther, MayHave, LogsBegin, Splits, SplitsAt, JoinsAt, column, pass_at, AreApart}
 use Rattle.sporc_docs.proofs.Common.{AreBack, IsBack, KnowsFirst, Ends, AreEnding, AreBound, visits_of, Serves, same_Some, slice_get-map}
 use Rattle.sporc_serve.specs.declared.fault.ServeFault.TheVariants as faults'
 use Rattle.sporc_docs.proofs.Binding.{bound_to, documents_of, apart_reverse, one_place}
@@ -96,7 +96,7 @@ module _ {T : Type 0} {gs : Ghosts T} (turns : List (Turn (Desk T gs) Item))
   seats_visits (v ∷ vs) hs hs' sit = absurd sit
 
   module _ (i : ℕ) (t : Turn (Desk T gs) Item) (there : slice_get turns i ≡ Some t) where
-    serve_more : (s : Seat) (ss : List Seat) (q q' : Option (Pass Item)) (c c' : List (Option (Pass Item))) → HasPass t q → HasPass t q'
+    serve_more : (s : Seat) (ss : List Seat) (q q' : Option (Pass Item)) (c c' : List (Option (Pass Item))) → IsOther t q → IsOther t q'
         → ((p p' : Pass Item) → q ≡ Some p → q' ≡ Some p' → Serves s.visit s.place i p p') → AllServe i ss c c'
         → AllServe i (s ∷ ss) (q ∷ c) (q' ∷ c')
     serve_more s ss None q' c c' has has' serves more = absurd has
@@ -109,7 +109,7 @@ module _ {T : Type 0} {gs : Ghosts T} (turns : List (Turn (Desk T gs) Item))
     all_serve [] hs hs' sit = ap (column i) sit
     all_serve (v ∷ vs) (h ∷ hs) (h' ∷ hs') sit =
         serve_more (record { visit = v; place = sit.2.0 }) (seats_of vs hs hs' sit.3) (pass_at i h.passes.items) (pass_at i h'.passes.items) (column i hs) (column i hs')
-        (both_at HasPass turns h.passes.items sit.0 i t there) (both_at HasPass turns h'.passes.items sit.1 i t there) (sit.2.1.serves i) (all_serve vs hs hs' sit.3)
+        (both_at IsOther turns h.passes.items sit.0 i t there) (both_at IsOther turns h'.passes.items sit.1 i t there) (sit.2.1.serves i) (all_serve vs hs hs' sit.3)
     all_serve (v ∷ vs) hs hs' sit = absurd sit
 
 -- each session is bound to the document that its first message names

@@ -2,7 +2,10 @@
 use Rattle.std.proofs.Common.{◌≡◌, ◌∙◌, ℕ, ◌+◌, ◌<◌, ◌≤◌, ◌^◌, Bool, List, [], ◌∷◌, ◌++◌, length, reverse, replicate, cond, find, false, length-append, ◌-◌, is_err, Ok, Err, OnOk, All, Option, Some, None, Result, refl, ap, sym, subst, arith}
 use Rattle.sporc_docs.proofs.Common.{drop_all, reverse-reverse, length-reverse, length-map, NetTold, StreamTold, Known, Pass, known_of, OrderModel, Ghosts, ServeFault, Item, by_of, order_at, placed}
 use Rattle.sporc_docs.proofs.Common.{log_at_first, came, handed_back, AreFrom, AreBehind, TellsOf, Both, HasFirst, HaveRoom, list_of, is_of, AreApart, KnowsFirst, AreOpen, AreBack, Closes, Ends}
-use Rattle.sporc_docs.proofs.Common.{AreEnding, Session, visits_of, IsOneOf, IsServedDocument, AreServed, All-nil, starts_same, first_is, tells_before, from_none, behind_none, Locks}
+use Rattle.sporc_docs.proofs.Common.{AreEnding, Session, visits_of, IsOneOf, IsServedDocument, AreServed, as_served, All-nil, starts_same, first_is, tells_before, from_none, behind_none, Locks}
+use Rattle.sporc_docs.specs.declared.fault.DocsServeFault.{DocsServeFault}
+use Rattle.sporc_docs.specs.declared.fault.DocsServeFault.TheVariants as faults'
+use Rattle.sporc_serve.specs.declared.fault.ServeFault.TheVariants as faults
 use Rattle.sporc_docs.proofs.Places.{none_parts}
 use Rattle.sporc_docs.proofs.Opening.{both_append, both_reverse, both_length}
 
@@ -173,3 +176,11 @@ module _ (ss : List Session) where
       let same : o'.genesis.document ≡ o.genesis.document = ap (λ (x : OrderModel). x.genesis.document) h.0.1.order_is in
       (subst (λ (d : List ℕ). list_of os' d ≡ None) (sym same) (none_kept os os' h.1 o.genesis.document are.0), apart_kept os os' h.1 are.1)
   apart_kept os os' h are = absurd h
+
+-- only one fault of many documents is told of the net
+pub listen_told : (r : Result (Unit {0}) DocsServeFault) → as_served r ≡ Err faults.ListenFault → r ≡ Err faults'.ListenFault
+listen_told (Ok done) e = let no : ◌≡◌ {A = Result (Unit {0}) ServeFault} (Ok done) (Err faults.ListenFault) = e in absurd cc
+listen_told (Err faults'.ListenFault) e = refl
+listen_told (Err (faults'.Worn ticket)) e = let no : ◌≡◌ {A = Result (Unit {0}) ServeFault} (Err (faults.Worn ticket)) (Err faults.ListenFault) = e in absurd cc
+listen_told (Err faults'.Memory) e = let no : ◌≡◌ {A = Result (Unit {0}) ServeFault} (Err faults.Memory) (Err faults.ListenFault) = e in absurd cc
+listen_told (Err faults'.Unkept) e = let no : ◌≡◌ {A = Result (Unit {0}) ServeFault} (Err faults.Unkept) (Err faults.ListenFault) = e in absurd cc

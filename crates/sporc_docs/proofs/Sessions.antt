@@ -1,7 +1,7 @@
 -- A session of many documents.
 use Rattle.std.proofs.Common.{◌≡◌, ◌∙◌, ℕ, zero, suc, ◌<◌, false, List, [], ◌∷◌, length, set, Option, Some, Ok, slice_index_or, refl, ap, sym, subst, subst₂, arith}
 use Rattle.sporc_docs.proofs.Common.{Shuts, StreamTold, Known, ToServer, Unread, stream_of, next, Ghosts, SessionEnd, inlet_at, IsFirst, IsLogOf, ServerStand, stand, stand_at, Leads, visit}
-use Rattle.sporc_docs.proofs.Common.{IsServedSession, Pass, Turn, Desk, Item, HasPass, HavePasses, pass_at, Became, Genesis}
+use Rattle.sporc_docs.proofs.Common.{IsServedSession, Pass, Turn, Desk, Item, IsOther, HavePasses, pass_at, Became, Genesis}
 use Rattle.std.specs.Io.KnownBytes.{Consumes}
 use Rattle.std.proofs.KnownBytes.{Consumes-nil}
 use Rattle.sporc_wire.specs.ToServer.{to_server_of}
@@ -17,18 +17,18 @@ have_length (t ∷ ts) (p ∷ ps) h = ap suc (have_length ts ps h.1)
 have_length ts ps h = absurd h
 
 pub have_at : {T : Type 0} {gs : Ghosts T} (ts : List (Turn (Desk T gs) Item)) (ps : List (Option (Pass Item))) (i : ℕ) (t : Turn (Desk T gs) Item) (p : Option (Pass Item)) → HavePasses ts ps → i < length ts
-    → t ≡ slice_index_or ts i t → p ≡ slice_index_or ps i p → HasPass t p
+    → t ≡ slice_index_or ts i t → p ≡ slice_index_or ps i p → IsOther t p
 have_at [] ps i t p h within t_is p_is = absurd (omega (arith, within))
 have_at (t0 ∷ ts) [] i t p h within t_is p_is = absurd h
 have_at {T} {gs} (t0 ∷ ts) (p0 ∷ ps) zero t p h within t_is p_is =
-    subst (λ (x : Turn (Desk T gs) Item). HasPass x p) (sym t_is) (subst (λ (x : Option (Pass Item)). HasPass t0 x) (sym p_is) h.0)
+    subst (λ (x : Turn (Desk T gs) Item). IsOther x p) (sym t_is) (subst (λ (x : Option (Pass Item)). IsOther t0 x) (sym p_is) h.0)
 have_at (t0 ∷ ts) (p0 ∷ ps) (suc i) t p h within t_is p_is = have_at ts ps i t p h.1 (omega (arith, within)) t_is p_is
 
 pub have_set : {T : Type 0} {gs : Ghosts T} (ts : List (Turn (Desk T gs) Item)) (ps : List (Option (Pass Item))) (i : ℕ) (t : Turn (Desk T gs) Item) (p : Option (Pass Item)) → HavePasses ts ps → i < length ts
-    → t ≡ slice_index_or ts i t → HasPass t p → HavePasses ts (set ps i p)
+    → t ≡ slice_index_or ts i t → IsOther t p → HavePasses ts (set ps i p)
 have_set [] ps i t p h within t_is new = absurd (omega (arith, within))
 have_set (t0 ∷ ts) [] i t p h within t_is new = absurd h
-have_set {T} {gs} (t0 ∷ ts) (p0 ∷ ps) zero t p h within t_is new = (subst (λ (x : Turn (Desk T gs) Item). HasPass x p) t_is new, h.1)
+have_set {T} {gs} (t0 ∷ ts) (p0 ∷ ps) zero t p h within t_is new = (subst (λ (x : Turn (Desk T gs) Item). IsOther x p) t_is new, h.1)
 have_set (t0 ∷ ts) (p0 ∷ ps) (suc i) t p h within t_is new = (h.0, have_set ts ps i t p h.1 (omega (arith, within)) t_is new)
 
 -- what a hand has at a place

@@ -11,6 +11,7 @@ use Rattle.sporc_entry.specs.declared.genesis.Genesis.{Genesis}
 use Rattle.sporc_order.specs.declared.tail.Tail.{Ghosts}
 use Rattle.sporc_serve.specs.declared.desk.Desk.{Desk}
 use Rattle.sporc_serve.specs.declared.item.Item.{Item}
+use Rattle.sporc_serve.specs.Crowds.{IsOther}
 use Rattle.sporc_serve.specs.Logs.{IsLogOf}
 use Rattle.sporc_docs.specs.declared.hands.Hand.{Hand}
 
@@ -27,12 +28,6 @@ abbrev pub HasFirst : {T : Type 0} {tail : Ghosts T} → Turn (Desk T tail) Item
 HasFirst turn None = ⊥
 HasFirst turn (Some p) = IsPassOf turn p × ((known_of p).number ≡ 0)
 
--- a pass of this lock with another number
-abbrev pub HasPass : {T : Type 0} {tail : Ghosts T} → Turn (Desk T tail) Item
-    → Option (Pass Item) → Type 0
-HasPass turn None = ⊥
-HasPass turn (Some p) = IsPassOf turn p × ((known_of p).number ≢ 0)
-
 -- a pass of this lock with another number, or none
 abbrev pub MayHave : {T : Type 0} {tail : Ghosts T} → Turn (Desk T tail) Item
     → Option (Pass Item) → Type 0
@@ -47,7 +42,7 @@ IsEmpty turn place = place ≡ None
 -- a pass with another number of each of these locks, in their order
 abbrev pub HavePasses : {T : Type 0} {tail : Ghosts T} → List (Turn (Desk T tail) Item)
     → List (Option (Pass Item)) → Type 0
-HavePasses turns hand = Both HasPass turns hand
+HavePasses turns hand = Both IsOther turns hand
 
 -- the pass of a hand at a place, if it has one
 abbrev pub pass_at : ℕ → List (Option (Pass Item)) → Option (Pass Item)

@@ -69,7 +69,7 @@ impl Docs {
         ensures full { IfErr result
             (λ e. e.0 ≡ DocsFault.Full → (place_of self.old order.genesis.document ≡ None)
             × (length self.old ≡ MAX_DOCUMENTS)) }
-        ensures memory { IfErr result
+        ensures out_of_memory { IfErr result
             (λ e. e.0 ≡ DocsFault.Memory → (place_of self.old order.genesis.document ≡ None)
             × (length self.old < MAX_DOCUMENTS)) }
         ensures unchanged { OnErr result (self.new ≡ self.old) }

@@ -1,5 +1,6 @@
 //! Why a document is not taken, and why a server stopped, or didn't begin.
 
+use sporc_serve::ServeFault;
 use std::alloc::AllocError;
 use thiserror::Error;
 
@@ -43,4 +44,20 @@ pub enum DocsServeFault {
     /// A tail did not keep an entry.
     #[error("an entry is not kept")]
     Unkept,
+}
+
+impl From<ServeFault> for DocsServeFault {
+    ghost use Rattle.std.specs.Prelude.{◌≡◌, Err};
+    ghost use Rattle.sporc_docs.specs.Served.{as_served};
+
+    ghost from_gives = { λ fault e. as_served (Err e) ≡ Err fault };
+
+    fn from(fault: ServeFault) -> DocsServeFault {
+        match fault {
+            ServeFault::ListenFault => DocsServeFault::ListenFault,
+            ServeFault::Worn(ticket) => DocsServeFault::Worn(ticket),
+            ServeFault::Memory => DocsServeFault::Memory,
+            ServeFault::Unkept => DocsServeFault::Unkept,
+        }
+    }
 }

@@ -2,7 +2,8 @@
 
 ghost use Rattle.std.specs.Prelude.{◌≡◌, ◌∷◌, ℕ, [], None, length, replicate, IfOk, OnOk};
 ghost use Rattle.sporc_turn.specs.declared.pass.Pass.{Pass};
-ghost use Rattle.sporc_docs.specs.Hands.{AllHands, Both, HasFirst, HasPass, HasRoom, HavePasses};
+ghost use Rattle.sporc_serve.specs.Crowds.{IsOther};
+ghost use Rattle.sporc_docs.specs.Hands.{AllHands, Both, HasFirst, HasRoom, HavePasses};
 ghost use Rattle.sporc_docs.specs.Hands.{HaveRoom, IsEmpty, JoinsAt, MayHave, SplitsAt, column};
 ghost use Rattle.sporc_docs.specs.Hands.{pass_at};
 
@@ -85,7 +86,7 @@ fn split_at<T: Tail>(
     requires empty { place.old ≡ None }
     ensures first { HasFirst turn.now first.new }
     ensures place { MayHave turn.now place.new }
-    ensures ok { OnOk result (HasPass turn.now place.new) }
+    ensures ok { OnOk result (IsOther turn.now place.new) }
     ensures splits { SplitsAt first.old (place.new ∷ []) first.new }
 {
     let pass = first.take().unwrap();

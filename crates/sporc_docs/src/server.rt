@@ -106,7 +106,7 @@ where
     };
     let kept = KeptDocs { docs, tails };
     let (kept, answer) = serve_docs_kept(rt, alloc, net, address, kept, sessions, gate);
-    (kept.docs, answer)
+    (kept.docs, told(answer))
 }
 
 /// Serves as [`serve_docs`] does, with a tail for each document, in their order. A tail keeps each
@@ -120,7 +120,7 @@ pub fn serve_docs_kept<R: Threads + Wait + Sync, N: Listen, G: Gate + Sync, T: T
     kept: KeptDocs<T>,
     sessions: u32,
     gate: &G,
-) -> (KeptDocs<T>, Result<(), DocsServeFault>)
+) -> (KeptDocs<T>, Result<(), ServeFault>)
 where
     N: Send,
     N::Link: Send,
@@ -128,10 +128,10 @@ where
     requires limit { sessions ≤ MAX_SESSIONS }
     requires tails { AreKept T.keeps kept.tails.items kept.docs }
     ensures served { AreServed kept.docs result.0.docs (N.told net.old) (N.told net.new) sessions
-        (as_served result.1) }
+        result.1 }
     ensures tails { AreKept T.keeps result.0.tails.items result.0.docs }
-    ensures unkept { result.1 ≡ Err DocsServeFault.Unkept → T.may_fail }
-    ensures asked { result.1 ≢ Err DocsServeFault.ListenFault
+    ensures unkept { result.1 ≡ Err ServeFault.Unkept → T.may_fail }
+    ensures asked { result.1 ≢ Err ServeFault.ListenFault
         → AppendsItem (N.told net.old).asked (N.told net.new).asked address.now }
     ensures may_ask { MayAppend (N.told net.old).asked (N.told net.new).asked address.now }
     ensures shut { AreShutBehind (N.told net.old).returned (N.told net.new).returned }
@@ -139,7 +139,7 @@ where
     ensures kept { (N.told net.old).faults ≤ (N.told net.new).faults }
 {
     let Ok(()) = net.listen(address) else {
-        return (kept, Err(DocsServeFault::ListenFault));
+        return (kept, Err(ServeFault::ListenFault));
     };
     let KeptDocs { docs, tails } = kept;
     let mut orders = docs.into_orders();
@@ -149,7 +149,7 @@ where
         docs: Docs::of(orders),
         tails,
     };
-    (kept, told(answer))
+    (kept, answer)
 }
 
 // What is answered where memory ran out before a link could be taken.
@@ -174,11 +174,5 @@ fn unserved<N: Listen>(net: &mut N, address: &str) -> Result<(), DocsServeFault>
 fn told(answer: Result<(), ServeFault>) -> Result<(), DocsServeFault>
     ensures { as_served result ≡ answer }
 {
-    match answer {
-        Ok(()) => Ok(()),
-        Err(ServeFault::ListenFault) => Err(DocsServeFault::ListenFault),
-        Err(ServeFault::Worn(ticket)) => Err(DocsServeFault::Worn(ticket)),
-        Err(ServeFault::Memory) => Err(DocsServeFault::Memory),
-        Err(ServeFault::Unkept) => Err(DocsServeFault::Unkept),
-    }
+    Ok(answer?)
 }

@@ -6,12 +6,13 @@ ghost use Rattle.sporc_turn.specs.declared.pass.Pass.{Pass};
 ghost use Rattle.sporc_turn.specs.declared.turn.Turn.{Turn};
 ghost use Rattle.sporc_turn.specs.Passes.{known_of, read_of};
 ghost use Rattle.sporc_order.specs.Sessions.{IsFramed};
+ghost use Rattle.sporc_serve.specs.Crowds.{IsOther};
 ghost use Rattle.sporc_serve.specs.Traces.{LeadsFrom};
 ghost use Rattle.sporc_serve.specs.Turns.{HasReadLast};
 ghost use Rattle.std.specs.List.{position_from};
 ghost use Rattle.std.specs.Str.{bytes_eq};
 ghost use Rattle.sporc_serve.specs.Visits.{visit};
-ghost use Rattle.sporc_docs.specs.Hands.{HasPass, HavePasses};
+ghost use Rattle.sporc_docs.specs.Hands.{HavePasses};
 ghost use Rattle.sporc_docs.specs.Sessions.{Became, Sits, named_by};
 
 use crate::hands::Hand;
@@ -33,9 +34,9 @@ fn serve_at<R: Wait, L: Link, G: Gate, T: Tail>(
     first: &ToServer,
     pass: &mut Option<Pass<Item>>,
 ) -> SessionEnd
-    requires lock { HasPass service.now.turn.now pass.old }
+    requires lock { IsOther service.now.turn.now pass.old }
     requires framed { IsFramed first.now }
-    ensures lock { HasPass service.now.turn.now pass.new }
+    ensures lock { IsOther service.now.turn.now pass.new }
     ensures number { Became (λ p p'. (known_of p').number ≡ (known_of p).number) pass.old pass.new }
     ensures worn { Became (λ p p'. HasReadLast (read_of p') result) pass.old pass.new }
     ensures as_shut { (L.told link.new).is_shut ≡ (L.told link.old).is_shut }

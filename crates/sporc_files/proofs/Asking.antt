@@ -1,8 +1,13 @@
--- Names asked for, one call after another.
-use Rattle.std.proofs.Common.{ℕ, List, [], ◌++◌, Option, Some, None, sym, ap, ◌∙◌, append-nil, append_assoc}
+-- Names and addresses asked for, one call after another.
+use Rattle.std.proofs.Common.{◌≤◌, inl, inr, ℕ, ◌+◌, List, [], ◌∷◌, ◌++◌, Option, Some, None, sym, ap, ◌∙◌, append-nil, append_assoc, arith}
 use Rattle.sporc_files.proofs.Common.{Contains}
+use Rattle.std.proofs.lemmas.List.{replicate-append-replicate}
+use Rattle.std.specs.Prelude.{replicate}
 use Rattle.std.proofs.lemmas.List.Elements.{All-append, All-nil, All-weaker, Contains-append_left, Contains-append_right}
-use Rattle.sporc_files.specs.Uses.{AsksOnly}
+use Rattle.sporc_outside.specs.Told.{MayAppend}
+use Rattle.sporc_files.specs.Uses.{AsksAtMost, AsksOnly}
+
+-- ---- names
 
 pub AsksOnly-none : (names : List (List ℕ)) (a : Option (List (List ℕ))) → AsksOnly names a a
 AsksOnly-none names None = tt
@@ -32,3 +37,34 @@ asks_again first rest a b c all then =
 -- some of the first names, and then some of the others
 pub asks_then : (first rest : List (List ℕ)) (a b c : Option (List (List ℕ))) → AsksOnly first a b → AsksOnly rest b c → AsksOnly (first ++ rest) a c
 asks_then first rest a b c one then = asks_again first rest a b c (asks_first first rest a b one) then
+
+-- ---- an address, again and again
+
+pub asks_never : (most : ℕ) (a : Option (List (List ℕ))) (address : List ℕ) → AsksAtMost most a a address
+asks_never most None address = tt
+asks_never most (Some asked) address = (0, omega arith, sym (append-nil asked))
+
+pub asks_once : (a b : Option (List (List ℕ))) (address : List ℕ) → MayAppend a b address → AsksAtMost 1 a b address
+asks_once None b address may = tt
+asks_once (Some x) None address never = never
+asks_once (Some x) (Some y) address (inl once) = (1, omega arith, once)
+asks_once (Some x) (Some y) address (inr same) = (0, omega arith, same ∙ sym (append-nil x))
+
+-- at most more often
+pub asks_less : (few most : ℕ) (a b : Option (List (List ℕ))) (address : List ℕ) → few ≤ most → AsksAtMost few a b address → AsksAtMost most a b address
+asks_less few most None b address more asks = tt
+asks_less few most (Some x) None address more never = never
+asks_less few most (Some x) (Some y) address more (times, within, is) = (times, omega (arith, within, more), is)
+
+-- and once more
+pub asks_more : (most : ℕ) (a b c : Option (List (List ℕ))) (address : List ℕ) → AsksAtMost most a b address → MayAppend b c address → AsksAtMost (most + 1) a c address
+asks_more most None b c address first may = tt
+asks_more most (Some x) None c address never may = absurd never
+asks_more most (Some x) (Some y) None address first never = never
+asks_more most (Some x) (Some y) (Some z) address (times, within, is) (inl once) = (
+  times + 1,
+  omega (arith, within),
+  once ∙ ap (λ (l : List (List ℕ)). l ++ address ∷ []) is ∙ append_assoc x (replicate times address) (address ∷ [])
+      ∙ ap (λ (l : List (List ℕ)). x ++ l) (replicate-append-replicate times 1 address),
+)
+asks_more most (Some x) (Some y) (Some z) address (times, within, is) (inr same) = (times, omega (arith, within), same ∙ is)

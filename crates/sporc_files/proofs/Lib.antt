@@ -3,6 +3,7 @@ pub mod FileFaults
 pub mod FaultCases
 pub mod Asking
 pub mod Answering
+pub mod ReadFiles
 pub mod Appendable
 pub mod NamesApart
 mod Examples

@@ -10,7 +10,8 @@
 //!   [`stopped`]: that of a history's file that is not whole.
 //! - [`open_line`]: the line of a member's device, by what the member's ring file says, or by
 //!   hints.
-//! - `specs/Uses.antt`: a folder and a chance as a call found and left them.
+//! - `specs/Uses.antt`: which names a folder was asked for, and how often a net was asked for an
+//!   address. `specs/Contents.antt`: what the files of a document hold.
 //!
 //! ```text
 //! let names = Names::of_document("plan");

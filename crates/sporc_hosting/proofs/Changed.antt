@@ -1,6 +1,7 @@
 -- Which files changed: the tails of documents.
 use Rattle.std.proofs.Common.{◌≡◌, ℕ, List, [], ◌∷◌, ◌++◌, length, Option, Some, None, Result, Ok, Err, refl, sym, ap, ◌∙◌, subst}
-use Rattle.sporc_hosting.proofs.Common.{OnErr, OnOk, option_map, NamedFile, OrderModel, Both, Fault, FileNames, file_name, names_of_document, KeepsTail, TakesTail, changes_back, made_other, put_other}
+use Rattle.sporc_hosting.proofs.Common.{OnErr, OnOk, option_map, NamedFile, OrderModel, Both, Fault, FileNames, file_name, names_of_document, KeepsTail, TakesTail}
+use Rattle.sporc_hosting.proofs.Opened.{changes_back, made_other, put_other}
 use Rattle.sporc_hosting.proofs.Common.{GivesAllBack, ChangesTails, IsNoTail, OpenLogModel, with_tail_made, with_tails_made, ChangesFile, TakesFile, made_in, Use}
 use Rattle.sporc_outside.specs.Folders.{FolderTold}
 use Rattle.sporc_files.specs.declared.fault.Fault.TheVariants as faults

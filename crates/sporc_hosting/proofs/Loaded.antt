@@ -1,7 +1,8 @@
 -- What is found in the files of a document among several.
 use Rattle.std.proofs.Common.{◌≡◌, ℕ, ◌≤◌, Bool, true, false, List, [], ◌∷◌, ◌++◌, length, Option, None, Result, Ok, Err, refl, sym, ap, ◌∙◌, subst}
 use Rattle.sporc_hosting.proofs.Common.{Rose, NamedFile, OrderModel, Fault, AnswersUnlessOutside, fault_among, FileNames, file_name, FindsOrderBehind, ServedFiles, log_in, logged, order_behind}
-use Rattle.sporc_hosting.proofs.Common.{has_logged, FindsHeld, FindsUnlessHeld, added, is_held, opened_in, order_unless_held, unless_held, ◌>>=◌, fault_as, fails_first, tells_behind, tells_later}
+use Rattle.sporc_hosting.proofs.Common.{FindsHeld, FindsUnlessHeld, added, is_held, opened_in, order_unless_held, unless_held, ◌>>=◌, fault_as, fails_first, tells_behind, tells_later}
+use Rattle.sporc_hosting.proofs.Opened.{has_logged}
 use Rattle.sporc_hosting.proofs.Common.{fails, is_there, says, there}
 use Rattle.std.specs.Str.{bytes_eq}
 use Rattle.sporc_entry.specs.declared.genesis.Genesis.{Genesis}
@@ -9,7 +10,7 @@ use Rattle.sporc_docs.specs.Lists.{place_of}
 use Rattle.sporc_files.specs.declared.fault.Fault.TheVariants as faults
 use Rattle.sporc_files.specs.declared.file.File.TheVariants as files
 use Rattle.sporc_files.specs.Reading.{IsFileFault, SaysFile, genesis_file}
-use Rattle.sporc_commands.specs.Contents.{AnswersOfFile, genesis_in}
+use Rattle.sporc_files.specs.Contents.{AnswersOfFile, genesis_in}
 
 -- ---- whether a document is held
 

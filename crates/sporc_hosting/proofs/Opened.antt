@@ -1,189 +1,297 @@
--- Which documents are open, behind those that were.
-use Rattle.std.proofs.Common.{◌≡◌, ℕ, ◌+◌, ◌≤◌, List, [], ◌∷◌, ◌++◌, length, Option, Result, Ok, Err, refl, sym, ap, ◌∙◌, subst, append-nil, append_assoc}
-use Rattle.sporc_hosting.proofs.Common.{OnErr, OnOk, length-append, Rose, NamedFile, OrderModel, Fault, AnswersUnlessOutside, fault_among, FileNames, file_name, names_of_document, AreServedFiles}
-use Rattle.sporc_hosting.proofs.Common.{HasLogged, ServedFiles, KeepsBehind, LogTailModel, AreFilesOfAll, AreOpen, AreOpenTo, FindsUnlessHeld, OpenLogModel, OpensMore, OpensOne, added, opened_in}
-use Rattle.sporc_hosting.proofs.Common.{opened_to, orders_in, with_document, with_tail_made, both_more, AppendTold, ◌>>=◌, fault_as, fails_first, tells_alone, tells_behind, tells_later, is_there}
-use Rattle.sporc_hosting.proofs.Common.{there}
+-- What a server begins with: its genesis, the file of its tail, its log, and the tail.
+use Rattle.std.proofs.Common.{◌≡◌, ◌≤◌, ◌<◌, ◌⊎◌, inl, inr, ℕ, false, List, [], length, Option, Some, None, Result, Ok, Err, refl, sym, ap, ◌∙◌, subst, arith}
+use Rattle.sporc_hosting.proofs.Common.{IfSome, IfOk, option_map, ◌>>=◌, fault_as, Rose, count_of_both, AppendTold, ChangesFile, IsAppendedTo, TakesFile, file_in, made_in, or_empty, with_bytes}
+use Rattle.sporc_hosting.proofs.Common.{NamedFile, Genesis, OrderModel, Taken, Fault, File, FileNames, file_name, IsAppendingFault, IsFileFault, SaysFile, any_bytes, genesis_file}
+use Rattle.sporc_hosting.proofs.Common.{AnswersUnlessOutside, unless_stopped, IsFileAt, bytes_in, genesis_in, FindsOrder, FindsOrderBehind, HasLogged, fault_of_tail, logged, order_behind}
+use Rattle.sporc_hosting.proofs.Common.{order_of_whole, order_with, tail_in, with_tail, tells_behind, tells_later, accepted_from, an_order, bytes_eq, false_from_ne_true, MAX_FILE}
+use Rattle.std.proofs.lemmas.Slice.Eq.{bytes_eq-Decides}
+use Rattle.sporc_outside.proofs.Files.{file_in-other}
+use Rattle.sporc_store.specs.declared.tail_fault.TailFault.{TailFault}
+use Rattle.sporc_store.specs.declared.tail_fault.TailFault.TheVariants as tails
+use Rattle.sporc_store.specs.declared.stop.Stop.{Stop}
+use Rattle.sporc_store.specs.declared.stop.Stop.TheVariants.{End}
+use Rattle.sporc_store.specs.TailBytes.{TailTaken, tail_behind}
+use Rattle.sporc_store.specs.TailReadings.{AreTold, IsFaultOfRead, TakesRead}
 use Rattle.sporc_files.specs.declared.fault.Fault.TheVariants as faults
 use Rattle.sporc_files.specs.declared.file.File.TheVariants as files
-use Rattle.sporc_hosting.proofs.Loaded.{among_tells}
+use Rattle.sporc_files.proofs.NamesApart.{names_apart}
+use Rattle.sporc_hosting.specs.Opening.{FindsBehind, FindsTail, IsToldIn, RoseIn}
+use Rattle.sporc_files.proofs.ReadFiles.{has_at, is_there, reads_none, said_long, said_short, says, there}
 
--- ---- files that were not read
+-- ---- the tail of a file, behind the order of a log
 
-abbrev pub content_there : Option (List NamedFile) → List ℕ → ServedFiles
-content_there told name = record {
-  genesis = there told (file_name (names_of_document name) files.Genesis);
-  log = there told (file_name (names_of_document name) files.Log);
-  tail = there told (file_name (names_of_document name) files.Tail);
-}
+short : (bytes : List ℕ) → length bytes ≤ MAX_FILE → bytes_in files.Tail (Some bytes) ≡ Ok bytes
+short bytes within = said_short any_bytes files.Tail bytes (Ok bytes) within refl
 
-is_content : (told : Option (List NamedFile)) (name : List ℕ) → AreServedFiles told (names_of_document name) (content_there told name)
-is_content told name = record {
-  genesis = is_there told (file_name (names_of_document name) files.Genesis);
-  log = is_there told (file_name (names_of_document name) files.Log);
-  tail = is_there told (file_name (names_of_document name) files.Tail);
-}
+-- what is taken of a tail that reads so
+abbrev taken_of : OrderModel → Result TailTaken TailFault → Result OrderModel Fault
+taken_of order r =
+    fault_as fault_of_tail r >>= λ taken. order_of_whole files.Tail order.genesis (accepted_from (an_order order.genesis) order.entries taken.entries End)
 
-abbrev pub contents_there : Option (List NamedFile) → List (List ℕ) → List ServedFiles
-contents_there told [] = []
-contents_there told (n ∷ ns) = content_there told n ∷ contents_there (with_tail_made n told) ns
+within_tail : (order : OrderModel) (bytes : List ℕ) (r : Result TailTaken TailFault) → length bytes ≤ MAX_FILE → tail_behind order.entries order.genesis.document bytes ≡ r
+    → (bytes_in files.Tail (Some bytes) >>= with_tail order) ≡ taken_of order r
+within_tail order bytes r within reads = ap (λ (x : Result (List ℕ) Fault). x >>= with_tail order) (short bytes within) ∙ ap (taken_of order) reads
 
-are_there : (told : Option (List NamedFile)) (names : List (List ℕ)) → AreFilesOfAll told names (contents_there told names)
-are_there told [] = tt
-are_there told (n ∷ ns) = (is_content told n, are_there (with_tail_made n told) ns)
+pub tail_taken : {X D : Type 0} (view : X → OrderModel) (stored : Option (List ℕ)) (file_told : D → AppendTold) (order : OrderModel) (it : X)
+    → TakesRead order.genesis order.entries stored (view it).entries → (view it).genesis ≡ order.genesis → FindsTail {X = X} {D = D} view stored file_told order (Ok it)
+tail_taken view stored file_told order it read same = (
+  read.bytes,
+  read.told,
+  within_tail order read.bytes (Ok read.takes.taken) read.within read.takes.reads
+      ∙ ap (λ (t : Taken). order_of_whole files.Tail order.genesis t) read.takes.accepted
+      ∙ ap (λ (g : Genesis). Ok (order_with g (view it).entries)) (sym same),
+)
 
--- ---- one document more
+-- the bytes that a file tells, if it tells any
+told_or : (stored : Option (List ℕ)) → AreTold stored (or_empty stored)
+told_or None = tt
+told_or (Some bytes) = refl
 
-module _ {D : Type 0} (file_told : D → AppendTold) where
-  pub one_more : (names : List (List ℕ)) (contents : List ServedFiles) (orders : List OrderModel) (tails : List (LogTailModel D)) (logs : List OpenLogModel) (name : List ℕ)
-      (content : ServedFiles) (order : OrderModel) (tail : LogTailModel D) (log : OpenLogModel)
-      → AreOpen file_told names contents orders tails logs → KeepsBehind file_told tail order.entries → HasLogged content log.logged
-      → log.name ≡ file_name (names_of_document name) files.Tail
-      → AreOpen file_told (names ++ name ∷ []) (contents ++ content ∷ []) (orders ++ order ∷ []) (tails ++ tail ∷ []) (logs ++ log ∷ [])
-  one_more names contents orders tails logs name content order tail log opens keeps has named = record {
-    kept = both_more (λ (t : LogTailModel D) (o : OrderModel). ∥ KeepsBehind file_told t o.entries ∥₁) tails orders tail order opens.kept (∣ keeps ∣₁);
-    logged = both_more (λ (c : ServedFiles) (l : OpenLogModel). HasLogged c l.logged) contents logs content log opens.logged has;
-    named = both_more (λ (n : List ℕ) (l : OpenLogModel). l.name ≡ file_name (names_of_document n) files.Tail) names logs name log opens.named named;
-    each = length-append logs (log ∷ []) ∙ ap (λ (n : ℕ). n + 1) opens.each ∙ sym (length-append orders (order ∷ []));
-  }
+pub tail_fails : {X D : Type 0} (view : X → OrderModel) (stored : Option (List ℕ)) (file_told : D → AppendTold) (order : OrderModel) (before : ℕ) (cause : TailFault) (fault : Fault) (file : D)
+    → fault ≡ fault_of_tail cause → IsFaultOfRead order.genesis order.entries stored before (file_told file).faults cause → FindsTail {X = X} {D = D} view stored file_told order (Err (fault, file))
+tail_fails {X} {D} view stored file_told order before cause fault file is why =
+    subst (λ (f : Fault). FindsTail {X = X} {D = D} view stored file_told order (Err (f, file))) (sym is) (by cause why)
+  where
+    by : (cause : TailFault) → IsFaultOfRead order.genesis order.entries stored before (file_told file).faults cause
+        → FindsTail {X = X} {D = D} view stored file_told order (Err (fault_of_tail cause, file))
+    by tails.Failed rose = (or_empty stored, told_or stored, omega (arith, rose))
+    by (tails.TooLong len) (bytes, told, long) = (bytes, told, ap (λ (x : Result (List ℕ) Fault). x >>= with_tail order) (said_long any_bytes files.Tail bytes long))
+    by (tails.Malformed at) (bytes, told, within, is) = (bytes, told, within_tail order bytes (Err (tails.Malformed at)) within is)
+    by (tails.Refused position refusal) (bytes, told, within, taken, reads, stop) = (
+      bytes,
+      told,
+      within_tail order bytes (Ok taken) within reads
+          ∙ ap (λ (s : Stop). unless_stopped files.Tail s (accepted_from (an_order order.genesis) order.entries taken.entries End).entries >>= λ es. Ok (order_with order.genesis es)) stop,
+    )
+    by tails.Memory any = (or_empty stored, told_or stored, tt)
 
-  -- nothing changed
-  pub still_open : (names : List (List ℕ)) (contents : List ServedFiles) (orders now : List OrderModel) (tails tails' : List (LogTailModel D)) (logs logs' : List OpenLogModel)
-      → now ≡ orders → tails' ≡ tails → logs' ≡ logs → AreOpen file_told names contents orders tails logs → AreOpen file_told names contents now tails' logs'
-  still_open names contents orders now tails tails' logs logs' now_is tails_are logs_are opens = rw (now_is, tails_are, logs_are) opens
+-- ---- behind a genesis
 
-  -- it is open if it was added
-  pub added_open : (r : Result (Unit {0}) Fault) (old new : List OrderModel) (tails tails' : List (LogTailModel D)) (logs logs' : List OpenLogModel) (order : OrderModel)
-      (tail : LogTailModel D) (log : OpenLogModel) (name : List ℕ) (first : List (List ℕ)) (begun : List ServedFiles) → OnOk r (new ≡ old ++ order ∷ [])
-      → OnOk r (tails' ≡ tails ++ tail ∷ []) → OnOk r (logs' ≡ logs ++ log ∷ []) → OnErr r ((new ≡ old) × (tails' ≡ tails) × (logs' ≡ logs))
-      → AreOpen file_told first begun old tails logs → KeepsBehind file_told tail order.entries → log.name ≡ file_name (names_of_document name) files.Tail
-      → (content : ServedFiles) → HasLogged content log.logged → AreOpenTo file_told r name content new tails' logs' first begun
-  added_open (Ok done) old new tails tails' logs logs' order tail log name first begun docs_are tails_are logs_are same opens keeps named content has =
-      rw (docs_are, tails_are, logs_are) (one_more first begun old tails logs name content order tail log opens keeps has named)
-  added_open (Err fault) old new tails tails' logs logs' order tail log name first begun docs_are tails_are logs_are (docs_same, tails_same, logs_same) opens keeps named content has =
-      rw (docs_same, tails_same, logs_same) opens
+in_told : (told : Option (List NamedFile)) (stored : Option (List ℕ)) (bytes : List ℕ) → AreTold stored bytes → IsToldIn told stored bytes
+in_told None stored bytes same = tt
+in_told (Some fs) stored bytes same = same
 
-  module _ (told : Option (List NamedFile)) (name : List ℕ) (number : ℕ) (c0 c2 : ℕ) (old new : List OrderModel) (tails : List (LogTailModel D)) (logs : List OpenLogModel)
-      (first : List (List ℕ)) (begun : List ServedFiles) where
-    -- memory ran out first
-    pub none_tried : (r : Result (Unit {0}) Fault) → r ≡ Err faults.Memory → AreOpen file_told first begun new tails logs
-        → OpensOne file_told told name number c0 c2 r old new tails logs first begun
-    none_tried r is opens =
-        subst (λ (o : Result (Unit {0}) Fault). OpensOne file_told told name number c0 c2 o old new tails logs first begun) (sym is) (record {
-          content = content_there told name;
-          are = is_content told name;
-          found = tt;
-          are_open = opens;
-        })
+-- what does not succeed gives nothing
+no_ok : {X : Type 0} (r : Result X Fault) (fault : Fault) (P : X → Type 0) → r ≡ Err fault → IfOk r P
+no_ok {X} r fault P is = subst (λ (o : Result X Fault). IfOk o P) (sym is) tt
 
-    module _ {X : Type 0} (view : X → OrderModel) (len : X → ℕ) (names : FileNames) (held : List OrderModel) (same : names ≡ names_of_document name) (held_is : held ≡ old) where
-      -- its files are found by its own names, behind those that are held
-      own : (c1 : ℕ) (o : Result X Fault) → FindsUnlessHeld view len told names number held c0 c1 o → FindsUnlessHeld view len told (names_of_document name) number old c0 c1 o
-      own c1 o found =
-          subst (λ (n : FileNames). FindsUnlessHeld view len told n number old c0 c1 o) same
-          (subst (λ (h : List OrderModel). FindsUnlessHeld view len told names number h c0 c1 o) held_is found)
+module _ {X D : Type 0} (view : X → OrderModel) (len : X → ℕ) (told : Option (List NamedFile)) (name : List ℕ) (stored : Option (List ℕ)) (before after : ℕ) (file_told : D → AppendTold)
+    (g : Genesis) (log : Option (List ℕ)) (at : IsFileAt told name log) where
+  of_log : (order : OrderModel) (bytes : List ℕ) → logged g log ≡ Ok order
+      → (bytes_in files.Tail (Some bytes) >>= λ tail. logged g log >>= λ o. with_tail o tail) ≡ (bytes_in files.Tail (Some bytes) >>= with_tail order)
+  of_log order bytes is = ap (λ (r : Result OrderModel Fault). bytes_in files.Tail (Some bytes) >>= λ tail. r >>= λ o. with_tail o tail) is
 
-      pub document_fails : (fault among : Fault) (r : Result (Unit {0}) Fault) → r ≡ Err among → among ≡ fault_among number fault
-          → FindsUnlessHeld view len told names number held c0 c2 (Err fault) → AreOpen file_told first begun new tails logs
-          → OpensOne file_told told name number c0 c2 r old new tails logs first begun
-      document_fails fault among r failed is found opens =
-          let (content, are, tells, none) = own c2 (Err fault) found in
-          let why : AnswersUnlessOutside (λ (os : List OrderModel). os) (Rose c0 c2) (Err (fault_among number fault)) (with_document number old content) =
-          fails_first (λ (o : OrderModel). o) (λ (os : List OrderModel). os) (Rose c0 c2) (fault_among number fault) (fault_as (fault_among number) (opened_in number old content))
-          (added number old) (among_tells view (Rose c0 c2) number fault (opened_in number old content) tells) in
-          subst (λ (o : Result (Unit {0}) Fault). OpensOne file_told told name number c0 c2 o old new tails logs first begun) (sym (failed ∙ ap Err is)) (record {
-            content = content;
-            are = are;
-            found = why;
-            are_open = opens;
-          })
+  pub behind_log : (order : OrderModel) (r : Result X (Fault × D)) → logged g log ≡ Ok order → FindsTail view stored file_told order r → IfOk r (λ it. len it ≡ length order.entries)
+      → FindsBehind view len told name stored before after file_told g r
+  behind_log order (Ok it) is (bytes, same, tells) has = (log, at, bytes, in_told told stored bytes same, of_log order bytes is ∙ tells, (order, is, sym has))
+  behind_log order (Err (faults.Memory, file)) is (bytes, same, tells) has = (log, at, bytes, in_told told stored bytes same, tt, tt)
+  behind_log order (Err (faults.Outside, file)) is (bytes, same, tells) has = (log, at, bytes, in_told told stored bytes same, inr tells, tt)
+  behind_log order (Err (fault, file)) is (bytes, same, tells) has = (log, at, bytes, in_told told stored bytes same, of_log order bytes is ∙ tells, tt)
 
-      pub document_adds : (c1 : ℕ) (it : X) (r : Result (Unit {0}) Fault) → c1 ≤ c2 → FindsUnlessHeld view len told names number held c0 c1 (Ok it)
-          → AnswersUnlessOutside (λ (os : List OrderModel). os) ⊥ (opened_to r new) (added number old (view it))
-          → ((content : ServedFiles) → HasLogged content (len it) → AreOpenTo file_told r name content new tails logs first begun)
-          → OpensOne file_told told name number c0 c2 r old new tails logs first begun
-      document_adds c1 it r low found value opens =
-          let (content, are, tells, has) = own c1 (Ok it) found in
-          record {
-            content = content;
-            are = are;
-            found =
-                tells_behind (λ (os : List OrderModel). os) (Rose c0 c2) (opened_to r new) (fault_as (fault_among number) (opened_in number old content)) (view it) (added number old)
-                (ap (fault_as (fault_among number)) tells)
-                (tells_alone (λ (os : List OrderModel). os) (Rose c0 c2) (opened_to r new) (added number old (view it)) value);
-            are_open = opens content has;
-          }
+  -- bytes that are short, as the file tells them if the folder tells its files
+  short_told : (told : Option (List NamedFile)) → IfSome told (λ fs. IfSome stored (λ bytes. length bytes ≤ MAX_FILE))
+      → (bytes : List ℕ) × IsToldIn told stored bytes × (length bytes ≤ MAX_FILE)
+  short_told None within = ([], tt, omega arith)
+  short_told (Some fs) within = (or_empty stored, told_or stored, fits stored within)
+    where
+      fits : (stored : Option (List ℕ)) → IfSome stored (λ bytes. length bytes ≤ MAX_FILE) → length (or_empty stored) ≤ MAX_FILE
+      fits None any = omega arith
+      fits (Some bytes) within = within
 
-  -- ---- several documents
+  pub behind_fails : (fault : Fault) (file : D) → IfSome told (λ fs. IfSome stored (λ bytes. length bytes ≤ MAX_FILE))
+      → AnswersUnlessOutside (λ (order : OrderModel). order) (Rose before after) (Err fault) (logged g log)
+      → FindsBehind {X = X} {D = D} view len told name stored before after file_told g (Err (fault, file))
+  behind_fails fault file within tells = (log, at, (short_told told within).0, (short_told told within).1, by fault tells, tt)
+    where
+      bytes : List ℕ
+      bytes = (short_told told within).0
 
-  module _ (told : Option (List NamedFile)) (names : List (List ℕ)) (number : ℕ) (old : List OrderModel) (first : List (List ℕ)) (begun : List ServedFiles) where
-    pub none_opened : (c0 c1 : ℕ) (tails : List (LogTailModel D)) (logs : List OpenLogModel) → length names ≡ 0 → AreOpen file_told first begun old tails logs
-        → OpensMore file_told told names number c0 c1 (Ok tt) old old tails logs first begun
-    none_opened c0 c1 tails logs none opens = by names none
-      where
-        by : (ns : List (List ℕ)) → length ns ≡ 0 → OpensMore file_told told ns number c0 c1 (Ok tt) old old tails logs first begun
-        by [] none = record {
-          contents = [];
-          are = tt;
-          found = refl;
-          opened = [];
-          held = [];
-          rest = [];
-          names_are = refl;
-          are_open = rw (append-nil first, append-nil begun) opens;
-          all = (refl, refl);
-        }
-        by (n ∷ ns) none = absurd cc
+      alone : (bytes_in files.Tail (Some bytes) >>= λ tail. logged g log >>= λ order. with_tail order tail) ≡ (logged g log >>= λ order. with_tail order bytes)
+      alone = ap (λ (x : Result (List ℕ) Fault). x >>= λ tail. logged g log >>= λ order. with_tail order tail) (short bytes (short_told told within).2)
 
-    pub first_fails : (c0 c1 : ℕ) (new : List OrderModel) (tails : List (LogTailModel D)) (logs : List OpenLogModel) (name : List ℕ) (others : List (List ℕ)) (fault : Fault)
-        (r : Result (Unit {0}) Fault) → names ≡ name ∷ others → r ≡ Err fault → OpensOne file_told told name number c0 c1 (Err fault) old new tails logs first begun
-        → OpensMore file_told told names number c0 c1 r old new tails logs first begun
-    first_fails c0 c1 new tails logs name others fault r is failed one =
-        subst (λ (ns : List (List ℕ)). OpensMore file_told told ns number c0 c1 r old new tails logs first begun) (sym is)
-        (subst (λ (o : Result (Unit {0}) Fault). OpensMore file_told told (name ∷ others) number c0 c1 o old new tails logs first begun) (sym failed) (record {
-          contents = one.content ∷ contents_there (with_tail_made name told) others;
-          are = (one.are, are_there (with_tail_made name told) others);
-          found =
-              fails_first (λ (os : List OrderModel). os) (λ (os : List OrderModel). os) (Rose c0 c1) fault (with_document number old one.content)
-              (λ (more : List OrderModel). orders_in (number + 1) more (contents_there (with_tail_made name told) others)) one.found;
-          opened = [];
-          held = [];
-          rest = name ∷ others;
-          names_are = refl;
-          are_open = rw (append-nil first, append-nil begun) one.are_open;
-          all = tt;
-        }))
+      by : (fault : Fault) → AnswersUnlessOutside (λ (order : OrderModel). order) (Rose before after) (Err fault) (logged g log)
+          → AnswersUnlessOutside view (Rose before after ⊎ RoseIn {X = X} {D = D} file_told (Err (fault, file))) (Err fault)
+          (bytes_in files.Tail (Some bytes) >>= λ tail. logged g log >>= λ order. with_tail order tail)
+      by faults.Memory tells = tt
+      by faults.Outside tells = inl tells
+      by fault tells = alone ∙ ap (λ (x : Result OrderModel Fault). x >>= λ order. with_tail order bytes) tells
 
-    all_more : (name : List ℕ) (content : ServedFiles) (opened others : List (List ℕ)) (held contents : List ServedFiles) (r : Result (Unit {0}) Fault)
-        → OnOk r ((opened ≡ others) × (held ≡ contents)) → OnOk r ((name ∷ opened ≡ name ∷ others) × (content ∷ held ≡ content ∷ contents))
-    all_more name content opened others held contents (Ok done) all = (ap (λ (ns : List (List ℕ)). name ∷ ns) all.0, ap (λ (cs : List ServedFiles). content ∷ cs) all.1)
-    all_more name content opened others held contents (Err fault) all = tt
+-- ---- names and files
 
-    pub others_opened : (c0 c1 c2 : ℕ) (mid new : List OrderModel) (tails tails' : List (LogTailModel D)) (logs logs' : List OpenLogModel) (now : Option (List NamedFile))
-        (name : List ℕ) (others : List (List ℕ)) (r : Result (Unit {0}) Fault) → names ≡ name ∷ others → now ≡ with_tail_made name told → c0 ≤ c1
-        → OpensOne file_told told name number c0 c1 (Ok tt) old mid tails logs first begun
-        → ((f : List (List ℕ)) (b : List ServedFiles) → AreOpen file_told f b mid tails logs
-        → OpensMore file_told now others (number + 1) c1 c2 r mid new tails' logs' f b)
-        → OpensMore file_told told names number c0 c2 r old new tails' logs' first begun
-    others_opened c0 c1 c2 mid new tails tails' logs logs' now name others r is same low one then =
-        let more : OpensMore file_told (with_tail_made name told) others (number + 1) c1 c2 r mid new tails' logs' (first ++ name ∷ []) (begun ++ one.content ∷ []) =
-        subst (λ (t : Option (List NamedFile)). OpensMore file_told t others (number + 1) c1 c2 r mid new tails' logs' (first ++ name ∷ []) (begun ++ one.content ∷ [])) same
-        (then (first ++ name ∷ []) (begun ++ one.content ∷ []) one.are_open) in
-        let opens : AreOpen file_told (first ++ name ∷ more.opened) (begun ++ one.content ∷ more.held) new tails' logs' =
-        subst (λ (ns : List (List ℕ)). AreOpen file_told ns (begun ++ one.content ∷ more.held) new tails' logs') (append_assoc first (name ∷ []) more.opened)
-        (subst (λ (cs : List ServedFiles). AreOpen file_told ((first ++ name ∷ []) ++ more.opened) cs new tails' logs') (append_assoc begun (one.content ∷ []) more.held) more.are_open) in
-        subst (λ (ns : List (List ℕ)). OpensMore file_told told ns number c0 c2 r old new tails' logs' first begun) (sym is) (record {
-          contents = one.content ∷ more.contents;
-          are = (one.are, more.are);
-          found =
-              tells_later (λ (os : List OrderModel). os) c0 c1 c2 (opened_to r new)
-              (with_document number old one.content >>= λ (ms : List OrderModel). orders_in (number + 1) ms more.contents) low
-              (tells_behind (λ (os : List OrderModel). os) (Rose c1 c2) (opened_to r new) (with_document number old one.content) mid
-              (λ (ms : List OrderModel). orders_in (number + 1) ms more.contents) one.found more.found);
-          opened = name ∷ more.opened;
-          held = one.content ∷ more.held;
-          rest = more.rest;
-          names_are = ap (λ (ns : List (List ℕ)). name ∷ ns) more.names_are;
-          are_open = opens;
-          all = all_more name one.content more.opened others more.held more.contents r more.all;
-        })
+tail_apart : (names : FileNames) → bytes_eq (file_name names files.Tail) (file_name names files.Log) ≡ false
+tail_apart names = false_from_ne_true (bytes_eq (file_name names files.Tail) (file_name names files.Log)) (λ is.
+    let same : files.Tail ≡ files.Log = names_apart names files.Tail files.Log tt tt ((bytes_eq-Decides (file_name names files.Tail) (file_name names files.Log)).0 is) in
+    cc)
+
+pub made_other : (fs : List NamedFile) (name other : List ℕ) → bytes_eq name other ≡ false → file_in (made_in fs name) other ≡ file_in fs other
+made_other fs name other apart = by (file_in fs name) refl
+  where
+    by : (found : Option (List ℕ)) → file_in fs name ≡ found → file_in (made_in fs name) other ≡ file_in fs other
+    by None none = rw none (file_in-other fs name [] other apart)
+    by (Some bytes) there = rw there refl
+
+pub put_other : (fs : List NamedFile) (name bytes other : List ℕ) → bytes_eq name other ≡ false → file_in (with_bytes (file_in fs name) fs name bytes) other ≡ file_in fs other
+put_other fs name bytes other apart = by (file_in fs name)
+  where
+    by : (found : Option (List ℕ)) → file_in (with_bytes found fs name bytes) other ≡ file_in fs other
+    by None = refl
+    by (Some old) = file_in-other fs name bytes other apart
+
+-- the log stands as before the tail's file was made
+log_stays : (names : FileNames) (told now : Option (List NamedFile)) (log : Option (List ℕ)) → now ≡ option_map (λ fs. made_in fs (file_name names files.Tail)) told
+    → IsFileAt now (file_name names files.Log) log → IsFileAt told (file_name names files.Log) log
+log_stays names None now log is at = tt
+log_stays names (Some fs) now log is at =
+    sym (made_other fs (file_name names files.Tail) (file_name names files.Log) (tail_apart names))
+    ∙ subst (λ (t : Option (List NamedFile)). IsFileAt t (file_name names files.Log) log) is at
+
+-- a tail's file that was made and taken back is all that may have changed
+pub changes_back : (told now last : Option (List NamedFile)) (name : List ℕ) (stored : Option (List ℕ)) → now ≡ option_map (λ fs. made_in fs name) told → TakesFile name stored now last
+    → ChangesFile told last name
+changes_back None now last name stored is back = tt
+changes_back (Some fs) now last name stored is back = by stored (subst (λ (t : Option (List NamedFile)). TakesFile name stored t last) is back)
+  where
+    by : (stored : Option (List ℕ)) → TakesFile name stored (Some (made_in fs name)) last → ChangesFile (Some fs) last name
+    by None same = subst (λ (t : Option (List NamedFile)). ChangesFile (Some fs) t name) (sym same) (λ other apart. made_other fs name other apart)
+    by (Some bytes) same =
+        subst (λ (t : Option (List NamedFile)). ChangesFile (Some fs) t name) (sym same)
+        (λ other apart. put_other (made_in fs name) name bytes other apart ∙ made_other fs name other apart)
+
+pub changes_same : (told now : Option (List NamedFile)) (name : List ℕ) → now ≡ told → ChangesFile told now name
+changes_same None now name same = tt
+changes_same (Some fs) now name same = subst (λ (t : Option (List NamedFile)). ChangesFile (Some fs) t name) (sym same) (λ other apart. refl)
+
+-- a file that is handed out has no more bytes than a file may have
+pub within_file : (told now : Option (List NamedFile)) (name : List ℕ) (stored : Option (List ℕ)) → now ≡ option_map (λ fs. made_in fs name) told → IsAppendedTo told name stored
+    → IfSome now (λ fs. IfSome stored (λ bytes. length bytes ≤ MAX_FILE))
+within_file None now name stored made is = subst (λ (t : Option (List NamedFile)). IfSome t (λ fs. IfSome stored (λ bytes. length bytes ≤ MAX_FILE))) (sym made) tt
+within_file (Some fs) now name stored made is = subst (λ (t : Option (List NamedFile)). IfSome t (λ fs. IfSome stored (λ bytes. length bytes ≤ MAX_FILE))) (sym made) (by stored is)
+  where
+    by : (stored : Option (List ℕ)) → IsAppendedTo (Some fs) name stored → IfSome stored (λ bytes. length bytes ≤ MAX_FILE)
+    by None is = tt
+    by (Some bytes) is = is.1
+
+-- ---- all files
+
+module _ {X : Type 0} (view : X → OrderModel) (len : X → ℕ) (told : Option (List NamedFile)) (names : FileNames) where
+  pub genesis_fails : (c0 c1 : ℕ) (fault : Fault) (r : Result X Fault) → r ≡ Err fault → IsFileFault genesis_file told c0 c1 names files.Genesis fault → FindsOrder view len told names c0 c1 r
+  genesis_fails c0 c1 fault r is why =
+      let log = there told (file_name names files.Log) in
+      let tail = there told (file_name names files.Tail) in
+      let (content, at, tells) =
+      reads_none genesis_file view told c0 c1 names files.Genesis (λ (g : Genesis). tail_in tail >>= λ t. logged g log >>= λ order. with_tail order t) fault r is why in (
+        record { genesis = content; log = log; tail = tail },
+        record { genesis = at; log = is_there told (file_name names files.Log); tail = is_there told (file_name names files.Tail) },
+        tells,
+        no_ok r fault (λ (it : X). HasLogged (record { genesis = content; log = log; tail = tail }) (len it)) is,
+      )
+
+  pub taking_fails : (c0 c1 : ℕ) (g : Genesis) (fault : Fault) (r : Result X Fault) → r ≡ Err fault → IsAppendingFault told c0 c1 names files.Tail fault
+      → FindsOrderBehind view len told names g c0 c1 r
+  taking_fails c0 c1 g fault r is why =
+      let (tail, tail_at, tells) = by fault why in (
+        log,
+        tail,
+        is_there told (file_name names files.Log),
+        tail_at,
+        subst (λ (o : Result X Fault). AnswersUnlessOutside view (Rose c0 c1) o (order_behind g log tail)) (sym is) tells,
+        no_ok r fault (λ (it : X). (order : OrderModel) × (logged g log ≡ Ok order) × (length order.entries ≡ len it)) is,
+      )
+    where
+      log : Option (List ℕ)
+      log = there told (file_name names files.Log)
+
+      name : List ℕ
+      name = file_name names files.Tail
+
+      by : (fault : Fault) → IsAppendingFault told c0 c1 names files.Tail fault
+          → (tail : Option (List ℕ)) × IsFileAt told name tail × AnswersUnlessOutside view (Rose c0 c1) (Err fault) (order_behind g log tail)
+      by faults.Memory why = (there told name, is_there told name, tt)
+      by faults.Outside why = (there told name, is_there told name, why)
+      by (faults.TooLong other) (same, len, (above, bytes, len_is, has)) = (
+        Some bytes,
+        has_at told name bytes has,
+        ap (λ x. x >>= λ t. logged g log >>= λ order. with_tail order t)
+            (said_long any_bytes files.Tail bytes (omega (arith, above, len_is)) ∙ ap (λ (f : File). Err (faults.TooLong f)) (sym same)),
+      )
+      by fault why = absurd why
+
+  -- the tail's file as the folder holds it
+  tail_at : (stored : Option (List ℕ)) (bytes : List ℕ) → IsAppendedTo told (file_name names files.Tail) stored → IsToldIn told stored bytes
+      → (tail : Option (List ℕ)) × IsFileAt told (file_name names files.Tail) tail × (or_empty tail ≡ bytes)
+  tail_at stored bytes is same = by told stored is same
+    where
+      by : (told : Option (List NamedFile)) (stored : Option (List ℕ)) → IsAppendedTo told (file_name names files.Tail) stored → IsToldIn told stored bytes
+          → (tail : Option (List ℕ)) × IsFileAt told (file_name names files.Tail) tail × (or_empty tail ≡ bytes)
+      by None stored is same = (Some bytes, tt, refl)
+      by (Some fs) None is same = absurd is
+      by (Some fs) (Some own) is same = (file_in fs (file_name names files.Tail), refl, sym is.0 ∙ same)
+
+  told_before : (told now : Option (List NamedFile)) (stored : Option (List ℕ)) (bytes : List ℕ) → now ≡ option_map (λ fs. made_in fs (file_name names files.Tail)) told
+      → IsToldIn now stored bytes → IsToldIn told stored bytes
+  told_before None now stored bytes made same = tt
+  told_before (Some fs) now stored bytes made same = subst (λ (t : Option (List NamedFile)). IsToldIn t stored bytes) made same
+
+  -- the bytes of a tail, as the folder holds its file
+  behind_tail : (g : Genesis) (log tail : Option (List ℕ)) (bytes : List ℕ) → or_empty tail ≡ bytes
+      → order_behind g log tail ≡ (bytes_in files.Tail (Some bytes) >>= λ t. logged g log >>= λ order. with_tail order t)
+  behind_tail g log tail bytes is = ap (λ (b : List ℕ). bytes_in files.Tail (Some b) >>= λ t. logged g log >>= λ order. with_tail order t) is
+
+  -- the order was found
+  pub order_found : {Y D : Type 0} (it : Y) (own : Y → OrderModel) (logs : Y → ℕ) (x : X) (now : Option (List NamedFile)) (stored : Option (List ℕ)) (before after : ℕ) (file_told : D → AppendTold) (g : Genesis)
+      (c0 c1 : ℕ) → own it ≡ view x → logs it ≡ len x → now ≡ option_map (λ fs. made_in fs (file_name names files.Tail)) told → IsAppendedTo told (file_name names files.Tail) stored
+      → FindsBehind {D = D} own logs now (file_name names files.Log) stored before after file_told g (Ok it) → FindsOrderBehind view len told names g c0 c1 (Ok x)
+  order_found it own logs x now stored before after file_told g c0 c1 order_is len_is made is (log, log_at, bytes, same, tells, (order, logged_is, size)) =
+      let (tail, at, bytes_are) = tail_at stored bytes is (told_before told now stored bytes made same) in (
+        log,
+        tail,
+        log_stays names told now log made log_at,
+        at,
+        behind_tail g log tail bytes bytes_are ∙ tells ∙ ap Ok order_is,
+        (order, logged_is, size ∙ len_is),
+      )
+
+  -- why there is none
+  pub order_fails : {Y D : Type 0} (own : Y → OrderModel) (logs : Y → ℕ) (fault : Fault) (file : D) (now : Option (List NamedFile)) (stored : Option (List ℕ)) (before after : ℕ) (file_told : D → AppendTold)
+      (g : Genesis) (c0 c1 : ℕ) → (Rose before after ⊎ (0 < (file_told file).faults) → Rose c0 c1) → now ≡ option_map (λ fs. made_in fs (file_name names files.Tail)) told
+      → IsAppendedTo told (file_name names files.Tail) stored → FindsBehind {X = Y} own logs now (file_name names files.Log) stored before after file_told g (Err (fault, file))
+      → FindsOrderBehind view len told names g c0 c1 (Err fault)
+  order_fails own logs fault file now stored before after file_told g c0 c1 rose made is (log, log_at, bytes, same, tells, none) =
+      let (tail, at, bytes_are) = tail_at stored bytes is (told_before told now stored bytes made same) in (
+        log,
+        tail,
+        log_stays names told now log made log_at,
+        at,
+        subst (AnswersUnlessOutside view (Rose c0 c1) (Err fault)) (sym (behind_tail g log tail bytes bytes_are)) (by fault _ tells),
+        tt,
+      )
+    where
+      by : (fault : Fault) (r : Result OrderModel Fault) → AnswersUnlessOutside own (Rose before after ⊎ (0 < (file_told file).faults)) (Err fault) r
+          → AnswersUnlessOutside view (Rose c0 c1) (Err fault) r
+      by faults.Memory r told = tt
+      by faults.Outside r told = rose told
+      by fault r told = told
+
+  -- how many entries are in the log alone
+  pub has_logged : (gc log tail : Option (List ℕ)) (g : Genesis) (r : Result X Fault) → genesis_in gc ≡ Ok g
+      → IfOk r (λ it. (order : OrderModel) × (logged g log ≡ Ok order) × (length order.entries ≡ len it))
+      → IfOk r (λ it. HasLogged (record { genesis = gc; log = log; tail = tail }) (len it))
+  has_logged gc log tail g (Ok it) g_is (order, is, size) = (order, ap (λ (x : Result Genesis Fault). x >>= λ h. logged h log) g_is ∙ is, size)
+  has_logged gc log tail g (Err fault) g_is none = tt
+
+  -- what is found behind the genesis that the files have
+  pub order_of_genesis : (now : Option (List NamedFile)) (c0 c1 c2 : ℕ) (g : Genesis) (r : Result X Fault) → now ≡ told → c0 ≤ c1
+      → SaysFile genesis_file told (file_name names files.Genesis) g → FindsOrderBehind view len now names g c1 c2 r → FindsOrder view len told names c0 c2 r
+  order_of_genesis now c0 c1 c2 g r same low says_g found =
+      let (log, tail, log_at, tail_at, tells, has) = subst (λ (t : Option (List NamedFile)). FindsOrderBehind view len t names g c1 c2 r) same found in
+      let (gc, g_at, g_is) = says genesis_file told (file_name names files.Genesis) files.Genesis g says_g in (
+        record { genesis = gc; log = log; tail = tail },
+        record { genesis = g_at; log = log_at; tail = tail_at },
+        tells_behind view (Rose c0 c2) r (genesis_in gc) g (λ (h : Genesis). order_behind h log tail) g_is (tells_later view c0 c1 c2 r (order_behind g log tail) low tells),
+        has_logged gc log tail g r g_is has,
+      )
+
+-- a count rose before a file was taken back, or the file's did
+pub rose_back : (c0 c2 c3 f c4 : ℕ) → c0 ≤ c2 → c2 ≤ c3 → count_of_both c3 f ≤ c4 → Rose c2 c3 ⊎ (0 < f) → Rose c0 c4
+rose_back c0 c2 c3 f c4 low mid high (inl rose) = omega (arith, low, mid, high, rose)
+rose_back c0 c2 c3 f c4 low mid high (inr rose) = omega (arith, low, mid, high, rose)

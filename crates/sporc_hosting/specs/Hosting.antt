@@ -13,10 +13,10 @@ use Rattle.sporc_files.specs.declared.fault.Fault.{Fault}
 use Rattle.sporc_files.specs.declared.file.File.TheVariants as files
 use Rattle.sporc_files.specs.Names.{file_name, names_of_document}
 use Rattle.sporc_files.specs.Faults.{AnswersUnlessOutside, first_fault}
-use Rattle.sporc_commands.specs.Moments.{ChangesFolderAlone, Moment, at_end}
-use Rattle.sporc_commands.specs.Rounds.{GoRounds, IsRoundOf, Round, Standing}
-use Rattle.sporc_commands.specs.Serving.{HasLogged, ServedFiles}
-use Rattle.sporc_commands.specs.Tails.{GivesBack, KeepsBehind, LogTailModel, after_last}
+use Rattle.sporc_hosting.specs.Moments.{ChangesFolderAlone, Moment, at_end}
+use Rattle.sporc_hosting.specs.Rounds.{GoRounds, IsRoundOf, Round, Standing}
+use Rattle.sporc_hosting.specs.Serving.{HasLogged, ServedFiles}
+use Rattle.sporc_hosting.specs.Tails.{GivesBack, KeepsBehind, LogTailModel, after_last}
 use Rattle.sporc_hosting.specs.Loading.{AreFilesOfAll, ChangesTails, orders_in}
 use Rattle.sporc_hosting.specs.OpenLogModel.{OpenLogModel}
 use Rattle.sporc_hosting.specs.Loading.{with_tails_made}

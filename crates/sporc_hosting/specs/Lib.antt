@@ -1,3 +1,9 @@
+pub mod Serving
+pub mod Moments
+pub mod Tails
+pub mod Opening
+pub mod Rounds
+pub mod Outcomes
 pub mod OpenLogModel
 pub mod Loading
 pub mod Saving

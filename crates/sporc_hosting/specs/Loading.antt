@@ -22,10 +22,10 @@ use Rattle.sporc_files.specs.declared.fault.Fault.TheVariants as faults
 use Rattle.sporc_files.specs.declared.file.File.TheVariants as files
 use Rattle.sporc_files.specs.Faults.{AnswersUnlessOutside, fault_among}
 use Rattle.sporc_files.specs.Names.{FileNames, file_name, names_of_document}
-use Rattle.sporc_commands.specs.Contents.{AnswersOfFile, genesis_in}
-use Rattle.sporc_commands.specs.Serving.{AreServedFiles, HasLogged, ServedFiles, log_in, logged}
-use Rattle.sporc_commands.specs.Serving.{order_in}
-use Rattle.sporc_commands.specs.Tails.{KeepsBehind, LogTailModel}
+use Rattle.sporc_files.specs.Contents.{AnswersOfFile, genesis_in}
+use Rattle.sporc_hosting.specs.Serving.{AreServedFiles, HasLogged, ServedFiles, log_in, logged}
+use Rattle.sporc_hosting.specs.Serving.{order_in}
+use Rattle.sporc_hosting.specs.Tails.{KeepsBehind, LogTailModel}
 use Rattle.sporc_hosting.specs.OpenLogModel.{OpenLogModel}
 use Rattle.sporc_hosting.specs.declared.loading.OpenDocs.{OpenDocs}
 

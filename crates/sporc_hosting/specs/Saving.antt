@@ -6,8 +6,8 @@ use Rattle.sporc_files.specs.declared.fault.Fault.{Fault}
 use Rattle.sporc_files.specs.declared.file.File.TheVariants as files
 use Rattle.sporc_files.specs.Faults.{first_fault}
 use Rattle.sporc_files.specs.Names.{file_name, names_of_document}
-use Rattle.sporc_commands.specs.Moments.{IsBehind, Moment, folder_between, sink_between}
-use Rattle.sporc_commands.specs.Outcomes.{KeepsLog}
+use Rattle.sporc_hosting.specs.Moments.{IsBehind, Moment, folder_between, sink_between}
+use Rattle.sporc_hosting.specs.Outcomes.{KeepsLog}
 
 -- the logs' names
 abbrev pub logs_of : List (List ℕ) → List (List ℕ)

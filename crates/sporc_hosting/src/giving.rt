@@ -3,11 +3,12 @@
 ghost use Rattle.std.specs.Prelude.{◌≡◌, ◌≤◌, ◌++◌, List, length};
 ghost use Rattle.sporc_outside.specs.Uses.{use_of};
 ghost use Rattle.sporc_docs.specs.Served.{AreKept};
-ghost use Rattle.sporc_commands.specs.Tails.{GivesBack, KeepsBehind, LogTailModel};
+ghost use Rattle.sporc_hosting.specs.Tails.{GivesBack, KeepsBehind, LogTailModel};
 ghost use Rattle.sporc_hosting.specs.Hosting.{GivesAllBack};
 
 use crate::open_log::OpenLog;
-use sporc_commands::{LogTail, keep_tail, remove_tail};
+use crate::serving::{keep_tail, remove_tail};
+use crate::tail::LogTail;
 use sporc_files::{Fault, first_fault};
 use sporc_order::Order;
 use sporc_outside::{AppendFile, Folder};

@@ -5,17 +5,18 @@ ghost use Rattle.sporc_wire.specs.declared.limits.TheConstants.{MAX_DOCUMENTS, M
 ghost use Rattle.sporc_outside.specs.Uses.{use_of};
 ghost use Rattle.sporc_outside.specs.Nets.{AreShutBehind};
 ghost use Rattle.sporc_docs.specs.Served.{AreKept};
-ghost use Rattle.sporc_files.specs.Uses.{AsksOnly};
+ghost use Rattle.sporc_files.specs.Uses.{AsksAtMost, AsksOnly};
 ghost use Rattle.sporc_hosting.specs.Loading.{files_of_all};
-ghost use Rattle.sporc_commands.specs.Rounds.{AsksAgain};
-ghost use Rattle.sporc_commands.specs.Tails.{KeepsBehind};
+ghost use Rattle.sporc_hosting.specs.Tails.{KeepsBehind};
 ghost use Rattle.sporc_hosting.specs.Hosting.{GivesAllBack, ServeAllOutcome};
 
 use crate::giving::give_back_all;
 use crate::loading::{OpenDocs, open_documents};
 use crate::open_log::OpenLog;
-use crate::rounds::{DocumentNames, serve_rounds};
-use sporc_commands::{LogTail, Rounds, after_last};
+use crate::rounds::Rounds;
+use crate::rounds_of_all::{DocumentNames, serve_rounds};
+use crate::serving::after_last;
+use crate::tail::LogTail;
 use sporc_docs::{Docs, KeptDocs};
 use sporc_files::Fault;
 use sporc_outside::{AppendFile, Folder, Gate, Listen, Sink};
@@ -55,7 +56,7 @@ where
     ensures files_may_ask { AsksOnly (files_of_all asked.now.names) (F.told files.old).asked
         (F.told files.new).asked }
     ensures files_kept { (F.told files.old).faults ≤ (F.told files.new).faults }
-    ensures net_may_ask { AsksAgain asked.now.times (N.told net.old).asked (N.told net.new).asked
+    ensures net_may_ask { AsksAtMost asked.now.times (N.told net.old).asked (N.told net.new).asked
         asked.now.address }
     ensures shut { AreShutBehind (N.told net.old).returned (N.told net.new).returned }
     ensures links_out { (N.told net.new).out ≡ (N.told net.old).out }

@@ -11,15 +11,17 @@ ghost use Rattle.sporc_docs.specs.declared.fault.DocsFault.TheVariants as docs_f
 ghost use Rattle.sporc_files.specs.Names.{file_name};
 ghost use Rattle.sporc_files.specs.Uses.{AsksOnly};
 ghost use Rattle.sporc_files.specs.Faults.{AnswersUnlessOutside};
-ghost use Rattle.sporc_commands.specs.Tails.{KeepsBehind, TakesTail};
+ghost use Rattle.sporc_hosting.specs.Tails.{KeepsBehind, TakesTail};
 ghost use Rattle.sporc_hosting.specs.Loading.{ChangesTails, FindsHeld, FindsUnlessHeld};
 ghost use Rattle.sporc_hosting.specs.Loading.{OpensMoreBehind, OpensOneBehind, added, files_of_all};
 ghost use Rattle.sporc_hosting.specs.Loading.{fault_of_adding, files_of_one, is_held, opened_to};
 ghost use Rattle.sporc_hosting.specs.Loading.{with_tail_made, with_tails_made};
 
+use crate::log::read_log;
 use crate::open_log::OpenLog;
+use crate::opening::{OpenedOrder, open_order_behind};
+use crate::tail::LogTail;
 use sporc_base::{Memory, is_same};
-use sporc_commands::{LogTail, OpenedOrder, open_order_behind, read_log};
 use sporc_docs::{Docs, DocsFault};
 use sporc_entry::Genesis;
 use sporc_files::{Fault, File, Names, read_genesis_file};

@@ -4,12 +4,12 @@ ghost use Rattle.std.specs.Prelude.{◌≡◌, ◌≤◌, [], ◌∷◌, length,
 ghost use Rattle.sporc_outside.specs.Uses.{use_of};
 ghost use Rattle.sporc_files.specs.Names.{file_name, names_of_document};
 ghost use Rattle.sporc_files.specs.Uses.{AsksOnly};
-ghost use Rattle.sporc_commands.specs.Outcomes.{KeepsLog};
-ghost use Rattle.sporc_commands.specs.Moments.{moment_of};
+ghost use Rattle.sporc_hosting.specs.Outcomes.{KeepsLog};
+ghost use Rattle.sporc_hosting.specs.Moments.{moment_of};
 ghost use Rattle.sporc_hosting.specs.Saving.{KeepsLogs, document_line, logs_of};
 
+use crate::log::save_log;
 use sporc_base::Memory;
-use sporc_commands::save_log;
 use sporc_files::{Fault, File, Names, first_fault};
 use sporc_order::Order;
 use sporc_outside::{Folder, Sink};

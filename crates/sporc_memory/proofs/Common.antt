@@ -12,7 +12,6 @@ pub use Rattle.sporc_outside.specs.Files.{file_in, made_in, with_bytes, with_fil
 pub use Rattle.sporc_outside.specs.LeafDisk.{CrashStep, IsSame, IsSameOutside, overwrite}
 pub use Rattle.sporc_memory.specs.CallsModel.{CallsModel}
 pub use Rattle.sporc_memory.specs.MemoryAppendFile.{AppendState, IsImage, IsLoose, Loose, listed_of, some_images, three_of}
-pub use Rattle.sporc_memory.specs.MemoryDisk.{DiskState, IsSpoilt, IsUnsynced, MemoryDiskModel, after_call, bytes_of, state_after}
+pub use Rattle.sporc_memory.specs.MemoryDisk.{DiskState, IsSpoilt, IsUnsynced, MemoryDiskModel, bytes_of, state_after}
 pub use Rattle.sporc_memory.specs.MemoryNetModel.{AreFresh, IsFresh, MemoryNetModel}
-pub use Rattle.sporc_memory.specs.declared.append_call.AppendCall.{AppendCall}
-pub use Rattle.sporc_memory.specs.declared.disk_call.DiskCall.{DiskCall}
+pub use Rattle.sporc_memory.specs.declared.logged.Call.{Call}

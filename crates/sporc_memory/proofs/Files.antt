@@ -77,6 +77,12 @@ pub each_written : (files more : List NamedFile) (names : List (List ℕ)) (name
 each_written files more names name bytes is h =
     subst (λ (fs : List NamedFile). HasEach fs names) (sym is) (HasEach-with_file files names name bytes h)
 
+-- and once one was, if a call succeeded
+pub each_if_written : {T E : Type 0} (files more : List NamedFile) (names : List (List ℕ)) (name bytes : List ℕ) (result : Result T E)
+    → OnOk result (more ≡ with_file files name bytes) → OnErr result (more ≡ files) → HasEach files names → HasEach more names
+each_if_written files more names name bytes (Ok x) is same h = each_written files more names name bytes is h
+each_if_written files more names name bytes (Err e) is same h = subst (λ (fs : List NamedFile). HasEach fs names) (sym same) h
+
 -- and once the last one's file was
 pub each_left : (files more : List NamedFile) (names rest last : List (List ℕ)) (name bytes : List ℕ) → names ≡ rest ++ last
     → more ≡ with_file files name bytes → HasEach files names → HasEach more rest

@@ -1,6 +1,8 @@
--- A loop that puts one byte at each place that is in one of some ranges.
-use Rattle.std.proofs.Common.{◌≡◌, ◌⊎◌, ℕ, ◌+◌, ◌<◌, ◌≤◌, inl, inr, List, length, slice_index, set, length-set, subst, sym, ◌∙◌, arith, get_or-set_same, get_or-set_other}
-use Rattle.sporc_memory.proofs.Common.{eq-or-lt_of_le, IsUnsynced}
+-- A loop that puts one byte at each place that is in one of some ranges, and the images that are
+-- listed so.
+use Rattle.std.proofs.Common.{◌≡◌, ◌⊎◌, ℕ, ◌+◌, ◌<◌, ◌≤◌, inl, inr, List, [], ◌∷◌, ◌++◌, length, slice_index, set, length-set, ap, subst, sym, ◌∙◌, arith, get_or-set_same, get_or-set_other}
+use Rattle.sporc_memory.proofs.Common.{eq-or-lt_of_le, DiskState, IsUnsynced}
+use Rattle.sporc_memory.specs.MemoryDisk.{AddsSpoilt, AreListed}
 
 -- so far, as of these bytes
 pub record SpoiltTo (ranges : List (ℕ × ℕ)) (byte : ℕ) (at : ℕ) (old image : List ℕ) : Type 0 where
@@ -37,3 +39,12 @@ leaves_one ranges byte at old image synced before = record {
   at_or_before : (i : ℕ) → IsUnsynced ranges i → (i ≡ at) ⊎ (i < at) → slice_index image i ≡ byte
   at_or_before i unsynced (inl same) = absurd (synced (subst (IsUnsynced ranges) same unsynced))
   at_or_before i unsynced (inr lt) = before.spoilt i lt unsynced
+
+-- four that are listed one behind the other
+pub four_listed : (s : DiskState) (a b c d : List (List ℕ)) (same : List ℕ) → a ≡ same ∷ [] → same ≡ s.bytes
+    → AddsSpoilt s 0 a b → AddsSpoilt s 1 b c → AddsSpoilt s 255 c d → AreListed s d
+four_listed s a b c d same first is zeros ones highest =
+    let add : List ℕ → List (List ℕ) → List (List ℕ) = λ image images. images ++ image ∷ [] in
+    let four : d ≡ same ∷ zeros.image ∷ ones.image ∷ highest.image ∷ [] =
+    highest.behind ∙ ap (add highest.image) (ones.behind ∙ ap (add ones.image) (zeros.behind ∙ ap (add zeros.image) first)) in
+    subst (AreListed s) (sym four) (is, zeros.spoilt, ones.spoilt, highest.spoilt)

@@ -1,4 +1,5 @@
 pub mod CallsModel
+pub mod Logged
 pub mod MemoryLinkModel
 pub mod MemoryNetModel
 pub mod ListedChanceModel

@@ -1,21 +1,21 @@
 -- A file that is appended to, in memory, as its log tells it: what a read gives and what a crash
 -- may leave, after any of its calls.
-use Rattle.std.specs.Prelude.{◌≡◌, ◌⊎◌, ℕ, Bool, List, [], ◌∷◌, ◌++◌, ◌/◌, length, take, fold}
-use Rattle.std.specs.Prelude.{if◌then◌else◌, true, false, Result, Ok, Err, Some, refl}
-use Rattle.std.proofs.Common.{subst, sym, inl}
-use Rattle.std.proofs.Math.Seq.{take-length}
+use Rattle.std.specs.Prelude.{◌≡◌, ◌⊎◌, ℕ, Bool, List, [], ◌∷◌, ◌++◌, ◌/◌, length, take, Some, refl}
+use Rattle.std.specs.Prelude.{if◌then◌else◌}
+use Rattle.std.proofs.Common.{inl}
 use Rattle.sporc_outside.specs.AppendFile.{AppendTold}
 use Rattle.sporc_memory.specs.CallsModel.{CallsModel, calls_failing}
-use Rattle.sporc_memory.specs.declared.append_call.AppendCall.{AppendCall}
-use Rattle.sporc_memory.specs.declared.append_call.AppendRequest.{AppendRequest}
-use Rattle.sporc_memory.specs.declared.append_call.AppendRequest.TheVariants.{Read, Append, Cut}
-use Rattle.sporc_memory.specs.declared.append_call.AppendRequest.TheVariants.{Sync}
+use Rattle.sporc_memory.specs.Logged as logged
+use Rattle.sporc_memory.specs.Logged.{State, after_calls, images_after}
+use Rattle.sporc_memory.specs.declared.logged.Call.{Call}
+use Rattle.sporc_memory.specs.declared.requests.AppendRequest.{AppendRequest}
+use Rattle.sporc_memory.specs.declared.requests.AppendRequest.TheVariants.{Read, Append, Cut, Sync}
 
 -- its name, what it held at first, its calls since, and which of them are to fail
 pub record MemoryAppendFileModel : Type 0 where
   pub name : List ℕ
   pub first : List ℕ
-  pub log : List AppendCall
+  pub log : List (Call AppendRequest)
   pub calls : CallsModel
 
 -- a file of this name with these bytes, of which these calls are to fail
@@ -31,10 +31,9 @@ pub record Loose : Type 0 where
 abbrev pub loose : List ℕ → List ℕ → Loose
 loose bytes behind = record { bytes = bytes; behind = behind }
 
--- what a read gives, and what else a crash may leave since the last sync that succeeded
-pub record AppendState : Type 0 where
-  pub bytes : List ℕ
-  pub unsynced : List Loose
+-- of which parts are not synced, each with what a crash may leave of it
+abbrev pub AppendState : Type 0
+AppendState = State Loose
 
 -- the state after a request that succeeded or failed; an append or a cut that failed leaves what a
 -- read gives
@@ -50,9 +49,6 @@ after_request s done (Cut len) = record {
 after_request s done Sync = record s { unsynced = if done then [] else s.unsynced }
 after_request s done Read = s
 
-abbrev pub after_call : AppendState → AppendCall → AppendState
-after_call s call = after_request s call.done call.request
-
 -- a request that writes
 abbrev pub IsWrite : AppendRequest → Type 0
 IsWrite (Append bytes) = Unit {0}
@@ -60,16 +56,9 @@ IsWrite (Cut len) = Unit {0}
 IsWrite Read = ⊥
 IsWrite Sync = ⊥
 
--- the log after a call that returned this; a call that failed may be missing in it
-abbrev pub LogsCall : {T E : Type 0} → List AppendCall → List AppendCall → AppendRequest
-    → Result T E → Type 0
-LogsCall old new request (Ok _) = new ≡ old ++ record { request = request; done = true } ∷ []
-LogsCall old new request (Err _) =
-    (new ≡ old ++ record { request = request; done = false } ∷ []) ⊎ (new ≡ old)
-
 -- the state after these calls on a file of these bytes
-abbrev pub state_after : List ℕ → List AppendCall → AppendState
-state_after first log = fold after_call (record { bytes = first; unsynced = [] }) log
+abbrev pub state_after : List ℕ → List (Call AppendRequest) → AppendState
+state_after first log = after_calls after_request first log
 
 -- what a read of the file gives
 abbrev pub bytes_of : MemoryAppendFileModel → List ℕ
@@ -87,7 +76,7 @@ IsImage s image = (image ≡ s.bytes) ⊎ IsLoose s.unsynced image
 
 -- what a crash after the first m calls may leave
 abbrev pub images_of : MemoryAppendFileModel → ℕ → List ℕ → Type 0
-images_of file m image = IsImage (state_after file.first (take m file.log)) image
+images_of file m image = images_after after_request IsImage file.first file.log m image
 
 abbrev pub file_told : MemoryAppendFileModel → AppendTold
 file_told file = record {
@@ -118,6 +107,4 @@ some_images s = listed_of s.unsynced ++ s.bytes ∷ []
 pub bytes_are_image : (file : MemoryAppendFileModel)
     → images_of file (length file.log) (bytes_of file)
 bytes_are_image file =
-    let P : List AppendCall → Type 0 =
-    λ log. IsImage (state_after file.first log) (bytes_of file) in
-    subst P (sym (take-length file.log)) (inl refl)
+    logged.bytes_are_image after_request IsImage (λ s. inl refl) file.first file.log

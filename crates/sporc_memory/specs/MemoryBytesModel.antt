@@ -1,3 +1,4 @@
+-- What contracts see of a source and of a sink in memory.
 use Rattle.std.specs.Prelude.{ℕ, List}
 use Rattle.sporc_memory.specs.CallsModel.{CallsModel}
 

@@ -1,31 +1,29 @@
 -- A disk in memory as its log tells it: what a read gives and what a crash may leave, after any of
 -- its calls.
-use Rattle.std.specs.Prelude.{◌≡◌, ◌⊎◌, ℕ, ◌+◌, ◌<◌, ◌≤◌, Bool, true, false, List, [], ◌∷◌, ◌++◌}
-use Rattle.std.specs.Prelude.{length, take, fold, slice_index, if◌then◌else◌, Result, Ok, Err, Some}
-use Rattle.std.specs.Prelude.{refl}
-use Rattle.std.proofs.Common.{subst, sym, inr}
-use Rattle.std.proofs.Math.Seq.{take-length}
+use Rattle.std.specs.Prelude.{◌≡◌, ◌⊎◌, ℕ, ◌+◌, ◌<◌, ◌≤◌, Bool, List, [], ◌∷◌, ◌++◌}
+use Rattle.std.specs.Prelude.{length, slice_index, if◌then◌else◌, Some, refl}
+use Rattle.std.proofs.Common.{inr}
 use Rattle.sporc_memory.specs.CallsModel.{CallsModel, calls_failing}
+use Rattle.sporc_memory.specs.Logged as logged
+use Rattle.sporc_memory.specs.Logged.{State, after_calls, images_after}
 use Rattle.sporc_outside.specs.LeafDisk.{DiskTold, overwrite}
-use Rattle.sporc_memory.specs.declared.disk_call.DiskCall.{DiskCall}
-use Rattle.sporc_memory.specs.declared.disk_call.DiskRequest.{DiskRequest}
-use Rattle.sporc_memory.specs.declared.disk_call.DiskRequest.TheVariants.{Len, Read, Write, Sync}
+use Rattle.sporc_memory.specs.declared.logged.Call.{Call}
+use Rattle.sporc_memory.specs.declared.requests.DiskRequest.{DiskRequest}
+use Rattle.sporc_memory.specs.declared.requests.DiskRequest.TheVariants.{Len, Read, Write, Sync}
 
 -- what it held at first, its calls since, and which of them are to fail
 pub record MemoryDiskModel : Type 0 where
   pub first : List ℕ
-  pub log : List DiskCall
+  pub log : List (Call DiskRequest)
   pub calls : CallsModel
 
 -- a disk with these bytes, all of them synced, of which these calls are to fail
 abbrev pub disk_over : List ℕ → List ℕ → MemoryDiskModel
 disk_over bytes failing = record { first = bytes; log = []; calls = calls_failing failing }
 
--- what a read gives, and the ranges (from, length) that were written since the last sync that
--- succeeded
-pub record DiskState : Type 0 where
-  pub bytes : List ℕ
-  pub unsynced : List (ℕ × ℕ)
+-- of which the ranges (from, length) are not synced
+abbrev pub DiskState : Type 0
+DiskState = State (ℕ × ℕ)
 
 -- the state after a request that succeeded or failed; a write that failed leaves what a read gives
 abbrev pub after_request : DiskState → Bool → DiskRequest → DiskState
@@ -37,9 +35,6 @@ after_request s done Sync = record s { unsynced = if done then [] else s.unsynce
 after_request s done Len = s
 after_request s done (Read at len) = s
 
-abbrev pub after_call : DiskState → DiskCall → DiskState
-after_call s call = after_request s call.done call.request
-
 -- a request that writes
 abbrev pub IsWrite : DiskRequest → Type 0
 IsWrite (Write at bytes) = Unit {0}
@@ -47,16 +42,9 @@ IsWrite Len = ⊥
 IsWrite (Read at len) = ⊥
 IsWrite Sync = ⊥
 
--- the log after a call that returned this; a call that failed may be missing in it
-abbrev pub LogsCall : {T E : Type 0} → List DiskCall → List DiskCall → DiskRequest
-    → Result T E → Type 0
-LogsCall old new request (Ok _) = new ≡ old ++ record { request = request; done = true } ∷ []
-LogsCall old new request (Err _) =
-    (new ≡ old ++ record { request = request; done = false } ∷ []) ⊎ (new ≡ old)
-
 -- the state after these calls on a disk of these bytes
-abbrev pub state_after : List ℕ → List DiskCall → DiskState
-state_after first log = fold after_call (record { bytes = first; unsynced = [] }) log
+abbrev pub state_after : List ℕ → List (Call DiskRequest) → DiskState
+state_after first log = after_calls after_request first log
 
 -- what a read of the disk gives
 abbrev pub bytes_of : MemoryDiskModel → List ℕ
@@ -79,6 +67,12 @@ pub record IsSpoilt (s : DiskState) (byte : ℕ) (image : List ℕ) : Type 0 whe
   pub spoilt : (i : ℕ) → i < length s.bytes → IsUnsynced s.unsynced i → slice_index image i ≡ byte
   pub others : (i : ℕ) → (IsUnsynced s.unsynced i → ⊥) → slice_index image i ≡ slice_index s.bytes i
 
+-- these images, and behind them what a read gives with this byte in the unsynced ranges
+pub record AddsSpoilt (s : DiskState) (byte : ℕ) (images more : List (List ℕ)) : Type 0 where
+  pub image : List ℕ
+  pub behind : more ≡ images ++ image ∷ []
+  pub spoilt : IsSpoilt s byte image
+
 -- four of the images: what a read gives, and that with the unsynced bytes as 0, as 1 and as 255
 abbrev pub AreListed : DiskState → List (List ℕ) → Type 0
 AreListed s (same ∷ zeros ∷ ones ∷ highest ∷ []) =
@@ -87,7 +81,7 @@ AreListed s others = ⊥
 
 -- what a crash after the first m calls may leave
 abbrev pub images_of : MemoryDiskModel → ℕ → List ℕ → Type 0
-images_of disk m image = IsImage (state_after disk.first (take m disk.log)) image
+images_of disk m image = images_after after_request IsImage disk.first disk.log m image
 
 abbrev pub disk_told : MemoryDiskModel → DiskTold
 disk_told disk = record {
@@ -98,10 +92,7 @@ disk_told disk = record {
 }
 
 -- what a read gives is an image
-image_itself : (s : DiskState) → IsImage s s.bytes
-image_itself s = record { length = refl; synced = λ i. inr refl }
-
 pub bytes_are_image : (disk : MemoryDiskModel) → images_of disk (length disk.log) (bytes_of disk)
 bytes_are_image disk =
-    let P : List DiskCall → Type 0 = λ log. IsImage (state_after disk.first log) (bytes_of disk) in
-    subst P (sym (take-length disk.log)) (image_itself (state_after disk.first disk.log))
+    logged.bytes_are_image after_request IsImage
+    (λ s. record { length = refl; synced = λ i. inr refl }) disk.first disk.log

@@ -60,9 +60,9 @@ impl Calls {
 
     /// Counts a fault of the call that is under way.
     pub fn fail(&mut self) -> Failed
-        ensures counted { self.new ≡ record self.old { faults = next_count self.old.faults } }
+        ensures value { self.new ≡ record self.old { faults = next_count self.old.faults } }
         ensures kept { self.old.faults ≤ self.new.faults }
-        ensures rose { Rose self.old.faults self.new.faults }
+        ensures count { Rose self.old.faults self.new.faults }
     {
         self.faults = self.faults.saturating_add(1);
         Failed
@@ -72,7 +72,7 @@ impl Calls {
     pub(crate) fn refuse(&mut self) -> Failed
         ensures failing { self.new.failing ≡ self.old.failing }
         ensures made { self.new.made ≡ next_count self.old.made }
-        ensures rose { Rose self.old.faults self.new.faults }
+        ensures count { Rose self.old.faults self.new.faults }
         ensures kept { self.old.faults ≤ self.new.faults }
     {
         match self.begin() {
@@ -83,7 +83,7 @@ impl Calls {
 
     /// Counts the faults of an object that was taken back.
     pub fn add_faults(&mut self, faults: u64)
-        ensures counted { self.new
+        ensures count { self.new
             ≡ record self.old { faults = count_of_both self.old.faults faults } }
     {
         self.faults = self.faults.saturating_add(faults);

@@ -18,11 +18,10 @@
 //! succeeds with ample memory. Neither: nothing else is claimed.
 #![tactic(auto)]
 
-mod append_call;
 mod asked;
 mod calls;
-mod disk_call;
 mod listed_chance;
+mod logged;
 mod memory_append_file;
 mod memory_disk;
 mod memory_folder;
@@ -33,11 +32,11 @@ mod memory_source;
 mod pipe;
 mod pipe_link;
 mod pipe_net;
+mod requests;
 
-pub use crate::append_call::{AppendCall, AppendRequest};
 pub use crate::calls::Calls;
-pub use crate::disk_call::{DiskCall, DiskRequest};
 pub use crate::listed_chance::ListedChance;
+pub use crate::logged::Call;
 pub use crate::memory_append_file::MemoryAppendFile;
 pub use crate::memory_disk::MemoryDisk;
 pub use crate::memory_folder::MemoryFolder;
@@ -47,3 +46,4 @@ pub use crate::memory_sink::MemorySink;
 pub use crate::memory_source::MemorySource;
 pub use crate::pipe_link::PipeLink;
 pub use crate::pipe_net::PipeNet;
+pub use crate::requests::{AppendCall, AppendRequest, DiskCall, DiskRequest};

@@ -1,6 +1,6 @@
 //! Files in memory that are appended to.
 
-ghost use Rattle.std.specs.Prelude.{◌≡◌, ◌+◌, ◌++◌, ◌<◌, ◌≤◌, ◌↔◌, ℕ, List, [], Some, length, map};
+ghost use Rattle.std.specs.Prelude.{◌≡◌, ◌+◌, ◌++◌, ◌∷◌, ◌<◌, ◌≤◌, ◌↔◌, ℕ, List, [], Some, length, map};
 ghost use Rattle.std.specs.Prelude.{take, vec_len, IfOk, IfErr, IfSome, IsTrue, OnOk, OnErr};
 ghost use Rattle.std.specs.List.{All};
 ghost use Rattle.std.specs.Vec.{vec_capacity};
@@ -8,14 +8,16 @@ ghost use Rattle.sporc_outside.specs.AppendFile.{GrowsBy, IsWholeFault, MayBeCut
 ghost use Rattle.sporc_memory.specs.CallsModel.{CountsCall};
 ghost use Rattle.sporc_outside.specs.Counts.{CountsFaults};
 ghost use Rattle.sporc_outside.specs.LeafDisk.{CrashStep, IsSame};
-ghost use Rattle.sporc_memory.specs.MemoryAppendFile.{AppendState, IsImage, LogsCall, after_call};
+ghost use Rattle.sporc_memory.specs.Logged.{LogsCall};
+ghost use Rattle.sporc_memory.specs.MemoryAppendFile.{AppendState, IsImage, after_request};
 ghost use Rattle.sporc_memory.specs.MemoryAppendFile.{listed_of, loose, some_images, state_after};
 ghost use Rattle.sporc_memory.specs.MemoryAppendFile.{three_of};
 ghost use Rattle.sporc_outside.specs.Told.{GoesTold};
 ghost use Rattle.sporc_outside.specs.declared.file_fault.TheConstants.{MAX_FILE};
 
-use crate::append_call::{AppendCall, AppendRequest};
 use crate::calls::Calls;
+use crate::logged::log_call;
+use crate::requests::{AppendCall, AppendRequest};
 use sporc_outside::{AppendFile, Counted, Failed, FileBytes, FileFault, MAX_FILE};
 use std::alloc::{AllocError, Global};
 use std::marker::Model;
@@ -252,7 +254,8 @@ fn list_call(
 ) -> Result<(), AllocError>
     ensures { (s : AppendState) → s.bytes ≡ bytes.now
         → map (λ image. image.items) images.old.items ≡ listed_of s.unsynced → OnOk result
-        (map (λ image. image.items) images.new.items ≡ listed_of (after_call s call.now).unsynced) }
+        (map (λ image. image.items) images.new.items
+        ≡ listed_of (after_request s call.now.done call.now.request).unsynced) }
 {
     match &call.request {
         AppendRequest::Append { bytes: more } => push_loose(alloc, images, bytes, more.as_slice()),
@@ -268,7 +271,8 @@ fn list_call(
 // Makes of bytes what a read gives after a call.
 fn change(call: &AppendCall, bytes: &mut Vec<u8>) -> Result<(), AllocError>
     ensures { (s : AppendState) → s.bytes ≡ bytes.old.items
-        → OnOk result (bytes.new.items ≡ (after_call s call.now).bytes) }
+        → OnOk result
+        (bytes.new.items ≡ (after_request s call.now.done call.now.request).bytes) }
 {
     match &call.request {
         AppendRequest::Append { bytes: more } if call.done => {
@@ -292,10 +296,9 @@ fn push_loose(
     ensures { OnOk result (map (λ image. image.items) images.new.items
         ≡ map (λ image. image.items) images.old.items ++ three_of (loose bytes.now behind.now)) }
 {
-    images.push(Vec::from_slice(alloc, bytes)?)?;
-    images.push(joined(alloc, bytes, &behind[..behind.len() / 2])?)?;
-    images.push(joined(alloc, bytes, behind)?)?;
-    Ok(())
+    push_joined(alloc, images, bytes, &[])?;
+    push_joined(alloc, images, bytes, &behind[..behind.len() / 2])?;
+    push_joined(alloc, images, bytes, behind)
 }
 
 // Lists the first so many bytes, and all.
@@ -315,13 +318,20 @@ fn push_cut(
     push_loose(alloc, images, bytes, &[])
 }
 
-// Bytes, and those behind them.
-fn joined(alloc: Global, bytes: &[u8], behind: &[u8]) -> Result<Vec<u8>, AllocError>
-    ensures { IfOk result (λ all. all.items ≡ bytes.now ++ behind.now) }
+// Lists bytes with those behind them.
+fn push_joined(
+    alloc: Global,
+    images: &mut Vec<Vec<u8>>,
+    bytes: &[u8],
+    behind: &[u8],
+) -> Result<(), AllocError>
+    ensures { OnOk result (map (λ image. image.items) images.new.items
+        ≡ map (λ image. image.items) images.old.items ++ (bytes.now ++ behind.now) ∷ []) }
 {
     let mut all = Vec::from_slice(alloc, bytes)?;
     all.extend_from_slice(behind)?;
-    Ok(all)
+    images.push(all)?;
+    Ok(())
 }
 
 // Whether so many more bytes stay within the limit of a file.
@@ -353,22 +363,4 @@ fn put_behind(bytes: &mut Vec<u8>, more: &[u8])
     ensures { bytes.new.items ≡ bytes.old.items ++ more.now }
 {
     let _ = bytes.extend_from_slice(more);
-}
-
-// Counts a call, and puts it at the end of the log.
-fn log_call(
-    calls: &mut Calls,
-    log: &mut Vec<AppendCall>,
-    request: AppendRequest,
-) -> Result<(), Failed>
-    ensures logged { LogsCall log.old.items log.new.items request result }
-    ensures call { CountsCall calls.old calls.new result }
-    ensures count { CountsFaults calls.old.faults calls.new.faults result }
-{
-    let answer = calls.begin();
-    let done = answer.is_ok();
-    let Ok(()) = log.push(AppendCall { request, done }) else {
-        return Err(calls.fail());
-    };
-    answer
 }

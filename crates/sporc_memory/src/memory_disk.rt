@@ -6,11 +6,13 @@ ghost use Rattle.sporc_memory.specs.CallsModel.{CountsCall};
 ghost use Rattle.sporc_outside.specs.LeafDisk.{overwrite, IsSame, IsSameOutside, KeepsOutside};
 ghost use Rattle.sporc_outside.specs.LeafDisk.{CrashStep};
 ghost use Rattle.sporc_outside.specs.Counts.{CountsFaults};
-ghost use Rattle.sporc_memory.specs.MemoryDisk.{DiskState, IsSpoilt, IsUnsynced, LogsCall};
-ghost use Rattle.sporc_memory.specs.MemoryDisk.{after_call, state_after};
+ghost use Rattle.sporc_memory.specs.Logged.{LogsCall};
+ghost use Rattle.sporc_memory.specs.MemoryDisk.{DiskState, IsSpoilt, IsUnsynced, after_request};
+ghost use Rattle.sporc_memory.specs.MemoryDisk.{state_after};
 
 use crate::calls::Calls;
-use crate::disk_call::{DiskCall, DiskRequest};
+use crate::logged::log_call;
+use crate::requests::{DiskCall, DiskRequest};
 use sporc_outside::{Counted, Failed, FileBytes, LeafDisk};
 use std::alloc::{AllocError, Global};
 use std::marker::Model;
@@ -40,7 +42,7 @@ impl Model for MemoryDisk {
 impl MemoryDisk {
     ghost use Rattle.std.specs.Prelude.{map};
     ghost use Rattle.sporc_memory.specs.MemoryDisk.{bytes_of, images_of, state_after, AreListed};
-    ghost use Rattle.sporc_memory.specs.MemoryDisk.{IsSpoilt, IsWrite};
+    ghost use Rattle.sporc_memory.specs.MemoryDisk.{AddsSpoilt, IsSpoilt, IsWrite};
 
     /// Holds these bytes, all of them synced. The listed calls fail.
     pub fn new(alloc: Global, bytes: Vec<u8>, calls: Calls) -> Result<MemoryDisk, AllocError>
@@ -86,11 +88,23 @@ impl MemoryDisk {
             (map (λ image. image.items) images.items)) }
     {
         let mut images = Vec::new(self.alloc);
-        images.push(Vec::from_slice(self.alloc, &self.bytes)?)?;
-        images.push(self.spoilt(0)?)?;
-        images.push(self.spoilt(1)?)?;
-        images.push(self.spoilt(255)?)?;
+        let same = Vec::from_slice(self.alloc, &self.bytes)?;
+        images.push(same)?;
+        self.push_spoilt(0, &mut images)?;
+        self.push_spoilt(1, &mut images)?;
+        self.push_spoilt(255, &mut images)?;
         Ok(images)
+    }
+
+    // Lists what a read gives with this byte in place of each that is not synced.
+    fn push_spoilt(&self, byte: u8, images: &mut Vec<Vec<u8>>) -> Result<(), AllocError>
+        ensures { OnOk result (AddsSpoilt (state_after self.now.first self.now.log) byte
+            (map (λ image. image.items) images.old.items)
+            (map (λ image. image.items) images.new.items)) }
+    {
+        let image = self.spoilt(byte)?;
+        images.push(image)?;
+        Ok(())
     }
 
     // What a read gives, with this byte in place of each that was written since the last sync that
@@ -244,7 +258,7 @@ fn is_unsynced(log: &[DiskCall], at: usize) -> bool
 // Whether the byte at a place was written and not synced, after one call more.
 fn is_unsynced_after(is_unsynced: bool, call: &DiskCall, at: usize) -> bool
     ensures { (s : DiskState) → IsTrue is_unsynced ↔ IsUnsynced s.unsynced at
-        → IsTrue result ↔ IsUnsynced (after_call s call.now).unsynced at }
+        → IsTrue result ↔ IsUnsynced (after_request s call.now.done call.now.request).unsynced at }
 {
     match &call.request {
         DiskRequest::Write { at: from, bytes } => is_unsynced || is_in(*from, bytes.as_slice(), at),
@@ -267,18 +281,4 @@ fn write_over(old: &mut Vec<u8>, at: usize, bytes: &[u8])
     ensures { old.new.items ≡ overwrite old.old.items at bytes.now }
 {
     old[at..at + bytes.len()].copy_from_slice(bytes);
-}
-
-// Counts a call, and puts it at the end of the log.
-fn log_call(calls: &mut Calls, log: &mut Vec<DiskCall>, request: DiskRequest) -> Result<(), Failed>
-    ensures logged { LogsCall log.old.items log.new.items request result }
-    ensures call { CountsCall calls.old calls.new result }
-    ensures count { CountsFaults calls.old.faults calls.new.faults result }
-{
-    let answer = calls.begin();
-    let done = answer.is_ok();
-    let Ok(()) = log.push(DiskCall { request, done }) else {
-        return Err(calls.fail());
-    };
-    answer
 }

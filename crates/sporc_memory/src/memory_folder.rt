@@ -4,7 +4,7 @@ ghost use Rattle.std.specs.Prelude.{◌≡◌, ◌≢◌, ◌≤◌, ◌⊎◌, 
 ghost use Rattle.std.specs.Prelude.{IsSome, IfOk, IfErr, IfSome, IfNone, OnOk, OnErr};
 ghost use Rattle.std.specs.List.{All};
 ghost use Rattle.std.specs.Str.{bytes_eq};
-ghost use Rattle.sporc_memory.specs.CallsModel.{CountsCall};
+ghost use Rattle.sporc_memory.specs.CallsModel.{CountsCall, calls_failing};
 ghost use Rattle.sporc_outside.specs.Counts.{CountsFaults, Rose, count_of_both};
 ghost use Rattle.sporc_outside.specs.Files.{file_in, made_in, with_bytes, with_file, without_file};
 ghost use Rattle.sporc_outside.specs.Files.{ChangesFile, HasNoFile, IsAppendFault, IsAppendedTo};
@@ -20,7 +20,7 @@ ghost use Rattle.sporc_outside.specs.Uses.{use_of};
 ghost use Rattle.sporc_outside.specs.declared.file_fault.FileFault.TheVariants as faults;
 ghost use Rattle.sporc_outside.specs.declared.file_fault.TheConstants.{MAX_FILE};
 
-use crate::asked::ask;
+use crate::asked::{ask, push_name};
 use crate::calls::Calls;
 use crate::memory_append_file::MemoryAppendFile;
 use crate::memory_disk::MemoryDisk;
@@ -156,10 +156,13 @@ impl Folder for MemoryFolder {
         ensures call { CountsCall self.old.calls self.new.calls result }
     {
         ask(self.alloc, &mut self.calls, &mut self.asked, name)?;
-        match write(self.alloc, &mut self.files, name.as_bytes(), bytes) {
-            Ok(()) => Ok(()),
-            Err(_) => Err(self.calls.fail()),
-        }
+        write_file(
+            self.alloc,
+            &mut self.calls,
+            &mut self.files,
+            name.as_bytes(),
+            bytes,
+        )
     }
 
     fn write_new(&mut self, name: &str, bytes: &[u8]) -> Result<(), FileFault>
@@ -176,13 +179,13 @@ impl Folder for MemoryFolder {
         ensures call { CountsCall self.old.calls self.new.calls result }
     {
         ask(self.alloc, &mut self.calls, &mut self.asked, name)?;
-        if place_of(&self.files, name.as_bytes()).is_some() {
-            return Err(FileFault::Exists);
-        }
-        match write(self.alloc, &mut self.files, name.as_bytes(), bytes) {
-            Ok(()) => Ok(()),
-            Err(_) => Err(FileFault::from(self.calls.fail())),
-        }
+        write_new(
+            self.alloc,
+            &mut self.calls,
+            &mut self.files,
+            name.as_bytes(),
+            bytes,
+        )
     }
 
     fn leaf_disk(&mut self, name: &str) -> Result<MemoryDisk, FileFault>
@@ -206,14 +209,13 @@ impl Folder for MemoryFolder {
             &self.files,
             name,
         )?;
-        let failing = std::mem::replace(&mut self.disk_calls, Vec::new(self.alloc));
         lend(
             self.alloc,
             &mut self.calls,
             &mut self.lent,
             name.as_bytes(),
             bytes,
-            failing,
+            &mut self.disk_calls,
         )
     }
 
@@ -241,13 +243,12 @@ impl Folder for MemoryFolder {
         ensures taken { OnOk result (self.new.append_calls ≡ []) }
     {
         ask(self.alloc, &mut self.calls, &mut self.asked, name)?;
-        let failing = std::mem::replace(&mut self.append_calls, Vec::new(self.alloc));
         appended(
             self.alloc,
             &mut self.calls,
             &mut self.files,
             name.as_bytes(),
-            failing,
+            &mut self.append_calls,
         )
     }
 
@@ -373,7 +374,7 @@ fn write(
     bytes: &[u8],
 ) -> Result<(), AllocError>
     ensures ok { OnOk result (files.new.items ≡ with_file files.old.items name.now bytes.now) }
-    ensures err { OnErr result (files.new.items ≡ files.old.items) }
+    ensures memory { OnErr result (files.new.items ≡ files.old.items) }
 {
     let bytes = Vec::from_slice(alloc, bytes)?;
     if let Some(place) = place_of(files, name) {
@@ -386,6 +387,47 @@ fn write(
     Ok(())
 }
 
+// Writes these bytes to the file with this name, which fails where there is no memory.
+fn write_file(
+    alloc: Global,
+    calls: &mut Calls,
+    files: &mut Vec<NamedFile>,
+    name: &[u8],
+    bytes: &[u8],
+) -> Result<(), Failed>
+    ensures ok { OnOk result (files.new.items ≡ with_file files.old.items name.now bytes.now) }
+    ensures unchanged { OnErr result (files.new.items ≡ files.old.items) }
+    ensures calls { calls.new ≡ record calls.old { faults = calls.new.faults } }
+    ensures count { CountsFaults calls.old.faults calls.new.faults result }
+{
+    match write(alloc, files, name, bytes) {
+        Ok(()) => Ok(()),
+        Err(_) => Err(calls.fail()),
+    }
+}
+
+// Writes these bytes to the file with this name, unless there is one.
+fn write_new(
+    alloc: Global,
+    calls: &mut Calls,
+    files: &mut Vec<NamedFile>,
+    name: &[u8],
+    bytes: &[u8],
+) -> Result<(), FileFault>
+    ensures was_new { OnOk result (file_in files.old.items name.now ≡ None) }
+    ensures ok { OnOk result (files.new.items ≡ with_file files.old.items name.now bytes.now) }
+    ensures err { IfErr result
+        (IsNewFault (Some files.old.items) name.now calls.old.faults calls.new.faults) }
+    ensures unchanged { OnErr result (files.new.items ≡ files.old.items) }
+    ensures calls { calls.new ≡ record calls.old { faults = calls.new.faults } }
+    ensures kept { calls.old.faults ≤ calls.new.faults }
+{
+    if place_of(files, name).is_some() {
+        return Err(FileFault::Exists);
+    }
+    Ok(write_file(alloc, calls, files, name, bytes)?)
+}
+
 // A disk over a copy of these bytes, with the name kept for its return. It fails where there is no
 // memory.
 fn lend(
@@ -394,12 +436,13 @@ fn lend(
     lent: &mut Vec<FileBytes>,
     name: &[u8],
     bytes: &[u8],
-    failing: Vec<u64>,
+    failing: &mut Vec<u64>,
 ) -> Result<MemoryDisk, FileFault>
-    ensures ok { IfOk result (λ disk. disk ≡ disk_over bytes.now failing.items) }
+    ensures ok { IfOk result (λ disk. disk ≡ disk_over bytes.now failing.old.items) }
+    ensures taken { OnOk result (failing.new.items ≡ []) }
     ensures lent { OnOk result (lent.new.items ≡ lent.old.items ++ name.now ∷ []) }
-    ensures err { OnErr result (lent.new.items ≡ lent.old.items) }
-    ensures failed { IfErr result
+    ensures lent_unchanged { OnErr result (lent.new.items ≡ lent.old.items) }
+    ensures err { IfErr result
         (λ fault. (fault ≡ faults.Failed) × Rose calls.old.faults calls.new.faults) }
     ensures calls { calls.new ≡ record calls.old { faults = calls.new.faults } }
     ensures kept { calls.old.faults ≤ calls.new.faults }
@@ -415,17 +458,25 @@ fn open(
     lent: &mut Vec<FileBytes>,
     name: &[u8],
     bytes: &[u8],
-    failing: Vec<u64>,
+    failing: &mut Vec<u64>,
 ) -> Result<MemoryDisk, AllocError>
-    ensures ok { IfOk result (λ disk. disk ≡ disk_over bytes.now failing.items) }
+    ensures ok { IfOk result (λ disk. disk ≡ disk_over bytes.now failing.old.items) }
+    ensures taken { OnOk result (failing.new.items ≡ []) }
     ensures lent { OnOk result (lent.new.items ≡ lent.old.items ++ name.now ∷ []) }
-    ensures err { OnErr result (lent.new.items ≡ lent.old.items) }
+    ensures lent_unchanged { OnErr result (lent.new.items ≡ lent.old.items) }
 {
-    let name = FileBytes::new(Vec::from_slice(alloc, name)?);
     let bytes = Vec::from_slice(alloc, bytes)?;
-    let disk = MemoryDisk::new(alloc, bytes, Calls::failing(failing))?;
-    lent.push(name)?;
+    let disk = MemoryDisk::new(alloc, bytes, next_calls(alloc, failing))?;
+    push_name(alloc, lent, name)?;
     Ok(disk)
+}
+
+// No calls yet, of which these are to fail. Those of the object after this one do not.
+fn next_calls(alloc: Global, failing: &mut Vec<u64>) -> Calls
+    ensures value { result ≡ calls_failing failing.old.items }
+    ensures taken { failing.new.items ≡ [] }
+{
+    Calls::failing(std::mem::replace(failing, Vec::new(alloc)))
 }
 
 // Hands out a file to be appended to, which is made if there is none.
@@ -434,13 +485,14 @@ fn appended(
     calls: &mut Calls,
     files: &mut Vec<NamedFile>,
     name: &[u8],
-    failing: Vec<u64>,
+    failing: &mut Vec<u64>,
 ) -> Result<MemoryAppendFile, FileFault>
     ensures ok { IfOk result
         (λ file. IsAppendedTo (Some files.old.items) name.now (Some (bytes_in file))) }
     ensures made { OnOk result (files.new.items ≡ made_in files.old.items name.now) }
     ensures file { IfOk result
-        (λ file. file ≡ file_over name.now (bytes_in file) failing.items) }
+        (λ file. file ≡ file_over name.now (bytes_in file) failing.old.items) }
+    ensures taken { OnOk result (failing.new.items ≡ []) }
     ensures err { IfErr result
         (IsAppendFault (Some files.old.items) name.now calls.old.faults calls.new.faults) }
     ensures unchanged { OnErr result (files.new.items ≡ files.old.items) }
@@ -470,13 +522,14 @@ fn open_appended(
     alloc: Global,
     name: &[u8],
     bytes: &[u8],
-    failing: Vec<u64>,
+    failing: &mut Vec<u64>,
 ) -> Result<MemoryAppendFile, AllocError>
-    ensures { IfOk result (λ file. file ≡ file_over name.now bytes.now failing.items) }
+    ensures ok { IfOk result (λ file. file ≡ file_over name.now bytes.now failing.old.items) }
+    ensures taken { OnOk result (failing.new.items ≡ []) }
 {
     let name = FileBytes::new(Vec::from_slice(alloc, name)?);
     let bytes = Vec::from_slice(alloc, bytes)?;
-    MemoryAppendFile::new(alloc, name, bytes, Calls::failing(failing))
+    MemoryAppendFile::new(alloc, name, bytes, next_calls(alloc, failing))
 }
 
 // Puts these bytes in the file with this name, if there is one.

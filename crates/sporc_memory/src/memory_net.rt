@@ -86,7 +86,7 @@ impl MemoryNet {
     fn hand_out(&mut self) -> Result<MemoryLink, Failed>
         ensures ok { IfOk result (λ link. self.old.coming ≡ link ∷ self.new.coming) }
         ensures fresh { IfOk result IsFresh }
-        ensures err { OnErr result (self.new.coming ≡ self.old.coming) }
+        ensures coming_unchanged { OnErr result (self.new.coming ≡ self.old.coming) }
         ensures out { OnOk result (self.new.out ≡ self.old.out + 1) }
         ensures out_unchanged { OnErr result (self.new.out ≡ self.old.out) }
         ensures asked { self.new.asked ≡ self.old.asked }

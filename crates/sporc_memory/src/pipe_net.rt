@@ -14,6 +14,15 @@ struct End {
     outgoing: Arc<Pipe>,
 }
 
+impl End {
+    // Reads from the first of these, and writes to the second.
+    fn of(incoming: &Arc<Pipe>, outgoing: &Arc<Pipe>) -> Result<End, AllocError> {
+        let incoming = Arc::try_clone(incoming)?;
+        let outgoing = Arc::try_clone(outgoing)?;
+        Ok(End { incoming, outgoing })
+    }
+}
+
 // Where the ends stand that were not accepted yet.
 #[derive(Drop)]
 struct Hall {
@@ -68,10 +77,7 @@ impl<R: Wait + Copy + Drop> PipeNet<R> {
 fn new_ends(alloc: Global) -> Result<(End, End), AllocError> {
     let there = Arc::new(alloc, Pipe::new(alloc))?;
     let back = Arc::new(alloc, Pipe::new(alloc))?;
-    let first = End {
-        incoming: Arc::try_clone(&back)?,
-        outgoing: Arc::try_clone(&there)?,
-    };
+    let first = End::of(&back, &there)?;
     let second = End {
         incoming: there,
         outgoing: back,

@@ -154,10 +154,7 @@ impl Order {
         ensures tail { T.keeps tail.old self.old.entries → T.keeps tail.new self.new.entries }
     {
         let position = self.heads.len() + 1;
-        let checked = match self.heads.check_known(None, position, entry, known) {
-            Ok(checked) => checked,
-            Err(refusal) => return Err(Untaken::Refused(refusal)),
-        };
+        let checked = self.heads.check_known(None, position, entry, known)?;
         if self.heads.reserve().is_err() {
             return Err(Untaken::Refused(Refusal::Memory));
         }

@@ -72,30 +72,11 @@ impl Session {
         ensures memory { OnErr result (order.new ≡ order.old) }
         ensures unchanged { OnErr result (self.new ≡ self.old) }
     {
-        self.step_known(alloc, order, message, None)
+        answered(self.step_kept(alloc, order, message, None, &mut NoTail))
     }
 
-    /// Answers a message as [`Session::step`] does, where a verdict of its entry may be known.
-    pub fn step_known(
-        &mut self,
-        alloc: Global,
-        order: &mut Order,
-        message: &ToServer,
-        known: Option<&Verdict>,
-    ) -> Result<Reply, Memory>
-        requires exact { IfSome known (λ v. IsExactFor v.now message.now) }
-        ensures reply { IfOk result (Says (step_of order.old self.old message.now).answer) }
-        ensures order { OnOk result (order.new ≡ (step_of order.old self.old message.now).order) }
-        ensures greeted { OnOk result
-            (self.new ≡ (step_of order.old self.old message.now).is_greeted) }
-        ensures memory { OnErr result (order.new ≡ order.old) }
-        ensures unchanged { OnErr result (self.new ≡ self.old) }
-    {
-        answered(self.step_kept(alloc, order, message, known, &mut NoTail))
-    }
-
-    /// Answers a message as [`Session::step_known`] does, where a tail keeps its entry before the
-    /// order takes it.
+    /// Answers a message as [`Session::step`] does, where a verdict of its entry may be known, and a
+    /// tail keeps the entry before the order takes it.
     pub fn step_kept<T: Tail>(
         &mut self,
         alloc: Global,
@@ -110,7 +91,7 @@ impl Session {
         ensures greeted { OnOk result
             (self.new ≡ (step_of order.old self.old message.now).is_greeted) }
         ensures unanswered { IfErr result (IsUnanswered T.may_fail) }
-        ensures err { OnErr result (order.new ≡ order.old) }
+        ensures order_unchanged { OnErr result (order.new ≡ order.old) }
         ensures unchanged { OnErr result (self.new ≡ self.old) }
         ensures tail { T.keeps tail.old order.old.entries → T.keeps tail.new order.new.entries }
     {
@@ -184,7 +165,7 @@ fn submit<T: Tail>(
     ensures order { OnOk result (order.new ≡ (submitted order.old entry.now (head_fault
         order.old.genesis None order.old.entries (length order.old.entries + 1) entry.now)).order) }
     ensures unanswered { IfErr result (IsUnanswered T.may_fail) }
-    ensures err { OnErr result (order.new ≡ order.old) }
+    ensures order_unchanged { OnErr result (order.new ≡ order.old) }
     ensures tail { T.keeps tail.old order.old.entries → T.keeps tail.new order.new.entries }
 {
     match order.submit_kept(entry, known, tail) {

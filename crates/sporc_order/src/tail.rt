@@ -22,6 +22,16 @@ pub enum Untaken {
     Unkept,
 }
 
+impl From<Refusal> for Untaken {
+    ghost use Rattle.sporc_order.specs.declared.tail.Untaken.TheVariants as untaken;
+
+    ghost from_gives = { λ refusal e. e ≡ untaken.Refused refusal };
+
+    fn from(refusal: Refusal) -> Untaken {
+        Untaken::Refused(refusal)
+    }
+}
+
 /// Why a message is not answered.
 #[derive(Clone, Copy, Debug, PartialEq, Eq, Error)]
 pub enum Unanswered {
@@ -59,7 +69,7 @@ pub trait Tail {
             → position ≡ length entries + 1 → keeps self.new (entries ++ entry.now ∷ [])) }
         ensures err { OnErr result ((entries : List (List ℕ)) → keeps self.old entries
             → position ≡ length entries + 1 → keeps self.new entries) }
-        ensures failed { OnErr result may_fail };
+        ensures unkept { OnErr result may_fail };
 }
 
 /// Keeps nothing: the entries of an order are lost where it is.
@@ -72,7 +82,7 @@ impl Tail for NoTail {
     ghost may_fail = { ⊥ };
 
     fn put(&mut self, _: u32, _: &[u8]) -> Result<(), Unkept>
-        ensures { IsOk result }
+        ensures ok { IsOk result }
     {
         Ok(())
     }

@@ -61,7 +61,7 @@ pub use Rattle.sporc_member.specs.declared.founder.Founder.{Founder}
 pub use Rattle.sporc_member.specs.declared.limits.TheConstants.{MAX_MEMBERS}
 pub use Rattle.sporc_entry.specs.ChangeBody.{ChangeWith, IsKey, IsWrap, change_body_bytes, change_bytes, wrap_bytes}
 pub use Rattle.sporc_entry.specs.Entry.{entry_bytes, signed_string}
-pub use Rattle.sporc_entry.specs.Genesis.{IsFounder, IsGenesis, bad_key, founders_fault, genesis_bytes}
+pub use Rattle.sporc_entry.specs.Genesis.{IsFounder, IsGenesis, bad_key, founders_fault, genesis_bytes, has_admin_founder}
 pub use Rattle.sporc_entry.specs.Version.{fits_version, names_device, version_of}
 pub use Rattle.sporc_entry.specs.declared.change.ChangeBody.{ChangeBody}
 pub use Rattle.sporc_entry.specs.declared.entry.Entry.{Entry}
@@ -90,6 +90,7 @@ pub use Rattle.sporc_client.proofs.Reached.{gives_to, happens_to, put_same, reac
 pub use Rattle.sporc_client.proofs.SoundRuns.{AreTypedItems, HasScalars, sound_and_typed_at}
 pub use Rattle.sporc_client.proofs.TypedHistories.{IsTypedCommitted, change_read_of, changes_typed, found_typed, typed_at}
 pub use Rattle.sporc_client.specs.Answers.{added, change_fault, discard_fault, edit_fault, journal_has_room, refusal_of}
+pub use Rattle.sporc_client.specs.Calls.{mover_of}
 pub use Rattle.sporc_client.specs.ClientModel.{ClientModel, state_of}
 pub use Rattle.sporc_client.specs.Entries.{Chosen, bytes_made, current_key}
 pub use Rattle.sporc_client.specs.Genuine.{Genuine}
@@ -138,10 +139,10 @@ pub use Rattle.sporc_play.specs.Forged.{IsSmallBody, base_by, derived_pairs, dev
 pub use Rattle.sporc_play.specs.Forged.{BodyWith, kind_of, number_by, sealed_for, signed_by, spoiled, unsigned_by, value_at, version_by, wrap_flipped}
 pub use Rattle.sporc_play.specs.Generated.{batch, batches, edits, generated_cast, generated_commands, generated_edit, generated_scene, gives, inserts, removes, seen_len, submits, summary_line}
 pub use Rattle.sporc_play.specs.Joined.{client_with, entries_found, seat_by, seat_joined, seat_open, seat_unless, seat_with}
-pub use Rattle.sporc_play.specs.Logs.{accepted_event, change_events, discard_events, edit_logged, events_by, first_accepts, given_by, given_events, log_after, logged_unless, logs_after, mover_of}
+pub use Rattle.sporc_play.specs.Logs.{accepted_event, change_events, discard_events, edit_logged, events_by, first_accepts, given_by, given_events, log_after, logged_unless, logs_after}
 pub use Rattle.sporc_play.specs.Logs.{restarted_log}
 pub use Rattle.sporc_play.specs.Moves.{IsOneRun, moves_from, moves_of}
-pub use Rattle.sporc_play.specs.Opening.{HasBlank, HasRogue, HasSat, HaveDeclared, IsFresh, IsFreshRogue, IsNamed, founders_by}
+pub use Rattle.sporc_play.specs.Opening.{HasBlank, HasDeclared, HasRogue, HasSat, HaveDeclared, HaveRogues, HaveSeats, IsFresh, IsFreshRogue, IsNamed, founders_by}
 pub use Rattle.sporc_play.specs.Playing.{IsShortScript, IsWriteCause, PlayOutcome, ReadsScript, ReadsWhole}
 pub use Rattle.sporc_play.specs.Report.{Compares, Reports, ReportsFrom, ReportsPrefix, Writes, accept_line, change_line, cut_line, discard_line, edited_line, entry_line, event_line, flip_line}
 pub use Rattle.sporc_play.specs.Report.{flipped_line, give_line, hashes_of, hints_line, join_line, joined_line, line_by, next_number, not_open_line, open_line, restart_answer, restart_line, sign_line}

@@ -3,6 +3,9 @@ use Rattle.std.proofs.Common.{◌≡◌, ℕ, suc, ◌^◌, ◌<◌, Bool, true,
 use Rattle.sporc_play.proofs.Common.{Contains, IsSomeAnd, filter_map, if◌then◌else◌, nat_cmp_total, unsigned_tied, empty, get, get-insert, AllByRecursion, nat_cmp, eq_by_cmp, length-sha256}
 use Rattle.sporc_play.proofs.Common.{commitment_of, Keys, Setup, Move, World, IsRun, Open, start, AreEpochKeys, IsTypedMove, IsTypedRun, Device, Founder, first_device, InRange, Command, PlayLine}
 use Rattle.sporc_play.proofs.Common.{device_by, first_ring, founders_of, has_admin, opener_by, openers_by, first_key, opening_moves, openings}
+use Rattle.sporc_play.proofs.Common.{Genesis, PlayState, Scene, StandsFor}
+use Rattle.std.proofs.lemmas.Slice.Eq.{bytes_eq-Decides}
+use Rattle.sporc_line.specs.Openings.{opens}
 use Rattle.sporc_client.specs.Run.{after}
 use Rattle.sporc_client.specs.WellFormed.{IsWellFormed}
 use Rattle.sporc_script.specs.declared.command.Command.TheVariants as commands
@@ -79,6 +82,12 @@ well_formed script all founded = record {
 commits : (script : List PlayLine) → commitment_of (setup_of script).genesis.document 0 first_key ≡ (setup_of script).genesis.commitment
 unfolding setup_of
 commits script = refl
+
+-- the first ring opens the document of a script
+pub founders_open : (script : List PlayLine) (scene : Scene) (state : PlayState) → StandsFor script scene state → opens state.genesis (get first_ring 0) ≡ true
+founders_open script scene state stands =
+    let g = (setup_of script).genesis in
+    ap (λ (g : Genesis). opens g (get first_ring 0)) stands.genesis ∙ ap (opens g) first_there ∙ (bytes_eq-Decides (commitment_of g.document 0 first_key) g.commitment).1 (commits script)
 
 among_devices : (script : List PlayLine) → AllByRecursion (λ who. Contains (setup_of script).devices who) (openers_by (founders_of script) script)
 unfolding setup_of

@@ -53,24 +53,18 @@ cut_act made number bytes new found is = ap cuts found ∙ ap (λ (b : List ℕ)
 -- ---- clients that are compared
 
 -- the client of a device, as it was found
-pub record IsFound (state : PlayState) (who : Device) (found : Option (ClientModel MemoryDiskModel)) : Type 0 where
-  pub place : ℕ
-  pub seat : Seat
-  pub at : IsSeatAt state.seats.items place who seat
-  pub is : found ≡ seat.client
-
-pub found_by : (state : PlayState) (who : Device) (found : Option (ClientModel MemoryDiskModel)) → (i : ℕ) × (seat : Seat) × IsSeatAt state.seats.items i who seat × (found ≡ seat.client) → IsFound state who found
-found_by state who found (i, seat, at, is) = record { place = i; seat = seat; at = at; is = is }
+abbrev pub IsFound : PlayState → Device → Option (ClientModel MemoryDiskModel) → Type 0
+IsFound state who found = (i : ℕ) × (seat : Seat) × IsSeatAt state.seats.items i who seat × (found ≡ seat.client)
 
 pub found_there : (script : List PlayLine) (scene : Scene) (state : PlayState) (who : Device) (found : Option (ClientModel MemoryDiskModel)) → StandsFor script scene state → IsFound state who found → scene.world.clients who ≡ option_map state_of found
-found_there script scene state who found stands f = client_there script scene state f.place who f.seat stands f.at ∙ ap (option_map state_of) (sym f.is)
+found_there script scene state who found stands (i, seat, at, is) = client_there script scene state i who seat stands at ∙ ap (option_map state_of) (sym is)
 
 -- what is known of a client that was found
 client_is : (script : List PlayLine) (scene : Scene) (state : PlayState) (who : Device) (c : ClientModel MemoryDiskModel) → StandsFor script scene state → IsFound state who (Some c) → IsClientOf (setup_of script) scene who c
-client_is script scene state who c stands f =
+client_is script scene state who c stands (i, seat, at, is) =
     let s = setup_of script in
-    subst (λ (other : Device). IsClientOf s scene other c) f.at.own
-    (subst (λ (o : Option (ClientModel MemoryDiskModel)). Holds s scene f.seat.device f.seat.signer o) (sym f.is) (seat_there script scene state f.place who f.seat stands f.at).holds)
+    subst (λ (other : Device). IsClientOf s scene other c) at.own
+    (subst (λ (o : Option (ClientModel MemoryDiskModel)). Holds s scene seat.device seat.signer o) (sym is) (seat_there script scene state i who seat stands at).holds)
 
 -- the line of a client by its own device
 pub line_there : (script : List PlayLine) (scene : Scene) (state : PlayState) (who : Device) (c : ClientModel MemoryDiskModel) (line : Device → PlainClient → List ℕ) (out out' : List ℕ) → StandsFor script scene state → IsFound state who (Some c)
@@ -112,9 +106,9 @@ pub begun_chain : (genesis : List ℕ) (entries : List (List ℕ)) → 0 < lengt
 begun_chain genesis entries = begun (chain genesis entries) (last_value genesis []) (first_value genesis entries)
 
 document_of : (state : PlayState) (who : Device) (c : ClientModel MemoryDiskModel) → AreOfOneDocument state → IsFound state who (Some c) → c.opening.genesis ≡ state.genesis
-document_of state who c one f =
-    subst (λ (o : Option (ClientModel MemoryDiskModel)). IfSome o (λ c. c.opening.genesis ≡ state.genesis)) (sym f.is)
-    (at_place (λ (seat : Seat). IfSome seat.client (λ c. c.opening.genesis ≡ state.genesis)) state.seats.items f.place f.seat one f.at.there)
+document_of state who c one (i, seat, at, is) =
+    subst (λ (o : Option (ClientModel MemoryDiskModel)). IfSome o (λ c. c.opening.genesis ≡ state.genesis)) (sym is)
+    (at_place (λ (seat : Seat). IfSome seat.client (λ c. c.opening.genesis ≡ state.genesis)) state.seats.items i seat one at.there)
 
 pub one_beginning : (state : PlayState) (who n : Device) (a b : ClientModel MemoryDiskModel) → AreOfOneDocument state → IsFound state who (Some a) → IsFound state n (Some b)
     → slice_get (chain (genesis_bytes a.opening.genesis) (state_of a).entries) 0 ≡ slice_get (chain (genesis_bytes b.opening.genesis) (state_of b).entries) 0

@@ -1,7 +1,7 @@
 -- The state before the first command.
 use Rattle.std.proofs.Common.{◌≡◌, ℕ, ◌≤◌, Bool, true, false, List, [], length, map, fold, refl, sym, ap, ap₂, ◌∙◌, subst, Option, None, Some, option_map}
-use Rattle.sporc_play.proofs.Common.{if◌then◌else◌, empty, insert, list_any, take_all, All-from_recursion, SignerModel, MemoryDiskModel, Keys, ClientModel, state_of, Move, Device, Founder}
-use Rattle.sporc_play.proofs.Common.{first_device, is_admin, Tree, PlayLine, Rogue, Seat, PlayState, founders_of, genesis_by, has_admin, is_pair, private_of, public_of, tree_of, pair_key, HasBlank}
+use Rattle.sporc_play.proofs.Common.{if◌then◌else◌, empty, insert, list_any, take_all, All-from_recursion, SignerModel, MemoryDiskModel, Keys, ClientModel, state_of, Move, Device}
+use Rattle.sporc_play.proofs.Common.{first_device, has_admin_founder, Tree, PlayLine, Rogue, Seat, PlayState, founders_of, genesis_by, has_admin, is_pair, private_of, public_of, tree_of, pair_key, HasBlank}
 use Rattle.sporc_play.proofs.Common.{HaveDeclared, IsFresh, IsFreshRogue, Scene, opening, openings, scene_moved, scene_opened, AreDeclared, Holds, IsCastOf, IsRogueOf, IsSeatOf, StandsFor, Pair, Cast}
 use Rattle.sporc_play.proofs.Common.{Declared}
 use Rattle.sporc_play.specs.Cast.{setup_of}
@@ -16,10 +16,10 @@ pairs_by member unpaired declared =
 cast_is : (script : List PlayLine) (cast : Cast) (seats : List Seat) (rogues : List Rogue) → HaveDeclared (tree_of script) script cast seats rogues → IsCastOf (setup_of script) cast
 unfolding setup_of pairs_by
 cast_is script cast seats rogues known = record {
-  keys = All-from_recursion (λ (d : Declared). d.key ≡ public_of (tree_of script) (first_device d.member)) cast.declared.items known.keys;
-  founders = known.founders;
-  trees = λ who. ap (λ (t : Tree). private_of t who) (sym known.tree_is);
-  pairs = λ who. ap₂ (pairs_by who.member) known.unpaired known.declared;
+  keys = All-from_recursion (λ (d : Declared). d.key ≡ public_of (tree_of script) (first_device d.member)) cast.declared.items known.cast_is.keys;
+  founders = known.cast_is.founders;
+  trees = λ who. ap (λ (t : Tree). private_of t who) (sym known.cast_is.tree_is);
+  pairs = λ who. ap₂ (pairs_by who.member) known.cast_is.unpaired known.cast_is.declared;
 }
 
 -- ---- seats
@@ -51,25 +51,25 @@ genesis_is script = refl
 
 seated_are : (script : List PlayLine) (cast : Cast) (seats : List Seat) (rogues : List Rogue) → HaveDeclared (tree_of script) script cast seats rogues → map (λ (x : Seat). x.device) seats ≡ (setup_of script).devices
 unfolding setup_of
-seated_are script cast seats rogues known = known.seated_are
+seated_are script cast seats rogues known = known.seats_are.seated_are
 
 pub stands_first : (script : List PlayLine) (state : PlayState) → AreDeclared script → HaveDeclared (tree_of script) script state.cast state.seats.items state.rogues.items
     → state.genesis ≡ genesis_by state.cast.founders.items → state.made.items ≡ [] → StandsFor script (scene_opened script 0) state
 stands_first script state declared known genesis none = record {
-  genesis = genesis ∙ ap genesis_by known.founders ∙ sym (genesis_is script);
+  genesis = genesis ∙ ap genesis_by known.cast_is.founders ∙ sym (genesis_is script);
   cast = cast_is script state.cast state.seats.items state.rogues.items known;
-  seats = all_each (IsFresh (tree_of script)) (IsSeatOf (setup_of script) (scene_opened script 0)) state.seats.items (fresh_seat script) known.fresh;
-  rogues = all_each (IsFreshRogue (tree_of script)) (IsRogueOf (setup_of script) (scene_opened script 0)) state.rogues.items (fresh_rogue script) known.fresh_rogues;
+  seats = all_each (IsFresh (tree_of script)) (IsSeatOf (setup_of script) (scene_opened script 0)) state.seats.items (fresh_seat script) known.seats_are.fresh;
+  rogues = all_each (IsFreshRogue (tree_of script)) (IsRogueOf (setup_of script) (scene_opened script 0)) state.rogues.items (fresh_rogue script) known.rogues_are.fresh;
   seated = seated_are script state.cast state.seats.items state.rogues.items known;
-  rogue_devices = known.rogues_are;
+  rogue_devices = known.rogues_are.devices_are;
   declared = declared;
   made = ap (map (λ bytes. bytes.items)) none;
 }
 
 -- whether a founder is an admin, by the founders that a state keeps
-pub admin_among : (script : List PlayLine) (scene : Scene) (state : PlayState) → StandsFor script scene state → has_admin script ≡ list_any (λ f. is_admin f.role) state.cast.founders.items
+pub admin_among : (script : List PlayLine) (scene : Scene) (state : PlayState) → StandsFor script scene state → has_admin script ≡ has_admin_founder state.cast.founders.items
 unfolding setup_of
-admin_among script scene state stands = sym (ap (λ (fs : List Founder). list_any (λ f. is_admin f.role) fs) stands.cast.founders)
+admin_among script scene state stands = sym (ap has_admin_founder stands.cast.founders)
 
 pub opened_all : (script : List PlayLine) (n : ℕ) (state : PlayState) → has_admin script ≡ true → length script ≤ n → StandsFor script (scene_opened script n) state → StandsFor script (opening script) state
 opened_all script n state founded all stands =

@@ -16,8 +16,8 @@ use Rattle.sporc_member.specs.declared.device.Device.{Device}
 use Rattle.sporc_member.specs.declared.founder.Founder.{Founder}
 use Rattle.sporc_member.specs.Device.{first_device}
 use Rattle.sporc_member.specs.Lists.{insert_by}
-use Rattle.sporc_member.specs.Role.{is_admin}
 use Rattle.sporc_entry.specs.declared.genesis.Genesis.{Genesis}
+use Rattle.sporc_entry.specs.Genesis.{has_admin_founder}
 use Rattle.sporc_epoch.specs.Keys.{Keys}
 use Rattle.sporc_client.specs.Run.{Setup, key_of_device}
 use Rattle.sporc_script.specs.declared.command.Command.{Command}
@@ -109,7 +109,7 @@ founders_of script =
 
 -- without an admin there is no document, and no command may follow
 abbrev pub has_admin : List PlayLine → Bool
-has_admin script = list_any (λ f. is_admin f.role) (founders_of script)
+has_admin script = has_admin_founder (founders_of script)
 
 abbrev pub is_founder : List Founder → ℕ → Bool
 is_founder founders member = list_any (λ f. f.member == member) founders

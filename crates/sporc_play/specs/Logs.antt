@@ -8,17 +8,11 @@ use Rattle.sporc_head.specs.declared.refusal.Refusal.{Refusal}
 use Rattle.sporc_delta.specs.Marks.{Mark}
 use Rattle.sporc_client.specs.Answers.{change_fault, discard_fault, edit_fault, journal_has_room}
 use Rattle.sporc_client.specs.Answers.{refusal_of}
+use Rattle.sporc_client.specs.Calls.{mover_of}
 use Rattle.sporc_client.specs.Log.{Logged, Accept, Change, Discard, Edit}
 use Rattle.sporc_client.specs.PlainClient.{PlainClient}
 use Rattle.sporc_client.specs.Run.{Setup, World, Move, Open, Happen, Give, Restart, after}
 use Rattle.sporc_client.specs.Step.{log_of_first}
-
--- whose client a move is of
-abbrev pub mover_of : Move → Device
-mover_of (Open who ring) = who
-mover_of (Happen who event) = who
-mover_of (Give who position bytes) = who
-mover_of (Restart who k) = who
 
 -- what a call adds to a client's log, unless it is refused
 abbrev pub logged_unless : {F : Type 0} → Option F → Logged → List Logged

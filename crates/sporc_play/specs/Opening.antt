@@ -41,9 +41,8 @@ abbrev pub founders_by : Tree → List PlayLine → List Founder
 founders_by tree lines = fold (λ founders m. insert_by (λ f. f.member) (founder_of tree m) founders)
     [] (filter_map (λ l. founder_by l.command) lines)
 
--- what these lines have declared is there
-pub record HaveDeclared (tree : Tree) (lines : List PlayLine) (cast : Cast) (seats : List Seat)
-    (rogues : List Rogue) : Type 0 where
+-- who takes part by these lines
+pub record HasDeclared (tree : Tree) (lines : List PlayLine) (cast : Cast) : Type 0 where
   pub tree_is : cast.tree ≡ tree
   pub declared : map (λ d. d.member) cast.declared.items
       ≡ filter_map (λ l. declared_member l.command) lines
@@ -51,10 +50,23 @@ pub record HaveDeclared (tree : Tree) (lines : List PlayLine) (cast : Cast) (sea
       (λ d. d.key ≡ public_of tree (first_device d.member)) cast.declared.items
   pub unpaired : cast.unpaired.items ≡ filter_map (λ l. unpaired_by l.command) lines
   pub founders : cast.founders.items ≡ founders_by tree lines
+
+-- their seats
+pub record HaveSeats (tree : Tree) (lines : List PlayLine) (seats : List Seat) : Type 0 where
   pub fresh : AllByRecursion (IsFresh tree) seats
   pub seated_are : seated seats ≡ filter_map (λ l. device_by l.command) lines
-  pub fresh_rogues : AllByRecursion (IsFreshRogue tree) rogues
-  pub rogues_are : rogue_devices rogues ≡ filter_map (λ l. rogue_by l.command) lines
+
+-- their rogues
+pub record HaveRogues (tree : Tree) (lines : List PlayLine) (rogues : List Rogue) : Type 0 where
+  pub fresh : AllByRecursion (IsFreshRogue tree) rogues
+  pub devices_are : rogue_devices rogues ≡ filter_map (λ l. rogue_by l.command) lines
+
+-- what these lines have declared is there
+pub record HaveDeclared (tree : Tree) (lines : List PlayLine) (cast : Cast) (seats : List Seat)
+    (rogues : List Rogue) : Type 0 where
+  pub cast_is : HasDeclared tree lines cast
+  pub seats_are : HaveSeats tree lines seats
+  pub rogues_are : HaveRogues tree lines rogues
 
 -- a seat for a device is the last now
 pub record HasSat (tree : Tree) (who : Device) (old new : List Seat) : Type 0 where

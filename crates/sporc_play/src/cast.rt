@@ -15,7 +15,7 @@ ghost use Rattle.sporc_play.specs.Seats.{AreDrawn};
 ghost use Rattle.sporc_play.specs.Stage.{IsCastOf, pair_among, pairs_among};
 
 use crate::derived::{document_number, first_key, identifier_of, pair_key, seed_of};
-use lms_leaf::{Leaves, blank};
+use lms_leaf::{LeafOpenFault, Leaves, blank};
 use lms_ots::OtsType;
 use lms_sign::Signer;
 use lms_tree::{LmsType, Tree as SignatureTree};
@@ -220,7 +220,8 @@ fn ots_type_of(width: Width) -> OtsType
     }
 }
 
-// The leaf numbers of a blank file. Its disk fails only if memory runs out.
+// The leaf numbers of a blank file. A disk in memory fails only if it finds no memory, which is then
+// the answer.
 fn blank_leaves(alloc: Global, height: u32) -> Result<Leaves<MemoryDisk>, Memory>
     requires { IsLeafHeight height }
     ensures next { IfOk result (λ leaves. leaves.next ≡ 0) }
@@ -231,6 +232,7 @@ fn blank_leaves(alloc: Global, height: u32) -> Result<Leaves<MemoryDisk>, Memory
     let disk = MemoryDisk::new(alloc, bytes, Calls::failing(Vec::new(alloc)))?;
     match Leaves::open(alloc, disk, height) {
         Ok(leaves) => Ok(leaves),
+        Err((LeafOpenFault::BadLength(_), _)) => unreachable!(),
         Err(_) => Err(AllocError),
     }
 }

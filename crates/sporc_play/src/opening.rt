@@ -1,8 +1,10 @@
 //! What the declarations of a script make: who takes part, and the founders' clients.
 
-ghost use Rattle.std.specs.Prelude.{◌≡◌, List, ◌∷◌, ◌++◌, [], IfOk, OnOk};
+ghost use Rattle.std.specs.FinMap.{get};
+ghost use Rattle.std.specs.Prelude.{◌≡◌, true, List, ◌∷◌, ◌++◌, [], IfOk, OnOk};
 ghost use Rattle.sporc_client.specs.Run.{Setup};
 ghost use Rattle.sporc_entry.specs.Genesis.{IsGenesis};
+ghost use Rattle.sporc_line.specs.Openings.{opens};
 ghost use Rattle.sporc_member.specs.declared.device.Device.{Device};
 ghost use Rattle.sporc_member.specs.Device.{first_device};
 ghost use Rattle.sporc_member.specs.Lists.{insert_by};
@@ -15,6 +17,7 @@ use crate::cast::{Cast, Declared, first_ring, insert_founder, signer_of};
 use crate::seat::{Rogue, Seat, open_seat};
 use sporc_base::Memory;
 use sporc_entry::Genesis;
+use sporc_line::LineOpenFault;
 use sporc_member::{Device, Founder};
 use sporc_script::{Command, MemberRole, PlayLine, Tree};
 use std::alloc::{AllocError, Global};
@@ -132,6 +135,7 @@ pub fn open_founder(
     seat: &mut Seat,
 ) -> Result<(), Memory>
     requires genesis { IsGenesis genesis.now }
+    requires opens { opens genesis.now (get first_ring 0) ≡ true }
     ensures ok { OnOk result ((s : Setup) → IsCastOf s cast.now → genesis.now ≡ s.genesis
         → seat.new ≡ seat_open s first_ring seat.old seat.old.signer) }
 {
@@ -141,6 +145,7 @@ pub fn open_founder(
     let ring = first_ring(alloc)?;
     match open_seat(alloc, cast, genesis, ring, seat) {
         Ok(()) => Ok(()),
-        Err(_) => Err(AllocError),
+        Err(LineOpenFault::Memory) => Err(AllocError),
+        Err(_) => unreachable!(),
     }
 }

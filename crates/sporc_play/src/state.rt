@@ -1,14 +1,14 @@
 //! The state of a play.
 
+ghost use Rattle.std.specs.FinMap.{get};
 ghost use Rattle.std.specs.Option.{option_copied, option_to_list};
 ghost use Rattle.std.specs.Prelude.{◌≡◌, ℕ, ◌+◌, ◌<◌, [], ◌∷◌, ◌++◌, length, Contains, IfOk, OnOk};
 ghost use Rattle.std.specs.Prelude.{map as map_, None, Some, option_map, set, slice_get};
-ghost use Rattle.std.specs.Prelude.{string_bytes};
-ghost use Rattle.std.specs.List.{list_any};
-ghost use Rattle.sporc_entry.specs.Genesis.{IsGenesis};
+ghost use Rattle.std.specs.Prelude.{string_bytes, true};
+ghost use Rattle.sporc_entry.specs.Genesis.{IsGenesis, has_admin_founder};
 ghost use Rattle.sporc_member.specs.declared.device.Device.{Device};
-ghost use Rattle.sporc_member.specs.Role.{is_admin};
-ghost use Rattle.sporc_play.specs.Cast.{device_by, is_founder, opener_by};
+ghost use Rattle.sporc_line.specs.Openings.{opens};
+ghost use Rattle.sporc_play.specs.Cast.{device_by, first_ring, is_founder, opener_by};
 ghost use Rattle.sporc_play.specs.Report.{entry_line, flipped_line};
 ghost use Rattle.sporc_play.specs.Scene.{flipped, opening, scene_opened};
 ghost use Rattle.sporc_play.specs.Seats.{IsSeatAt, seated};
@@ -78,7 +78,7 @@ impl PlayState {
 
     // Whether a founder is an admin. Without one there is no document.
     fn has_admin(&self) -> bool
-        ensures { result ≡ list_any (λ f. is_admin f.role) self.now.cast.founders.items }
+        ensures { result ≡ has_admin_founder self.now.cast.founders.items }
     {
         self.cast.founders.iter().any(|f| f.role.is_admin())
     }
@@ -99,6 +99,7 @@ impl PlayState {
     // Opens the client of a founder's device, if the line declares one.
     fn open_by(&mut self, alloc: Global, line: &PlayLine) -> Result<(), Memory>
         requires genesis { IsGenesis self.old.genesis }
+        requires opens { opens self.old.genesis (get first_ring 0) ≡ true }
         requires seated { (who : Device) → device_by line.now.command ≡ Some who
             → Contains (seated self.old.seats.items) who }
         ensures stands { OnOk result (OpensBy line.now self.old self.new) }

@@ -19,12 +19,14 @@
 //! takes none of some bytes is an error. A call that a signal interrupts is made again, and so is
 //! one that takes no connection, for two minutes.
 //!
-//! Proved: that each adapter meets its trait; as none tells its content, that is what its count
-//! does and which answers come with it. Only tested: that bytes written are read again, that a file
-//! with keys or leaves is its owner's alone, that a save keeps modes, links and the old file, that
-//! locks keep programs apart, that what is appended is read again and a file is gone once it is
-//! removed, that links connect, that a net goes on listening at its address, and that silent peers
-//! are given up. Neither: what the system does with the bytes, above all if it stops.
+//! Proved: that each adapter meets its trait. As none tells its content, that is what its count
+//! does and which answers come with it; of standard input and output it is the bytes too, over a
+//! reader or a writer that tells them, as the system's don't. Only tested: that bytes written are
+//! read again, that a file with keys or leaves is its owner's alone, that a save keeps modes, links
+//! and the old file, that locks keep programs apart, that what is appended is read again and a file
+//! is gone once it is removed, that links connect, that a net goes on listening at its address, and
+//! that silent peers are given up. Neither: what the system does with the bytes, above all if it
+//! stops.
 #![tactic(auto)]
 
 mod counting;

@@ -1,4 +1,4 @@
--- The names of faults in a report. A fault of memory has none.
+-- The names of faults in a report. The variant `Memory` of each has none.
 use Rattle.std.specs.Prelude.{ℕ, List, [], ◌++◌, codes}
 use Rattle.std.specs.Fmt.{decimal}
 use Rattle.sporc_client.specs.declared.fault.AcceptFault.{AcceptFault}

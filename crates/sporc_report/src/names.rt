@@ -1,4 +1,4 @@
-//! The names of faults. A fault of memory has none.
+//! The names of faults. The variant `Memory` of each has none.
 
 ghost use Rattle.std.specs.Prelude.{◌≡◌, ◌≢◌, ◌++◌, OnErr, OnOk, string_bytes};
 ghost use Rattle.sporc_head.specs.Refusal.{name_of, number_text};
@@ -14,9 +14,9 @@ use sporc_head::NameParts;
 use sporc_line::LineOpenFault;
 use std::alloc::AllocError;
 
-/// The name of why an edit, a change or a discard is refused: no text for a fault of memory.
+/// The name of why an edit, a change or a discard is refused: no text for `Memory`.
 pub fn edit_fault_name(fault: EditFault) -> &'static str
-    ensures name { result.now ≡ edit_fault_name fault }
+    ensures value { result.now ≡ edit_fault_name fault }
 {
     match fault {
         EditFault::Removed => "removed",
@@ -32,7 +32,7 @@ pub fn edit_fault_name(fault: EditFault) -> &'static str
 
 /// Appends the name of why an edit, a change or a discard is refused.
 pub fn push_edit_fault(out: &mut String, fault: EditFault) -> Result<(), Memory>
-    ensures name { OnOk result
+    ensures ok { OnOk result
         (string_bytes out.new ≡ string_bytes out.old ++ edit_fault_name fault) }
     ensures named { OnOk result (fault ≢ EditFault.Memory) }
     ensures memory { OnErr result (BeginsWith (string_bytes out.new) (string_bytes out.old)) }
@@ -45,7 +45,7 @@ pub fn push_edit_fault(out: &mut String, fault: EditFault) -> Result<(), Memory>
 
 /// Appends the name of why a submission is refused.
 pub fn push_submit_fault(out: &mut String, fault: SubmitFault) -> Result<(), Memory>
-    ensures name { OnOk result
+    ensures ok { OnOk result
         (string_bytes out.new ≡ string_bytes out.old ++ submit_fault_name fault) }
     ensures named { OnOk result (fault ≢ SubmitFault.Memory) }
     ensures memory { OnErr result (BeginsWith (string_bytes out.new) (string_bytes out.old)) }
@@ -56,7 +56,7 @@ pub fn push_submit_fault(out: &mut String, fault: SubmitFault) -> Result<(), Mem
     }
 }
 
-// The name of why a submission is refused, in parts: no text for a fault of memory.
+// The name of why a submission is refused, in parts: no text for `Memory`.
 fn submit_fault_parts(fault: SubmitFault) -> NameParts
     ensures { name_of result ≡ submit_fault_name fault }
 {
@@ -77,7 +77,7 @@ fn submit_fault_parts(fault: SubmitFault) -> NameParts
 
 /// Appends the name of why an entry is refused.
 pub fn push_accept_fault(out: &mut String, fault: AcceptFault) -> Result<(), Memory>
-    ensures name { OnOk result
+    ensures ok { OnOk result
         (string_bytes out.new ≡ string_bytes out.old ++ accept_fault_name fault) }
     ensures named { OnOk result (fault ≢ AcceptFault.Memory) }
     ensures memory { OnErr result (BeginsWith (string_bytes out.new) (string_bytes out.old)) }
@@ -91,7 +91,7 @@ pub fn push_accept_fault(out: &mut String, fault: AcceptFault) -> Result<(), Mem
 
 /// Appends the name of why entries give no hints.
 pub fn push_hint_fault(out: &mut String, fault: HintFault) -> Result<(), Memory>
-    ensures name { OnOk result
+    ensures ok { OnOk result
         (string_bytes out.new ≡ string_bytes out.old ++ hint_fault_name fault) }
     ensures named { OnOk result (fault ≢ HintFault.Memory) }
     ensures memory { OnErr result (BeginsWith (string_bytes out.new) (string_bytes out.old)) }
@@ -102,9 +102,9 @@ pub fn push_hint_fault(out: &mut String, fault: HintFault) -> Result<(), Memory>
     }
 }
 
-/// The name of why entries give no hints, in parts: no text for a fault of memory.
+/// The name of why entries give no hints, in parts: no text for `Memory`.
 pub fn hint_fault_parts(fault: HintFault) -> NameParts
-    ensures name { name_of result ≡ hint_fault_name fault }
+    ensures value { name_of result ≡ hint_fault_name fault }
 {
     match fault {
         HintFault::NotAdded => NameParts::of("not-added"),
@@ -114,9 +114,9 @@ pub fn hint_fault_parts(fault: HintFault) -> NameParts
     }
 }
 
-/// The name of why a client does not open: no text for a fault of memory.
+/// The name of why a client does not open: no text for `Memory`.
 pub fn open_fault_name(fault: LineOpenFault) -> &'static str
-    ensures name { result.now ≡ open_fault_name fault }
+    ensures value { result.now ≡ open_fault_name fault }
 {
     match fault {
         LineOpenFault::NoKey => "no-key",
@@ -127,7 +127,7 @@ pub fn open_fault_name(fault: LineOpenFault) -> &'static str
 
 /// Appends the name of why a client does not open.
 pub fn push_open_fault(out: &mut String, fault: LineOpenFault) -> Result<(), Memory>
-    ensures name { OnOk result
+    ensures ok { OnOk result
         (string_bytes out.new ≡ string_bytes out.old ++ open_fault_name fault) }
     ensures named { OnOk result (fault ≢ LineOpenFault.Memory) }
     ensures memory { OnErr result (BeginsWith (string_bytes out.new) (string_bytes out.old)) }

@@ -16,8 +16,9 @@
 //! Proved: a text is one script or has one first line outside the grammar, and the readers answer
 //! which. A line is in the grammar if it is how some command is spelled (`specs/Commands.antt`,
 //! `specs/EditorLines.antt`) that may follow the lines before it (`specs/Declarations.antt`). Only
-//! tested: that reading does not run out of memory if there is ample (`sporc_commands_tests`).
-//! Neither: how long it takes.
+//! tested: that reading does not run out of memory if there is ample, of plays in
+//! `sporc_top_tests`, through `run`, and of editors' lines in `sporc_thread_tests`. Neither: how
+//! long it takes.
 #![tactic(auto)]
 
 mod command;

@@ -80,11 +80,11 @@ pub record Waits (a b : Inlet) (bytes : List ℕ) : Type 0 where
   pub faults : a.faults ≤ b.faults
 
 -- what comes of waiting for the first message
-abbrev pub IsFound : Inlet → Inlet → Result ToServer SessionEnd → Type 0
-IsFound a b (Ok message) = TakesMessage a b message
-IsFound a b (Err end) = IsNextEnd a b end
+abbrev pub IsFirstMessage : Inlet → Inlet → Result ToServer SessionEnd → Type 0
+IsFirstMessage a b (Ok message) = TakesMessage a b message
+IsFirstMessage a b (Err end) = IsNextEnd a b end
 
 -- the first message, or why there is none
 abbrev pub IsFirst : Inlet → Inlet → Result ToServer SessionEnd → Type 0
 IsFirst a b result = (mid : Inlet) × (bytes : List ℕ) × Waits a mid bytes × (mid.faults ≤ b.faults)
-    × IsFound mid b result
+    × IsFirstMessage mid b result

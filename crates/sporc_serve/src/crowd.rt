@@ -25,7 +25,7 @@ use std::thread::{Threads, join_mut};
 /// What a server answers, once a session more has ended: a fault of the tail goes before one of the
 /// net, that before a ticket's, and that before running out of memory.
 pub fn with_end(rest: Result<(), ServeFault>, end: SessionEnd) -> Result<(), ServeFault>
-    ensures { result ≡ with_end rest end }
+    ensures value { result ≡ with_end rest end }
 {
     match end {
         SessionEnd::Worn(ticket) => with_worn(rest, ticket),

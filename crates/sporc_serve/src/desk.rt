@@ -46,7 +46,7 @@ impl<T: Tail> Kept for Desk<T> {
 
     ghost by = { by_of };
 
-    ghost level = { λ d. 0 };
+    ghost watermark = { λ d. 0 };
 
     #[tactic(auto, using(crate::proofs::Logs::placed_length))]
     fn logged(&self) -> u64 {
@@ -105,7 +105,7 @@ impl<T: Tail> Desk<T> {
             ++ placed_by number (added_of self.old.order session.old message.now)) }
         ensures unchanged { OnErr result (session.new ≡ session.old) }
         ensures unanswered { IfErr result (IsUnanswered T.may_fail) }
-        ensures err { OnErr result (log_of self.new.order self.new.numbers.items
+        ensures log_unchanged { OnErr result (log_of self.new.order self.new.numbers.items
             ≡ log_of self.old.order self.old.numbers.items) }
     {
         self.numbers.reserve(1)?;

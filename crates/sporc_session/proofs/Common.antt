@@ -6,7 +6,7 @@ pub use Rattle.sporc_shared.specs.Passes.{HasFront, IsPassOf, IsWornOnErr}
 pub use Rattle.sporc_shared.specs.declared.answered.Answered.{Answered}
 pub use Rattle.sporc_turn.proofs.Lists.{drop_seen, longer_is, own_append, starts_length, starts_self}
 pub use Rattle.sporc_turn.specs.Log.{Agrees, StartsWith, longer, own}
-pub use Rattle.sporc_turn.specs.Passes.{IsWorn, known_of, level_of, read_of}
+pub use Rattle.sporc_turn.specs.Passes.{IsWorn, known_of, watermark_of, read_of}
 pub use Rattle.sporc_turn.specs.declared.known.Known.{Known}
 pub use Rattle.sporc_turn.specs.declared.pass.Pass.{Pass}
 pub use Rattle.sporc_turn.specs.declared.turn.Worn.{Worn}
@@ -52,9 +52,9 @@ pub use Rattle.sporc_session.specs.Outcomes.{DidOrStopped, Drew, DrewFew, Gather
 pub use Rattle.sporc_session.specs.Points.{IsClientAt, IsPoint}
 pub use Rattle.sporc_session.specs.Protocol.{Asking, Between, Checking, Drains, Goes, Greeting, IsQuiet, Leads, Mode, Pulling, Sending, Stuck, Submits, Taking, Then, always, asks, drained, drains}
 pub use Rattle.sporc_session.specs.Protocol.{greets, is_gone, is_there, is_unsettled, looks, message_due, pulls, rejected, rounds_begun, sends, submits_entry, submits_none, takes}
-pub use Rattle.sporc_session.specs.Replies.{HasReadFor, checked_of, edited_of, made_of, plain_of, taken_of, worn_of}
+pub use Rattle.sporc_session.specs.Replies.{HasReadFor, checked_of, edited_of, made_of, plain_of, taken_of}
 pub use Rattle.sporc_session.specs.Sessions.{EditorsDid, FirstPhase, IsSession, Rounds, SecondPhase, SessionEnds, doesnt_settle, settles, stops}
 pub use Rattle.sporc_session.specs.Traces.{CountsSame, IsAllowedLog, KnowsMore, Stand, Trace, stand, stand_at}
-pub use Rattle.sporc_session.specs.Wires.{Exchanged, InboxInvariant, InboxModel, IsBadFrame, IsCut, IsLastFrom, LinkStand, Received, empty_inbox, link_at, link_stand, more_taken, spelled, unread_of}
+pub use Rattle.sporc_session.specs.Wires.{Exchanged, InboxInvariant, InboxModel, IsBadFrame, IsCut, IsLastFrom, LinkStand, LinkTold, Received, empty_inbox, link_at, link_stand, link_told, more_taken, spelled, unread_of}
 pub use Rattle.sporc_session.specs.declared.editor.Seen.{Seen}
 pub use Rattle.sporc_session.specs.declared.fault.SessionFault.{SessionFault}

@@ -1,8 +1,8 @@
 -- Entries that are fetched.
-use Rattle.std.proofs.Common.{◌≡◌, ◌≢◌, ◌↔◌, IsTrue, Bool, true, ℕ, ◌+◌, ◌<◌, ◌≤◌, List, [], ◌∷◌, ◌++◌, length, take, Option, Some, refl, sym, ap, ◌∙◌, subst, arith, inl, inr}
+use Rattle.std.proofs.Common.{◌≡◌, ◌≢◌, ◌↔◌, IsTrue, Bool, true, ℕ, ◌+◌, ◌<◌, ◌≤◌, List, [], ◌∷◌, ◌++◌, length, take, Some, refl, sym, ap, ◌∙◌, subst, arith, inl, inr}
 use Rattle.sporc_session.proofs.Common.{◌⊎◌, ⊤, IsAtEnd, cases_lt, append-nil, length-append, nil_from_length, take-append-le, take_all, All-nil, All-pop, All-push, MAX_ENTRIES, Rose, ToClient}
 use Rattle.sporc_session.proofs.Common.{ToServer, SessionFault, Act, Greet, Pull, all_of, answers_by, handed_out, messages_by, AskFails, Exchanged, InboxModel, IsBadFrame, IsCut, IsLastFrom}
-use Rattle.sporc_session.proofs.Common.{LinkStand, empty_inbox, link_stand, spelled}
+use Rattle.sporc_session.proofs.Common.{LinkStand, LinkTold, empty_inbox, link_stand, spelled}
 use Rattle.std.proofs.lemmas.List.Concat.{flat_map-append, flat_map-cons}
 use Rattle.sporc_wire.specs.declared.to_server.ToServer.TheVariants as to_server
 use Rattle.sporc_session.specs.declared.fault.SessionFault.TheVariants as faults
@@ -53,14 +53,14 @@ begun a b document member sent = record {
   are = refl;
 }
 
-pub greeted : (written left : Option (List ℕ)) (count : ℕ) (b : LinkStand) {inbox : InboxModel} {message : ToServer} (document : List ℕ) (member : ℕ) {entries : List (List ℕ)} → inbox ≡ empty_inbox → message ≡ to_server.Hello document member → entries ≡ []
-    → Exchanged (link_stand written left count inbox) b (spelled (message ∷ [])) [] → SoFar (link_stand written left count empty_inbox) b document member entries
-greeted written left count b {inbox} {message} document member fresh hello none sent =
-    let there : Exchanged (link_stand written left count inbox) b (spelled (to_server.Hello document member ∷ [])) [] =
-    subst (λ (m : ToServer). Exchanged (link_stand written left count inbox) b (spelled (m ∷ [])) []) hello sent in
-    let here : Exchanged (link_stand written left count empty_inbox) b (spelled (to_server.Hello document member ∷ [])) [] =
-    subst (λ (i : InboxModel). Exchanged (link_stand written left count i) b (spelled (to_server.Hello document member ∷ [])) []) fresh there in
-    subst (SoFar (link_stand written left count empty_inbox) b document member) (sym none) (begun (link_stand written left count empty_inbox) b document member here)
+pub greeted : (link : LinkTold) (b : LinkStand) {inbox : InboxModel} {message : ToServer} (document : List ℕ) (member : ℕ) {entries : List (List ℕ)} → inbox ≡ empty_inbox → message ≡ to_server.Hello document member → entries ≡ []
+    → Exchanged (link_stand link inbox) b (spelled (message ∷ [])) [] → SoFar (link_stand link empty_inbox) b document member entries
+greeted link b {inbox} {message} document member fresh hello none sent =
+    let there : Exchanged (link_stand link inbox) b (spelled (to_server.Hello document member ∷ [])) [] =
+    subst (λ (m : ToServer). Exchanged (link_stand link inbox) b (spelled (m ∷ [])) []) hello sent in
+    let here : Exchanged (link_stand link empty_inbox) b (spelled (to_server.Hello document member ∷ [])) [] =
+    subst (λ (i : InboxModel). Exchanged (link_stand link i) b (spelled (to_server.Hello document member ∷ [])) []) fresh there in
+    subst (SoFar (link_stand link empty_inbox) b document member) (sym none) (begun (link_stand link empty_inbox) b document member here)
 
 -- what came is tested for being nothing
 pub is_nothing : {test : Bool} {came : List (List ℕ)} → IsTrue test ↔ (length came ≡ 0) → test ≡ true → came ≡ []

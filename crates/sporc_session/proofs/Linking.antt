@@ -9,7 +9,7 @@ use Rattle.sporc_wire.specs.declared.to_client.ToClient.TheVariants as to_client
 use Rattle.sporc_wire.specs.declared.to_server.ToServer.TheVariants as to_server
 use Rattle.sporc_wire.specs.ToServer.{to_server_bytes}
 use Rattle.sporc_session.specs.declared.fault.SessionFault.TheVariants as faults
-use Rattle.sporc_session.proofs.Exchanging.{appends_none, consumes_none, exchanged_none, exchanged_then, received_nothing}
+use Rattle.sporc_session.proofs.Exchanging.{appends_none, consumes_none, exchanged_none, exchanged_then, received_nothing, rose_then}
 
 -- ---- one call
 
@@ -90,9 +90,6 @@ more_rest i j k piece same is =
     ap (λ (m : InboxModel). length (m.rest ++ m.held)) is ∙ ap length (sym (append_assoc j.rest j.held piece)) ∙ length-append (j.rest ++ j.held) piece ∙ ap (λ (s : Unread). length s.rest + length piece) same
 
 -- ---- exchanges in a row
-
-rose_then : (n m k : ℕ) → n ≤ m → Rose m k → Rose n k
-rose_then n m k low rose = omega (arith, low, rose)
 
 silent_from : (a b c : LinkStand) (fault : SessionFault) → a.faults ≤ b.faults → SilentFor b c fault → SilentFor a c fault
 silent_from a b c faults.LinkFault low cause = rose_then a.faults b.faults c.faults low cause

@@ -1,6 +1,6 @@
 -- The two phases.
 use Rattle.std.proofs.Common.{◌≡◌, ◌≤◌, ℕ, Bool, true, false, List, [], ◌∷◌, length, Option, Ok, Err, refl, sym, ◌∙◌, subst, arith}
-use Rattle.sporc_session.proofs.Common.{Result, ⊤, result_err, append-nil, MAX_ENTRIES, Known, ToServer, Item, Past, client_of, items_of, IsLookAt, membership_of, SessionFault, Looked, LookAct}
+use Rattle.sporc_session.proofs.Common.{Result, ⊤, result_err, append-nil, MAX_ENTRIES, Known, Pass, known_of, ToServer, Item, Past, client_of, items_of, IsLookAt, membership_of, SessionFault, Looked, LookAct}
 use Rattle.sporc_session.proofs.Common.{SendEnds, Unsent, unsent, Trace, Stand, stand, Did, DidOrStopped, Asking, Greeting, Between, Pulling, always, is_unsettled, greets, FirstPhase, SecondPhase}
 use Rattle.sporc_session.proofs.Common.{Rounds, settles, doesnt_settle, stops, Exchanged, LinkStand, spelled}
 use Rattle.sporc_wire.specs.declared.to_server.ToServer.TheVariants as to_server
@@ -10,7 +10,7 @@ use Rattle.sporc_session.specs.declared.fault.SessionFault.TheVariants as faults
 use Rattle.sporc_session.proofs.Tracing.{words_none, did_then, did_stopped, stopped_within}
 use Rattle.sporc_session.proofs.Knowing.{knows_none, seen_after}
 use Rattle.sporc_session.proofs.Stepping.{act_did, ask_stopped, look_did, look_trace}
-use Rattle.sporc_session.proofs.Telling.{Tells, TellsOr, worn_stopped}
+use Rattle.sporc_session.proofs.Telling.{Replied, Tells, worn_stopped}
 
 -- ---- Hello
 
@@ -74,6 +74,6 @@ module _ {k k' : Known Item} {look : Look} where
         doesnt_settle (subst (λ (n : ℕ). Rounds a (stand k' link words g) until n look.at look.pending) all (rounds_before did)) unsettled
 
 -- no ticket was left for it
-pub second_worn : {link : LinkStand} {words : Option (List (List ℕ))} {g : ℕ} {a : Stand} {k k' : Known Item} {done rounds until : ℕ} {fault : SessionFault} {result : Result Look SessionFault} → done ≤ rounds → result ≡ Err fault → TellsOr IsLookAt k k' result
-    → Did (is_unsettled until) a (stand k link words g) (Between 0) (Between done) → SecondPhase a (stand k' link words g) rounds until (Err fault)
+pub second_worn : {link : LinkStand} {words : Option (List (List ℕ))} {g : ℕ} {a : Stand} {A : Type 0} {Call : Pass Item → A → Type 0} {k : Known Item} {p : Pass Item} {done rounds until : ℕ} {fault : SessionFault} {result : Result A SessionFault} → done ≤ rounds → result ≡ Err fault → Replied Call k p result
+    → Did (is_unsettled until) a (stand k link words g) (Between 0) (Between done) → SecondPhase a (stand (known_of p) link words g) rounds until (Err fault)
 second_worn {link} {words} {g} {done = done} {rounds = rounds} low is h did = stops (stopped_within done rounds low (did_stopped did (worn_stopped is h)))

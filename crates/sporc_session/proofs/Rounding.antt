@@ -7,8 +7,8 @@ use Rattle.sporc_session.proofs.Common.{rejected, plain_of, checked_of, Exchange
 use Rattle.sporc_wire.specs.declared.to_server.ToServer.TheVariants as to_server
 use Rattle.sporc_session.proofs.Knowing.{knows_none}
 use Rattle.sporc_session.proofs.Tracing.{words_none, did_then, did_stopped}
-use Rattle.sporc_session.proofs.Stepping.{act_did, ask_stopped, gathered_did, drained_did, gather_stopped, quiet_did, entry_did, submit_stopped, check_did, check_stopped, known_stopped}
-use Rattle.sporc_session.proofs.Taking.{WornAs, by_reply}
+use Rattle.sporc_session.proofs.Stepping.{act_did, ask_stopped, gathered_did, drained_did, gather_stopped, quiet_did, entry_did, submit_stopped, check_did, check_stopped}
+use Rattle.sporc_session.proofs.Telling.{Replied, Tells, WornAs, told}
 
 -- ---- entries are pulled and accepted
 
@@ -145,19 +145,20 @@ module _ {ready : ℕ → ℕ → Bool} {n at : ℕ} {words : Option (List (List
 
 -- ---- it is seen whether an entry is still on its way
 
-pub check_made : {k : Known Item} {entry : List ℕ} {refusal : Refusal} (reply : Result (Answered Bool) (Pass Item × Worn)) {plain : Result Bool ℕ × Pass Item} {result : Result ⊤ SessionFault} → k.number ≡ 0
-    → plain ≡ plain_of reply → result ≡ checked_of refusal plain.0
+pub check_told : {k : Known Item} (entry : List ℕ) (reply : Result (Answered Bool) (Pass Item × Worn)) {plain : Result Bool SessionFault × Pass Item} → plain ≡ plain_of reply
     → IfOk reply (λ r. (before : Past) × IsCall k (known_of r.pass) before [] × (r.answer ≡ is_flight (client_of before) entry)) → WornAs k reply
-    → (ready : ℕ → ℕ → Bool) (n : ℕ) (link : LinkStand) (words : Option (List (List ℕ))) (g : ℕ)
-    → DidOrStopped ready (stand k link words g) (stand (known_of plain.1) link words g) (Checking n entry refusal) (Between (n + 1)) result
-check_made {k} {entry} {refusal} reply {plain} zero' is is' call err ready n link words g =
-    subst (P (known_of plain.1)) (sym is')
-    (by_reply (λ k' answer. (before : Past) × IsCall k k' before [] × (answer ≡ is_flight (client_of before) entry)) reply is call err (λ k' a. P k' (checked_of refusal a)) by
-    (λ ticket h. record { ends = known_stopped (knows_none k) h }))
-  where
-    P : Known Item → Result ⊤ SessionFault → Type 0
-    P k' r = DidOrStopped ready (stand k link words g) (stand k' link words g) (Checking n entry refusal) (Between (n + 1)) r
+    → Replied (λ p answer. Tells (λ before answer. answer ≡ is_flight (client_of before) entry) k (known_of p) answer) k plain.1 plain.0
+check_told {k} entry = told (λ before answer. answer ≡ is_flight (client_of before) entry)
 
-    by : (answer : Bool) (k' : Known Item) → (before : Past) × IsCall k k' before [] × (answer ≡ is_flight (client_of before) entry) → P k' (checked_of refusal (Ok answer))
-    by true k' h = record { ends = check_stopped zero' h.1 h.2 }
-    by false k' h = record { ends = check_did zero' h.1 h.2 }
+pub check_made : {k k' : Known Item} {entry : List ℕ} {refusal : Refusal} {is_there : Bool} {result : Result ⊤ SessionFault} → k.number ≡ 0 → result ≡ checked_of refusal is_there
+    → Tells (λ before answer. answer ≡ is_flight (client_of before) entry) k k' is_there
+    → (ready : ℕ → ℕ → Bool) (n : ℕ) (link : LinkStand) (words : Option (List (List ℕ))) (g : ℕ)
+    → DidOrStopped ready (stand k link words g) (stand k' link words g) (Checking n entry refusal) (Between (n + 1)) result
+check_made {k} {k'} {entry} {refusal} {is_there} zero' is t ready n link words g = subst P (sym is) (by is_there t)
+  where
+    P : Result ⊤ SessionFault → Type 0
+    P r = DidOrStopped ready (stand k link words g) (stand k' link words g) (Checking n entry refusal) (Between (n + 1)) r
+
+    by : (answer : Bool) → Tells (λ before answer. answer ≡ is_flight (client_of before) entry) k k' answer → P (checked_of refusal answer)
+    by true h = record { ends = check_stopped zero' h.call h.is_so }
+    by false h = record { ends = check_did zero' h.call h.is_so }

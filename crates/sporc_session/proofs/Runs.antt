@@ -8,10 +8,10 @@ use Rattle.sporc_member.specs.Device.{same_device}
 use Rattle.sporc_member.proofs.SameDevice.{one_same, same_one}
 use Rattle.sporc_line.specs.Good.{Meets}
 use Rattle.sporc_client.specs.Allowed.{can_log, can_log_all, is_allowed}
-use Rattle.sporc_client.specs.Calls.{LeadTo, events_of}
+use Rattle.sporc_client.specs.Calls.{LeadTo, events_of, mover_of}
 use Rattle.sporc_client.specs.Run.{Setup, World, Move, Open, Happen, Give, Restart, IsRun, May, after, opening_of, start}
 use Rattle.sporc_client.proofs.Reached.{happens_to, put_same}
-use Rattle.sporc_session.specs.Runs.{IsJournal, device_of, moves_of}
+use Rattle.sporc_session.specs.Runs.{IsJournal, moves_of}
 use Rattle.sporc_session.proofs.Pasts.{past_goes_on}
 
 pub session_leads : (s : Setup) (w : World) (who : Device) (past : Past) (a b : Stand) (rounds until : ℕ) (scripts : List (List EditorLine)) (result : Result ⊤ SessionFault)
@@ -50,20 +50,20 @@ abbrev AllGo : Setup → World → List Move → Type 0
 AllGo s w moves = (who : Device) → Goes s who (w.clients who) (moves_of who moves)
 
 -- the first move is its device's first one
-own_first : (move : Move) (moves : List Move) (who : Device) → same_device (device_of move) who ≡ true → moves_of who (move ∷ moves) ≡ move ∷ moves_of who moves
+own_first : (move : Move) (moves : List Move) (who : Device) → same_device (mover_of move) who ≡ true → moves_of who (move ∷ moves) ≡ move ∷ moves_of who moves
 own_first move moves who is = ap (λ (b : Bool). cond b (move ∷ moves_of who moves) (moves_of who moves)) is
 
 -- and none of another's
-others_stay : (move : Move) (moves : List Move) (who : Device) → same_device (device_of move) who ≡ false → moves_of who (move ∷ moves) ≡ moves_of who moves
+others_stay : (move : Move) (moves : List Move) (who : Device) → same_device (mover_of move) who ≡ false → moves_of who (move ∷ moves) ≡ moves_of who moves
 others_stay move moves who is = ap (λ (b : Bool). cond b (move ∷ moves_of who moves) (moves_of who moves)) is
 
 -- what a device's first move needs and does
 record Moved (s : Setup) (w : World) (move : Move) (rest : List Move) : Type 0 where
   may : May s w move
-  goes : Goes s (device_of move) ((after s w move).clients (device_of move)) rest
-  others : (other : Device) → device_of move ≢ other → (after s w move).clients other ≡ w.clients other
+  goes : Goes s (mover_of move) ((after s w move).clients (mover_of move)) rest
+  others : (other : Device) → mover_of move ≢ other → (after s w move).clients other ≡ w.clients other
 
-moved : (s : Setup) (w : World) (move : Move) (rest : List Move) (client : Option PlainClient) → w.clients (device_of move) ≡ client → Goes s (device_of move) client (move ∷ rest) → Moved s w move rest
+moved : (s : Setup) (w : World) (move : Move) (rest : List Move) (client : Option PlainClient) → w.clients (mover_of move) ≡ client → Goes s (mover_of move) client (move ∷ rest) → Moved s w move rest
 moved s w (Open who ring) rest None at g =
     let c = opened (opening_of s who ring) in
     record {
@@ -85,7 +85,7 @@ all_run s w [] all = tt
 all_run s w (move ∷ moves) all = (m.may, all_run s (after s w move) moves then)
   where
     me : Device
-    me = device_of move
+    me = mover_of move
 
     m : Moved s w move (moves_of me moves)
     m = moved s w move (moves_of me moves) (w.clients me) refl (subst (Goes s me (w.clients me)) (own_first move moves me (one_same me)) (all me))

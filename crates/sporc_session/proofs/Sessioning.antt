@@ -2,7 +2,7 @@
 use Rattle.std.proofs.Common.{◌≡◌, ◌≢◌, ℕ, ◌+◌, ◌≤◌, ◌<◌, ◌==◌, ne_eqb, List, [], ◌∷◌, ◌++◌, length, take, drop, Option, Some, None, Err, refl, sym, ap, ◌∙◌, subst, append-nil, arith, cond}
 use Rattle.sporc_session.proofs.Common.{All, Result, ⊤, All-head, All-tail, first_of, EditorLine, Known, Agrees, StartsWith, own, Item, by_of, SessionFault, all_of, items_by, CountsSame, IsAllowedLog}
 use Rattle.sporc_session.proofs.Common.{KnowsMore, Stand, stand, AreLinesDone, LineEnd, EditorsDid, FirstPhase, IsSession, SecondPhase, SessionEnds, doesnt_settle, settles, stops, InboxModel}
-use Rattle.sporc_session.proofs.Common.{empty_inbox, link_stand}
+use Rattle.sporc_session.proofs.Common.{LinkTold, empty_inbox, link_stand}
 use Rattle.std.proofs.lemmas.List.Elements.{All-weaker}
 use Rattle.std.specs.List.{filter}
 use Rattle.sporc_turn.specs.declared.known.Joined.{Joined}
@@ -137,10 +137,10 @@ second_knows a b rounds until result (doesnt_settle r unsettled) = (all_of items
 second_knows a b rounds until result (stops s) = (all_of items_by s.acts, s.trace.knows)
 
 -- nothing was taken off the link before
-pub crowd_from : (known : Known Item) (written left : Option (List ℕ)) (count : ℕ) (words : Option (List (List ℕ))) (count' : ℕ) (inbox : InboxModel) (m : Stand) (rounds : ℕ) (scripts : List (List EditorLine)) (receiver fault : Option SessionFault) → inbox ≡ empty_inbox
-    → IsCrowd (stand known (link_stand written left count inbox) words count') m rounds scripts receiver fault → IsCrowd (stand known (link_stand written left count empty_inbox) words count') m rounds scripts receiver fault
-crowd_from known written left count words count' inbox m rounds scripts receiver fault is crowd =
-    subst (λ (i : InboxModel). IsCrowd (stand known (link_stand written left count i) words count') m rounds scripts receiver fault) is crowd
+pub crowd_from : (known : Known Item) (link : LinkTold) (words : Option (List (List ℕ))) (count' : ℕ) (inbox : InboxModel) (m : Stand) (rounds : ℕ) (scripts : List (List EditorLine)) (receiver fault : Option SessionFault) → inbox ≡ empty_inbox
+    → IsCrowd (stand known (link_stand link inbox) words count') m rounds scripts receiver fault → IsCrowd (stand known (link_stand link empty_inbox) words count') m rounds scripts receiver fault
+crowd_from known link words count' inbox m rounds scripts receiver fault is crowd =
+    subst (λ (i : InboxModel). IsCrowd (stand known (link_stand link i) words count') m rounds scripts receiver fault) is crowd
 
 module _ (a m : Stand) (rounds until : ℕ) (scripts : List (List EditorLine)) (receiver fault : Option SessionFault) (begins : Begins a.known) (crowd : IsCrowd a m rounds scripts receiver fault) where
   -- the session ends after the first phase

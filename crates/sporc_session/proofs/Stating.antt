@@ -2,8 +2,8 @@
 use Rattle.std.proofs.Common.{◌≡◌, ◌≢◌, ◌⊎◌, ◌≤◌, ◌+◌, ℕ, Bool, true, false, List, [], ◌∷◌, ◌++◌, length, Option, Some, Ok, Err, refl, sym, ap, ◌∙◌, subst, arith, append-nil, inl, inr, ⊎_elim, nat_le, nat_lt, not, ◌==◌, ◌-◌, min, le-leb, eq-eqb, take_all}
 use Rattle.sporc_session.proofs.Common.{Result, IfOk, IfErr, MatchResult, ⊤, AnswersUnless, first_of, unless, Mark, base_len, remove_marks, insertion, insert_marks, removal, keep_marks, Known, Pass}
 use Rattle.sporc_session.proofs.Common.{Worn, StartsWith, known_of, EditFault, added, has_right, is_out, Edit, Change, PlainClient, line_of, shown_after, Answered, IsCall, Item, Happened, Past, client_of}
-use Rattle.sporc_session.proofs.Common.{items_of, IsLookAt, HasFront, Seen, SessionFault, CountsSame, KnowsMore, AskedDid, IsAtFront, IsWornFault, StatedDid, seen_of, AnswersAt, Asked, Changes, Edits}
-use Rattle.sporc_session.proofs.Common.{IsDone, IsEditAt, IsOfLine, LineFails, LineGives, IsPoint, edited_of, plain_of, worn_of}
+use Rattle.sporc_session.proofs.Common.{items_of, IsLookAt, HasFront, Seen, SessionFault, KnowsMore, AskedDid, IsAtFront, IsWornFault, StatedDid, seen_of, AnswersAt, Asked, Changes, Edits}
+use Rattle.sporc_session.proofs.Common.{IsDone, IsEditAt, IsOfLine, LineFails, LineGives, IsPoint, HasReadFor, edited_of, plain_of}
 use Rattle.sporc_delta.specs.Format.{delta_bytes}
 use Rattle.sporc_delta.proofs.Lengths.{base_len-append, base_len-remove_marks, base_len-insert_marks, base_len-keep_marks}
 use Rattle.sporc_member.specs.declared.change.Change.{Change as MemberChange}
@@ -13,10 +13,10 @@ use Rattle.sporc_client.specs.Answers.{change_fault, edit_fault}
 use Rattle.sporc_shared.specs.declared.look.Look.{Look}
 use Rattle.sporc_shared.proofs.Calling.{length_items}
 use Rattle.sporc_session.specs.declared.fault.SessionFault.TheVariants as faults
-use Rattle.sporc_session.proofs.Knowing.{call_client, call_counts, call_knows, call_point, client_later, knows_none, knows_then, point_later, seen_after}
+use Rattle.sporc_session.proofs.Knowing.{call_client, call_knows, call_point, client_later, knows_none, knows_then, point_later, seen_after}
 use Rattle.sporc_session.proofs.Lining.{fails_as}
 use Rattle.sporc_session.proofs.Pasts.{ShowsLater, shows_later}
-use Rattle.sporc_session.proofs.Taking.{WornAs, by_reply}
+use Rattle.sporc_session.proofs.Telling.{Replied, WornAs, replied}
 
 -- ---- which answers the client gives to a line
 
@@ -69,7 +69,7 @@ abbrev FailedFor : Known Item → Known Item → ℕ → ℕ → (EditFault → 
 FailedFor k k' number line Gives fault = KnowsMore k k' [] × LineFails number line Gives fault
 
 failed_for : (k k' : Known Item) (number line : ℕ) (Gives : EditFault → Type 0) (P : ⊤ → Type 0) (fault : EditFault) → KnowsMore k k' [] → (fault ≢ edits.Memory → Gives fault × IsLate fault)
-    → MatchResult (edited_of number line (Ok (Err fault))) P (FailedFor k k' number line Gives)
+    → MatchResult (edited_of number line (Err fault)) P (FailedFor k k' number line Gives)
 failed_for k k' number line Gives P (edits.SeenAhead len) knows h = ⊎_elim (λ (never : ⊥). absurd never) (λ (is : edits.SeenAhead len ≡ edits.JournalFull). absurd cc) (h (λ e. absurd cc)).1
 failed_for k k' number line Gives P edits.WrongLength knows h = ⊎_elim (λ (never : ⊥). absurd never) (λ (is : edits.WrongLength ≡ edits.JournalFull). absurd cc) (h (λ e. absurd cc)).1
 failed_for k k' number line Gives P edits.JournalFull knows h = (knows, (h (λ e. absurd cc)).0)
@@ -107,18 +107,19 @@ at_front k k' before look events call seen front =
     }
 
 -- what a look tells of it, or that no ticket was left
-pub record Saw (k k' : Known Item) (result : Result Seen SessionFault) : Type 0 where
-  pub knows : KnowsMore k k' []
-  pub ok : IfOk result (λ seen. IsAtFront k' seen.front.events seen.len)
+pub record Saw (k : Known Item) (p : Pass Item) (result : Result Seen SessionFault) : Type 0 where
+  pub knows : KnowsMore k (known_of p) []
+  pub ok : IfOk result (λ seen. IsAtFront (known_of p) seen.front.events seen.len)
   pub err : IfErr result IsWornFault
+  pub read : IfErr result (HasReadFor p)
 
-pub saw : (k : Known Item) (reply : Result (Answered Look) (Pass Item × Worn)) (found : Result Seen ℕ × Pass Item) (result : Result Seen SessionFault) → found ≡ seen_of reply → result ≡ worn_of found.0
-    → IfOk reply (λ r. (before : Past) × IsCall k (known_of r.pass) before [] × IsLookAt before r.answer) → HasFront reply → WornAs k reply → Saw k (known_of found.1) result
-saw k reply found result is is' ok front err = subst (Saw k (known_of found.1)) (sym is') (subst (λ (f : Result Seen ℕ × Pass Item). Saw k (known_of f.1) (worn_of f.0)) (sym is) (by reply ok front err))
+pub saw : (k : Known Item) (reply : Result (Answered Look) (Pass Item × Worn)) (found : Result Seen SessionFault × Pass Item) → found ≡ seen_of reply
+    → IfOk reply (λ r. (before : Past) × IsCall k (known_of r.pass) before [] × IsLookAt before r.answer) → HasFront reply → WornAs k reply → Saw k found.1 found.0
+saw k reply found is ok front err = subst (λ (f : Result Seen SessionFault × Pass Item). Saw k f.1 f.0) (sym is) (by reply ok front err)
   where
-    by : (r : Result (Answered Look) (Pass Item × Worn)) → IfOk r (λ r. (before : Past) × IsCall k (known_of r.pass) before [] × IsLookAt before r.answer) → HasFront r → WornAs k r → Saw k (known_of (seen_of r).1) (worn_of (seen_of r).0)
-    by (Ok r) ok front err = record { knows = call_knows k (known_of r.pass) ok.0 [] ok.1; ok = at_front k (known_of r.pass) ok.0 r.answer r.front.events ok.1 ok.2 front; err = tt }
-    by (Err e) ok front err = record { knows = subst (λ (z : Known Item). KnowsMore k z []) (sym err.2) (knows_none k); ok = tt; err = ap faults.Worn err.0 }
+    by : (r : Result (Answered Look) (Pass Item × Worn)) → IfOk r (λ r. (before : Past) × IsCall k (known_of r.pass) before [] × IsLookAt before r.answer) → HasFront r → WornAs k r → Saw k (seen_of r).1 (seen_of r).0
+    by (Ok r) ok front err = record { knows = call_knows k (known_of r.pass) ok.0 [] ok.1; ok = at_front k (known_of r.pass) ok.0 r.answer r.front.events ok.1 ok.2 front; err = tt; read = tt }
+    by (Err e) ok front err = record { knows = subst (λ (z : Known Item). KnowsMore k z []) (sym err.2) (knows_none k); ok = tt; err = ap faults.Worn err.0; read = omega (arith, err.0, err.1) }
 
 -- ---- an edit that is stated there
 
@@ -126,7 +127,7 @@ abbrev EditCall : Known Item → ℕ → List Mark → Known Item → Result ℕ
 EditCall k events marks k' answer = (before : Past) × IsCall k k' before (added answer (Edit k.number events marks)) × AnswersUnless edits.Memory answer (edit_fault (client_of before) events marks)
 
 stated_by : (k : Known Item) (line events len : ℕ) (marks : List Mark) → IsAtFront k events len → base_len marks ≡ len → (answer : Result ℕ EditFault) (k' : Known Item) → EditCall k events marks k' answer
-    → StatedDid k k' line events marks (edited_of k.number line (Ok answer))
+    → StatedDid k k' line events marks (edited_of k.number line answer)
 stated_by k line events len marks front stated (Ok n) k' h = call_knows k k' h.0 (Edit k.number events marks ∷ []) h.1
 stated_by k line events len marks front stated (Err fault) k' h =
     failed_for k k' k.number line (AnswersAt k'.seen k.start k.number k.mine (λ client. edit_fault client events marks)) (λ x. KnowsMore k k' (Happened (Edit k.number events marks) ∷ [])) fault (call_knows k k' h.0 [] h.1) gives
@@ -145,47 +146,40 @@ stated_by k line events len marks front stated (Err fault) k' h =
     gives : fault ≢ edits.Memory → AnswersAt k'.seen k.start k.number k.mine (λ client. edit_fault client events marks) fault × IsLate fault
     gives other = (found_at k k' h.0 (λ client. edit_fault client events marks) fault h.1 (h.2 other), stated_late (client_of h.0) events marks fault there long (h.2 other))
 
--- a reply by what its answer comes to, if a ticket was drawn
-module _ (k : Known Item) (number line : ℕ) (same : number ≡ k.number) (reply : Result (Answered (Result ℕ EditFault)) (Pass Item × Worn)) (plain : Result (Result ℕ EditFault) ℕ × Pass Item) (result : Result ⊤ SessionFault)
-    (is : plain ≡ plain_of reply) (is' : result ≡ edited_of number line plain.0) (err : WornAs k reply) where
-  replied : (Call : Known Item → Result ℕ EditFault → Type 0) (P : ⊤ → Known Item → Type 0) (Gives : Known Item → EditFault → Type 0)
-      → ((answer : Result ℕ EditFault) (k' : Known Item) → Call k' answer → MatchResult (edited_of k.number line (Ok answer)) (λ x. P x k') (FailedFor k k' k.number line (Gives k')))
-      → IfOk reply (λ r. Call (known_of r.pass) r.answer) → MatchResult result (λ x. P x (known_of plain.1)) (FailedFor k (known_of plain.1) k.number line (Gives (known_of plain.1)))
-  replied Call P Gives by ok =
-      subst (λ (r : Result ⊤ SessionFault). Did r (known_of plain.1)) (sym (is' ∙ ap (λ (n : ℕ). edited_of n line plain.0) same))
-      (by_reply Call reply is ok err (λ k' a. Did (edited_of k.number line a) k') by (λ ticket h. (knows_none k, h)))
-    where
-      Did : Result ⊤ SessionFault → Known Item → Type 0
-      Did r k' = MatchResult r (λ x. P x k') (FailedFor k k' k.number line (Gives k'))
+pub edit_told : {k : Known Item} (events : ℕ) (marks : List Mark) (reply : Result (Answered (Result ℕ EditFault)) (Pass Item × Worn)) {plain : Result (Result ℕ EditFault) SessionFault × Pass Item} → plain ≡ plain_of reply
+    → IfOk reply (λ r. EditCall k events marks (known_of r.pass) r.answer) → WornAs k reply → Replied (λ p answer. EditCall k events marks (known_of p) answer) k plain.1 plain.0
+edit_told {k} events marks = replied (λ p answer. EditCall k events marks (known_of p) answer)
 
-  pub stated_counts : (events : ℕ) (marks : List Mark) → IfOk reply (λ r. EditCall k events marks (known_of r.pass) r.answer) → CountsSame k (known_of plain.1)
-  stated_counts events marks ok =
-      by_reply (EditCall k events marks) reply is ok err (λ k' a. CountsSame k k')
-      (λ answer k' h. call_counts k k' h.0 (added answer (Edit k.number events marks)) h.1) (λ ticket h. record { number = refl; splits = refl; joined = refl })
+-- no ticket was left
+pub stated_none : (k k' : Known Item) (line events : ℕ) (marks : List Mark) (fault : SessionFault) → KnowsMore k k' [] → IsWornFault fault → StatedDid k k' line events marks (Err fault)
+stated_none k k' line events marks fault knows is =
+    (knows, subst (LineFails k.number line (AnswersAt k'.seen k.start k.number k.mine (λ client. edit_fault client events marks))) (sym is) refl)
 
-  pub stated : (events len : ℕ) (marks : List Mark) → IsAtFront k events len → base_len marks ≡ len → IfOk reply (λ r. EditCall k events marks (known_of r.pass) r.answer) → StatedDid k (known_of plain.1) line events marks result
-  stated events len marks front base ok =
-      replied (EditCall k events marks) (λ x k'. KnowsMore k k' (Happened (Edit k.number events marks) ∷ [])) (λ k'. AnswersAt k'.seen k.start k.number k.mine (λ client. edit_fault client events marks))
-      (stated_by k line events len marks front base) ok
+-- ---- a change
 
-  abbrev ChangeCall : MemberChange → Known Item → Result ℕ EditFault → Type 0
-  ChangeCall change k' answer = (before : Past) × IsCall k k' before (added answer (Change k.number change)) × AnswersUnless edits.Memory answer (change_fault (client_of before))
+abbrev ChangeCall : Known Item → MemberChange → Known Item → Result ℕ EditFault → Type 0
+ChangeCall k change k' answer = (before : Past) × IsCall k k' before (added answer (Change k.number change)) × AnswersUnless edits.Memory answer (change_fault (client_of before))
 
-  changed_by : (change : MemberChange) (answer : Result ℕ EditFault) (k' : Known Item) → ChangeCall change k' answer → AskedDid k k' line (Changes change) (edited_of k.number line (Ok answer))
-  changed_by change (Ok n) k' h = (Happened (Change k.number change), call_knows k k' h.0 (Change k.number change ∷ []) h.1, refl)
-  changed_by change (Err fault) k' h =
-      failed_for k k' k.number line (LineGives k'.seen k.start k.number k.mine (Changes change)) (λ x. (item : Item) × KnowsMore k k' (item ∷ []) × IsDone k'.seen k.start k.number k.mine (Changes change) item) fault
-      (call_knows k k' h.0 [] h.1) (λ other. (found_at k k' h.0 change_fault fault h.1 (h.2 other), changing_late (client_of h.0) fault (h.2 other)))
+changed_by : (k : Known Item) (line : ℕ) (change : MemberChange) (answer : Result ℕ EditFault) (k' : Known Item) → ChangeCall k change k' answer → AskedDid k k' line (Changes change) (edited_of k.number line answer)
+changed_by k line change (Ok n) k' h = (Happened (Change k.number change), call_knows k k' h.0 (Change k.number change ∷ []) h.1, refl)
+changed_by k line change (Err fault) k' h =
+    failed_for k k' k.number line (LineGives k'.seen k.start k.number k.mine (Changes change)) (λ x. (item : Item) × KnowsMore k k' (item ∷ []) × IsDone k'.seen k.start k.number k.mine (Changes change) item) fault
+    (call_knows k k' h.0 [] h.1) (λ other. (found_at k k' h.0 change_fault fault h.1 (h.2 other), changing_late (client_of h.0) fault (h.2 other)))
 
-  pub changed_counts : (change : MemberChange) → IfOk reply (λ r. ChangeCall change (known_of r.pass) r.answer) → CountsSame k (known_of plain.1)
-  changed_counts change ok =
-      by_reply (ChangeCall change) reply is ok err (λ k' a. CountsSame k k')
-      (λ answer k' h. call_counts k k' h.0 (added answer (Change k.number change)) h.1) (λ ticket h. record { number = refl; splits = refl; joined = refl })
+pub change_told : {k : Known Item} (change : MemberChange) (reply : Result (Answered (Result ℕ EditFault)) (Pass Item × Worn)) {plain : Result (Result ℕ EditFault) SessionFault × Pass Item} → plain ≡ plain_of reply
+    → IfOk reply (λ r. ChangeCall k change (known_of r.pass) r.answer) → WornAs k reply → Replied (λ p answer. ChangeCall k change (known_of p) answer) k plain.1 plain.0
+change_told {k} change = replied (λ p answer. ChangeCall k change (known_of p) answer)
 
-  pub changed : (change : MemberChange) → IfOk reply (λ r. ChangeCall change (known_of r.pass) r.answer) → AskedDid k (known_of plain.1) line (Changes change) result
-  changed change ok =
-      replied (ChangeCall change) (λ x k'. (item : Item) × KnowsMore k k' (item ∷ []) × IsDone k'.seen k.start k.number k.mine (Changes change) item) (λ k'. LineGives k'.seen k.start k.number k.mine (Changes change))
-      (changed_by change) ok
+-- what a call's answer comes to for a line of the editor whose number the pass tells
+module _ (k k' : Known Item) (number line : ℕ) (same : number ≡ k.number) (answer : Result ℕ EditFault) (result : Result ⊤ SessionFault) (is : result ≡ edited_of number line answer) where
+  result_is : result ≡ edited_of k.number line answer
+  result_is = is ∙ ap (λ (n : ℕ). edited_of n line answer) same
+
+  pub stated : (events len : ℕ) (marks : List Mark) → IsAtFront k events len → base_len marks ≡ len → EditCall k events marks k' answer → StatedDid k k' line events marks result
+  stated events len marks front base call = subst (StatedDid k k' line events marks) (sym result_is) (stated_by k line events len marks front base answer k' call)
+
+  pub changed : (change : MemberChange) → ChangeCall k change k' answer → AskedDid k k' line (Changes change) result
+  changed change call = subst (AskedDid k k' line (Changes change)) (sym result_is) (changed_by k line change answer k' call)
 
 -- ---- a line that asks for an edit: a look, and then the edit
 

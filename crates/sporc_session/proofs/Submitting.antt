@@ -1,7 +1,7 @@
 -- Submissions.
 use Rattle.std.proofs.Common.{◌≡◌, ◌≢◌, ◌+◌, ℕ, List, [], ◌∷◌, ◌++◌, length, map, take, Option, None, Some, Ok, Err, refl, sym, ap, ◌∙◌, subst, append_assoc, arith, append-nil}
 use Rattle.sporc_session.proofs.Common.{take_all, ◌<◌, Result, IfOk, IfSome, Rose, AppendsItem, AppendsItems, MAX_BODY, Known, Pass, Worn, known_of, SubmitFault, Submitted, submission}
-use Rattle.sporc_session.proofs.Common.{submission_added, Answered, IsCall, SubmitsAt, Item, Happened, Past, client_of, items_of, SessionFault, CountsSame, SubmitGives, Submission, Drew, DrewFew}
+use Rattle.sporc_session.proofs.Common.{submission_added, Answered, IsCall, SubmitsAt, Item, Happened, Past, client_of, items_of, SessionFault, KnowsMore, IsWornFault, SubmitCause, SubmitGives, Submission, Drew, DrewFew}
 use Rattle.sporc_session.proofs.Common.{SubmittedOne, IsPoint, made_of, plain_of}
 use Rattle.sporc_base.specs.Outcome.{GivesUnless}
 use Rattle.sporc_client.specs.declared.fault.SubmitFault.TheVariants as submits
@@ -9,8 +9,9 @@ use Rattle.sporc_client.specs.declared.submitted.Submitted.TheVariants as submit
 use Rattle.sporc_session.specs.declared.fault.SessionFault.TheVariants as faults
 use Rattle.sporc_session.proofs.Tracing.{words_none}
 use Rattle.sporc_session.proofs.EntryLengths.{submitted_len}
-use Rattle.sporc_session.proofs.Knowing.{call_client, call_counts, call_drop, call_knows, call_later, call_point, knows_none}
-use Rattle.sporc_session.proofs.Taking.{WornAs, by_reply, none_point}
+use Rattle.sporc_session.proofs.Knowing.{call_client, call_drop, call_knows, call_later, call_point, knows_none}
+use Rattle.sporc_session.proofs.Taking.{none_point}
+use Rattle.sporc_session.proofs.Telling.{Replied, WornAs, replied}
 
 -- two words that were put into a buffer, one after the other
 pub both_put : (half both first second : List ℕ) → length first ≡ 32 → length second ≡ 32 → length both ≡ 64
@@ -85,7 +86,7 @@ module _ (k : Known Item) (w w' : Option (List (List ℕ))) (n n' : ℕ) (first 
     gives = h.2.gives other;
   }
 
-  submitted_by : (answer : Result Submitted SubmitFault) (k' : Known Item) → SubmitCall k (first ++ second) k' answer → SubmittedOne k k' w w' n n' (made_of (Ok answer))
+  submitted_by : (answer : Result Submitted SubmitFault) (k' : Known Item) → SubmitCall k (first ++ second) k' answer → SubmittedOne k k' w w' n n' (made_of answer)
   submitted_by (Ok (submitted.Entry entry)) k' h = (Ok (submitted.Entry entry), first ∷ second ∷ [], kept k' (Ok (submitted.Entry entry)) (λ e. absurd cc) h, drew, refl)
   submitted_by (Err submits.HistoryFull) k' h = (first ∷ second ∷ [], omega arith, drew, call_knows k k' h.0 [] h.1, stops k' submits.HistoryFull (λ e. absurd cc) h)
   submitted_by (Err submits.JournalFull) k' h = (first ∷ second ∷ [], omega arith, drew, call_knows k k' h.0 [] h.1, stops k' submits.JournalFull (λ e. absurd cc) h)
@@ -94,21 +95,20 @@ module _ (k : Known Item) (w w' : Option (List (List ℕ))) (n n' : ℕ) (first 
   submitted_by (Err submits.Memory) k' h = (first ∷ second ∷ [], omega arith, drew, call_knows k k' h.0 [] h.1, tt)
   submitted_by answer k' h = (answer, first ∷ second ∷ [], kept k' answer (λ e. absurd cc) h, drew, tt)
 
-pub submitted_one : (k : Known Item) (reply : Result (Answered (Result Submitted SubmitFault)) (Pass Item × Worn)) (plain : Result (Result Submitted SubmitFault) ℕ × Pass Item) (result : Result (Option (List ℕ)) SessionFault)
-    (w w' : Option (List (List ℕ))) (n n' : ℕ) (random : List ℕ) → k.number ≡ 0
-    → plain ≡ plain_of reply → result ≡ made_of plain.0 → Drew w w' random
-    → IfOk reply (λ r. SubmitCall k random (known_of r.pass) r.answer) → WornAs k reply → SubmittedOne k (known_of plain.1) w w' n n' result
-submitted_one k reply plain result w w' n n' random zero' is is' drew ok err =
-    subst (SubmittedOne k (known_of plain.1) w w' n n') (sym is')
-    (by_reply (SubmitCall k random) reply is ok err (λ k' a. SubmittedOne k k' w w' n n' (made_of a))
-    (λ answer k' h. submitted_by k w w' n n' drew.0 drew.1 zero' drew.3 answer k' (subst (λ (s : List ℕ). SubmitCall k s k' answer) drew.2 h))
-    (λ ticket h. (drew.0 ∷ drew.1 ∷ [], omega arith, drew.3, knows_none k, h)))
+pub submit_told : {k : Known Item} (random : List ℕ) (reply : Result (Answered (Result Submitted SubmitFault)) (Pass Item × Worn)) {plain : Result (Result Submitted SubmitFault) SessionFault × Pass Item} → plain ≡ plain_of reply
+    → IfOk reply (λ r. SubmitCall k random (known_of r.pass) r.answer) → WornAs k reply → Replied (λ p answer. SubmitCall k random (known_of p) answer) k plain.1 plain.0
+submit_told {k} random = replied (λ p answer. SubmitCall k random (known_of p) answer)
 
-pub submitted_counts : (k : Known Item) (random : List ℕ) (reply : Result (Answered (Result Submitted SubmitFault)) (Pass Item × Worn)) (plain : Result (Result Submitted SubmitFault) ℕ × Pass Item)
-    → plain ≡ plain_of reply → IfOk reply (λ r. SubmitCall k random (known_of r.pass) r.answer) → WornAs k reply → CountsSame k (known_of plain.1)
-submitted_counts k random reply plain is ok err =
-    by_reply (SubmitCall k random) reply is ok err (λ k' a. CountsSame k k')
-    (λ answer k' h. call_counts k k' h.0 (submission_added k.number answer) h.1) (λ ticket h. record { number = refl; splits = refl; joined = refl })
+pub submitted_one : (k k' : Known Item) (answer : Result Submitted SubmitFault) (result : Result (Option (List ℕ)) SessionFault) (w w' : Option (List (List ℕ))) (n n' : ℕ) (random : List ℕ) → k.number ≡ 0
+    → result ≡ made_of answer → Drew w w' random → SubmitCall k random k' answer → SubmittedOne k k' w w' n n' result
+submitted_one k k' answer result w w' n n' random zero' is drew call =
+    subst (SubmittedOne k k' w w' n n') (sym is) (submitted_by k w w' n n' drew.0 drew.1 zero' drew.3 answer k' (subst (λ (s : List ℕ). SubmitCall k s k' answer) drew.2 call))
+
+-- no ticket was left
+pub submitted_none : (k k' : Known Item) (w w' : Option (List (List ℕ))) (n n' : ℕ) (random : List ℕ) (fault : SessionFault) → Drew w w' random → KnowsMore k k' [] → IsWornFault fault → SubmittedOne k k' w w' n n' (Err fault)
+submitted_none k k' w w' n n' random fault drew knows is =
+    let drawn = drew.0 ∷ drew.1 ∷ [] in
+    (drawn, omega arith, drew.3, knows, subst (SubmitCause k' drawn n n') (sym is) refl)
 
 -- the chance failed before both words were drawn
 pub not_drawn : (k : Known Item) (u v : Option (List (List ℕ))) (n n' : ℕ) (fault : SessionFault) → DrewFew u v fault → Rose n n' → SubmittedOne k k u v n n' (Err fault)
@@ -119,11 +119,10 @@ not_drawn k u v n n' fault few rose = subst (λ (f : SessionFault). SubmittedOne
 abbrev pub IsShort : Result (Option (List ℕ)) SessionFault → Type 0
 IsShort result = IfOk result (λ made. IfSome made (λ entry. length entry < MAX_BODY))
 
-short_by : (k : Known Item) (random : List ℕ) (answer : Result Submitted SubmitFault) (k' : Known Item) → SubmitCall k random k' answer → IsShort (made_of (Ok answer))
+short_by : (k : Known Item) (random : List ℕ) (answer : Result Submitted SubmitFault) (k' : Known Item) → SubmitCall k random k' answer → IsShort (made_of answer)
 short_by k random (Ok (submitted.Entry entry)) k' h = submitted_len h.0 k.number entry h.1.legal.allowed
 short_by k random (Err submits.Memory) k' h = tt
 short_by k random _ k' h = tt
 
-pub submitted_short : (k : Known Item) (reply : Result (Answered (Result Submitted SubmitFault)) (Pass Item × Worn)) (plain : Result (Result Submitted SubmitFault) ℕ × Pass Item) (result : Result (Option (List ℕ)) SessionFault) (random : List ℕ)
-    → plain ≡ plain_of reply → result ≡ made_of plain.0 → IfOk reply (λ r. SubmitCall k random (known_of r.pass) r.answer) → WornAs k reply → IsShort result
-submitted_short k reply plain result random is is' ok err = subst IsShort (sym is') (by_reply (SubmitCall k random) reply is ok err (λ k' a. IsShort (made_of a)) (short_by k random) (λ ticket h. tt))
+pub submitted_short : (k k' : Known Item) (random : List ℕ) (answer : Result Submitted SubmitFault) (result : Result (Option (List ℕ)) SessionFault) → result ≡ made_of answer → SubmitCall k random k' answer → IsShort result
+submitted_short k k' random answer result is call = subst IsShort (sym is) (short_by k random answer k' call)

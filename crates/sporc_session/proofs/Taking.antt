@@ -1,11 +1,11 @@
 -- Entries that are accepted one after the other.
 use Rattle.std.proofs.Common.{◌≡◌, ◌≢◌, ◌+◌, ℕ, List, [], ◌∷◌, length, Some, Ok, Err, refl, sym, ap, ◌∙◌, subst, arith, append-nil}
-use Rattle.sporc_session.proofs.Common.{Result, IfOk, IfErr, ⊤, Known, Pass, Worn, known_of, read_of, AcceptFault, accept_fault, added, Accept, Answered, CallGives, IsCall, Item, Happened, Past}
-use Rattle.sporc_session.proofs.Common.{client_of, items_of, SessionFault, all_of, items_by, CountsSame, KnowsMore, AcceptGives, TakeCause, takes_of, TookAll, TookOne, IsPoint, plain_of, taken_of}
-use Rattle.sporc_turn.specs.declared.limits.TheConstants.{MAX_TICKETS}
+use Rattle.sporc_session.proofs.Common.{Result, IfOk, ⊤, Known, Pass, Worn, known_of, AcceptFault, accept_fault, Accept, Answered, CallGives, IsCall, Item, Happened, Past}
+use Rattle.sporc_session.proofs.Common.{client_of, items_of, SessionFault, IsWornFault, all_of, items_by, KnowsMore, AcceptGives, TakeCause, takes_of, TookAll, TookOne, IsPoint, plain_of, taken_of}
 use Rattle.sporc_client.specs.declared.fault.AcceptFault.TheVariants as accepts
-use Rattle.sporc_session.proofs.Knowing.{call_client, call_counts, call_knows, call_point, knows_none, knows_then}
+use Rattle.sporc_session.proofs.Knowing.{call_client, call_knows, call_point, knows_then}
 use Rattle.sporc_session.proofs.Positions.{accept_position}
+use Rattle.sporc_session.proofs.Telling.{Replied, WornAs, replied}
 
 -- what a pass knows after a call that added nothing: the point at which the client was found
 pub none_point : (k k' : Known Item) (before : Past) → k.number ≡ 0 → IsCall k k' before [] → IsPoint k'.seen k'.start 0 k'.mine (length (items_of before))
@@ -29,22 +29,6 @@ accept_stops k k' position number entry fault zero' other h = (
   },
 )
 
--- ---- replies
-
--- what a reply without a ticket says
-abbrev pub WornAs : {A : Type 0} → Known Item → Result (Answered A) (Pass Item × Worn) → Type 0
-WornAs k reply = IfErr reply (λ e. (e.1.0 ≡ MAX_TICKETS) × (read_of e.0 ≡ e.1.0) × (known_of e.0 ≡ k))
-
--- what is so of each answer of a call, and of the same pass if no ticket was left, is so of its reply
-module _ {A : Type 0} (Call : Known Item → A → Type 0) (reply : Result (Answered A) (Pass Item × Worn)) {plain : Result A ℕ × Pass Item} (is : plain ≡ plain_of reply)
-    (ok : IfOk reply (λ r. Call (known_of r.pass) r.answer)) {k : Known Item} (worn : WornAs k reply) where
-  pub by_reply : (P : Known Item → Result A ℕ → Type 0) → ((answer : A) (k' : Known Item) → Call k' answer → P k' (Ok answer)) → ((ticket : ℕ) → ticket ≡ MAX_TICKETS → P k (Err ticket)) → P (known_of plain.1) plain.0
-  by_reply P here none = subst (λ (p : Result A ℕ × Pass Item). P (known_of p.1) p.0) (sym is) (by reply ok worn)
-    where
-      by : (r : Result (Answered A) (Pass Item × Worn)) → IfOk r (λ r. Call (known_of r.pass) r.answer) → WornAs k r → P (known_of (plain_of r).1) (plain_of r).0
-      by (Ok r) call worn' = here r.answer (known_of r.pass) call
-      by (Err e) call worn' = subst (λ (z : Known Item). P z (Err e.1.0)) (sym worn'.2) (none e.1.0 worn'.0)
-
 -- ---- one entry
 
 -- what a call told that was to accept an entry at a position
@@ -52,7 +36,11 @@ abbrev pub AcceptCall : Known Item → ℕ → List ℕ → Known Item → Resul
 AcceptCall k position entry k' answer =
     CallGives k k' (Accept k.number entry) accepts.Memory (λ client. accept_fault client position entry) answer
 
-took_by : (k : Known Item) (at : ℕ) (entry : List ℕ) → k.number ≡ 0 → (answer : Result ℕ AcceptFault) (k' : Known Item) → AcceptCall k (at + 1) entry k' answer → TookOne k k' at entry (taken_of (at + 1) (Ok answer))
+pub accept_told : {k : Known Item} (position : ℕ) (entry : List ℕ) (reply : Result (Answered (Result ℕ AcceptFault)) (Pass Item × Worn)) {plain : Result (Result ℕ AcceptFault) SessionFault × Pass Item} → plain ≡ plain_of reply
+    → IfOk reply (λ r. AcceptCall k position entry (known_of r.pass) r.answer) → WornAs k reply → Replied (λ p answer. AcceptCall k position entry (known_of p) answer) k plain.1 plain.0
+accept_told {k} position entry = replied (λ p answer. AcceptCall k position entry (known_of p) answer)
+
+took_by : (k : Known Item) (at : ℕ) (entry : List ℕ) → k.number ≡ 0 → (answer : Result ℕ AcceptFault) (k' : Known Item) → AcceptCall k (at + 1) entry k' answer → TookOne k k' at entry (taken_of (at + 1) answer)
 took_by k at entry zero' (Ok n) k' h =
     (subst (λ (m : ℕ). KnowsMore k k' (Happened (Accept m entry) ∷ [])) zero' (call_knows k k' h.0 (Accept k.number entry ∷ []) h.1), accept_position (client_of h.0) (at + 1) entry h.2)
 took_by k at entry zero' (Err (accepts.Refused refusal)) k' h =
@@ -60,18 +48,13 @@ took_by k at entry zero' (Err (accepts.Refused refusal)) k' h =
 took_by k at entry zero' (Err accepts.JournalFull) k' h = accept_stops k k' (at + 1) k.number entry accepts.JournalFull zero' (λ e. absurd cc) h
 took_by k at entry zero' (Err accepts.Memory) k' h = (call_knows k k' h.0 [] h.1, tt)
 
-pub took_one : (k : Known Item) (at : ℕ) (entry : List ℕ) (reply : Result (Answered (Result ℕ AcceptFault)) (Pass Item × Worn)) (plain : Result (Result ℕ AcceptFault) ℕ × Pass Item) (result : Result ⊤ SessionFault) → k.number ≡ 0
-    → plain ≡ plain_of reply → result ≡ taken_of (at + 1) plain.0
-    → IfOk reply (λ r. AcceptCall k (at + 1) entry (known_of r.pass) r.answer) → WornAs k reply → TookOne k (known_of plain.1) at entry result
-took_one k at entry reply plain result zero' is is' ok err =
-    subst (TookOne k (known_of plain.1) at entry) (sym is')
-    (by_reply (AcceptCall k (at + 1) entry) reply is ok err (λ k' a. TookOne k k' at entry (taken_of (at + 1) a)) (took_by k at entry zero') (λ ticket h. (knows_none k, h)))
+pub took_one : (k k' : Known Item) (at : ℕ) (entry : List ℕ) (answer : Result ℕ AcceptFault) (result : Result ⊤ SessionFault) → k.number ≡ 0
+    → result ≡ taken_of (at + 1) answer → AcceptCall k (at + 1) entry k' answer → TookOne k k' at entry result
+took_one k k' at entry answer result zero' is call = subst (TookOne k k' at entry) (sym is) (took_by k at entry zero' answer k' call)
 
-pub took_counts : (k : Known Item) (at : ℕ) (entry : List ℕ) (reply : Result (Answered (Result ℕ AcceptFault)) (Pass Item × Worn)) (plain : Result (Result ℕ AcceptFault) ℕ × Pass Item)
-    → plain ≡ plain_of reply → IfOk reply (λ r. AcceptCall k (at + 1) entry (known_of r.pass) r.answer) → WornAs k reply → CountsSame k (known_of plain.1)
-took_counts k at entry reply plain is ok err =
-    by_reply (AcceptCall k (at + 1) entry) reply is ok err (λ k' a. CountsSame k k')
-    (λ answer k' h. call_counts k k' h.0 (added answer (Accept k.number entry)) h.1) (λ ticket h. record { number = refl; splits = refl; joined = refl })
+-- no ticket was left
+pub took_none : (k k' : Known Item) (at : ℕ) (entry : List ℕ) (fault : SessionFault) → KnowsMore k k' [] → IsWornFault fault → TookOne k k' at entry (Err fault)
+took_none k k' at entry fault knows is = (knows, subst (TakeCause k' (at + 1) entry) (sym is) refl)
 
 -- ---- the first entry, and then the others
 

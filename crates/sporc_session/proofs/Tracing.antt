@@ -1,9 +1,9 @@
 -- Traces in a row.
 use Rattle.std.proofs.Common.{◌≡◌, ℕ, ◌≤◌, Bool, List, [], ◌++◌, length, Option, Some, None, refl, sym, ap, ◌∙◌, subst, append_assoc, arith}
-use Rattle.sporc_session.proofs.Common.{Result, Ok, Err, ⊤, append-nil, AppendsItems, Rose, starts_length, ToClient, Item, SessionFault, Act, items_by, messages_by, answers_by, words_by, all_of}
+use Rattle.sporc_session.proofs.Common.{Result, Ok, Err, ⊤, append-nil, AppendsItems, starts_length, ToClient, Item, SessionFault, Act, items_by, messages_by, answers_by, words_by, all_of}
 use Rattle.sporc_session.proofs.Common.{FitAll, Stand, KnowsMore, Trace, Cause, Did, Stopped, DidOrStopped, Mode, rounds_begun, Exchanged, spelled}
 use Rattle.sporc_session.specs.declared.fault.SessionFault.TheVariants as faults
-use Rattle.sporc_session.proofs.Exchanging.{exchanged_none, exchanged_then, spelled_append}
+use Rattle.sporc_session.proofs.Exchanging.{exchanged_none, exchanged_then, rose_then, spelled_append}
 use Rattle.sporc_session.proofs.Fitting.{all_of_append, fit_all_later, fit_all_append, in_order_append, leads_append}
 use Rattle.sporc_session.proofs.Knowing.{knows_none, knows_then}
 
@@ -64,13 +64,10 @@ did_then {ready} {m = m} {k = k} {m' = m'} f g = record {
   leads = leads_append ready m k m' f.acts g.acts f.leads g.leads;
 }
 
-rose_earlier : (x y z : ℕ) → x ≤ y → Rose y z → Rose x z
-rose_earlier x y z low rose = omega (arith, low, rose)
-
 cause_earlier : (a b c : Stand) (m : Mode) (written : List ℕ) (answers : List ToClient) (words : List (List ℕ)) (fault : SessionFault)
     → a.link.faults ≤ b.link.faults → a.chance_faults ≤ b.chance_faults → Cause b c m written answers words fault → Cause a c m written answers words fault
-cause_earlier a b c m written answers words faults.LinkFault low low' h = (rose_earlier a.link.faults b.link.faults c.link.faults low h.0, h.1)
-cause_earlier a b c m written answers words faults.ChanceFault low low' h = (h.0, rose_earlier a.chance_faults b.chance_faults c.chance_faults low' h.1)
+cause_earlier a b c m written answers words faults.LinkFault low low' h = (rose_then a.link.faults b.link.faults c.link.faults low h.0, h.1)
+cause_earlier a b c m written answers words faults.ChanceFault low low' h = (h.0, rose_then a.chance_faults b.chance_faults c.chance_faults low' h.1)
 cause_earlier a b c m written answers words _ low low' h = h
 
 pub did_stopped : {ready : ℕ → ℕ → Bool} {a b c : Stand} {m k : Mode} {rounds : ℕ} {fault : SessionFault} → Did ready a b m k → Stopped ready b c k rounds fault → Stopped ready a c m rounds fault

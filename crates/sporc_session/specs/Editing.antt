@@ -21,11 +21,11 @@ use Rattle.sporc_session.specs.Lines.{AnswersAt, AreLinesDone, Asked, IsDone, Li
 use Rattle.sporc_session.specs.Lines.{LineGives, asked_by}
 use Rattle.sporc_session.specs.Points.{IsPoint}
 
--- the front of a look's reply with the length of the text, or the ticket that wasn't drawn, and the
--- pass
-abbrev pub seen_of : Result (Answered Look) (Pass Item × Worn) → Result Seen ℕ × Pass Item
+-- the front of a look's reply with the length of the text, or that no ticket was left, and the pass
+abbrev pub seen_of : Result (Answered Look) (Pass Item × Worn)
+    → Result Seen SessionFault × Pass Item
 seen_of (Ok r) = (Ok (record { front = r.front; len = r.answer.len }), r.pass)
-seen_of (Err e) = (Err e.1.0, e.0)
+seen_of (Err e) = (Err (faults.Worn e.1.0), e.0)
 
 -- no ticket was left
 abbrev pub IsWornFault : SessionFault → Type 0

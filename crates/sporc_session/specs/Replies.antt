@@ -7,7 +7,7 @@ use Rattle.sporc_wire.specs.declared.fault.FrameFault.{FrameFault}
 use Rattle.sporc_wire.specs.declared.fault.FrameFault.TheVariants as frames
 use Rattle.sporc_turn.specs.declared.pass.Pass.{Pass}
 use Rattle.sporc_turn.specs.declared.turn.Worn.{Worn}
-use Rattle.sporc_turn.specs.Passes.{IsWorn, level_of}
+use Rattle.sporc_turn.specs.Passes.{IsWorn, watermark_of}
 use Rattle.sporc_client.specs.declared.fault.AcceptFault.{AcceptFault}
 use Rattle.sporc_client.specs.declared.fault.AcceptFault.TheVariants as accepts
 use Rattle.sporc_client.specs.declared.fault.EditFault.{EditFault}
@@ -21,63 +21,55 @@ use Rattle.sporc_shared.specs.Items.{Item}
 use Rattle.sporc_session.specs.declared.fault.SessionFault.{SessionFault}
 use Rattle.sporc_session.specs.declared.fault.SessionFault.TheVariants as faults
 
--- the answer of a reply, or the ticket that wasn't drawn, and the pass
-abbrev pub plain_of : {A : Type 0} → Result (Answered A) (Pass Item × Worn) → Result A ℕ × Pass Item
+-- the answer of a reply, or that no ticket was left, and the pass
+abbrev pub plain_of : {A : Type 0} → Result (Answered A) (Pass Item × Worn)
+    → Result A SessionFault × Pass Item
 plain_of (Ok r) = (Ok r.answer, r.pass)
-plain_of (Err e) = (Err e.1.0, e.0)
-
--- a session's fault in place of a ticket
-abbrev pub worn_of : {A : Type 0} → Result A ℕ → Result A SessionFault
-worn_of (Ok x) = Ok x
-worn_of (Err ticket) = Err (faults.Worn ticket)
+plain_of (Err e) = (Err (faults.Worn e.1.0), e.0)
 
 -- the fault of a session in which an entry isn't accepted
-abbrev pub taken_of : ℕ → Result (Result ℕ AcceptFault) ℕ → Result ⊤ SessionFault
-taken_of position (Ok (Ok n)) = Ok tt
-taken_of position (Ok (Err (accepts.Refused refusal))) = Err (faults.Refused position refusal)
-taken_of position (Ok (Err accepts.JournalFull)) = Err faults.JournalFull
-taken_of position (Ok (Err accepts.Memory)) = Err faults.Memory
-taken_of position (Err ticket) = Err (faults.Worn ticket)
+abbrev pub taken_of : ℕ → Result ℕ AcceptFault → Result ⊤ SessionFault
+taken_of position (Ok n) = Ok tt
+taken_of position (Err (accepts.Refused refusal)) = Err (faults.Refused position refusal)
+taken_of position (Err accepts.JournalFull) = Err faults.JournalFull
+taken_of position (Err accepts.Memory) = Err faults.Memory
 
 -- the entry that a submission made, or the fault of a session
-abbrev pub made_of : Result (Result Submitted SubmitFault) ℕ → Result (Option (List ℕ)) SessionFault
-made_of (Ok (Ok (submitted.Entry entry))) = Ok (Some entry)
-made_of (Ok (Ok submitted.Waiting)) = Ok None
-made_of (Ok (Ok submitted.Nothing)) = Ok None
-made_of (Ok (Ok (submitted.Dropped fault))) = Ok None
-made_of (Ok (Err submits.Removed)) = Ok None
-made_of (Ok (Err submits.NoRight)) = Ok None
-made_of (Ok (Err (submits.HeadTooLong len))) = Ok None
-made_of (Ok (Err (submits.NoPairKey member))) = Ok None
-made_of (Ok (Err submits.HistoryFull)) = Err faults.HistoryFull
-made_of (Ok (Err submits.JournalFull)) = Err faults.JournalFull
-made_of (Ok (Err (submits.Exhausted next))) = Err (faults.Leaf (leaves.Exhausted next))
-made_of (Ok (Err submits.LeafFault)) = Err (faults.Leaf leaves.DiskFault)
-made_of (Ok (Err submits.Memory)) = Err faults.Memory
-made_of (Err ticket) = Err (faults.Worn ticket)
+abbrev pub made_of : Result Submitted SubmitFault → Result (Option (List ℕ)) SessionFault
+made_of (Ok (submitted.Entry entry)) = Ok (Some entry)
+made_of (Ok submitted.Waiting) = Ok None
+made_of (Ok submitted.Nothing) = Ok None
+made_of (Ok (submitted.Dropped fault)) = Ok None
+made_of (Err submits.Removed) = Ok None
+made_of (Err submits.NoRight) = Ok None
+made_of (Err (submits.HeadTooLong len)) = Ok None
+made_of (Err (submits.NoPairKey member)) = Ok None
+made_of (Err submits.HistoryFull) = Err faults.HistoryFull
+made_of (Err submits.JournalFull) = Err faults.JournalFull
+made_of (Err (submits.Exhausted next)) = Err (faults.Leaf (leaves.Exhausted next))
+made_of (Err submits.LeafFault) = Err (faults.Leaf leaves.DiskFault)
+made_of (Err submits.Memory) = Err faults.Memory
 
 -- the fault if an entry that was rejected is still on its way
-abbrev pub checked_of : Refusal → Result Bool ℕ → Result ⊤ SessionFault
-checked_of refusal (Ok true) = Err (faults.ServerRejected refusal)
-checked_of refusal (Ok false) = Ok tt
-checked_of refusal (Err ticket) = Err (faults.Worn ticket)
+abbrev pub checked_of : Refusal → Bool → Result ⊤ SessionFault
+checked_of refusal true = Err (faults.ServerRejected refusal)
+checked_of refusal false = Ok tt
 
 -- the fault of a session in which an editor's line isn't done
-abbrev pub edited_of : ℕ → ℕ → Result (Result ℕ EditFault) ℕ → Result ⊤ SessionFault
-edited_of editor line (Ok (Ok n)) = Ok tt
-edited_of editor line (Ok (Err edits.Removed)) = Err (faults.EditRefused editor line edits.Removed)
-edited_of editor line (Ok (Err edits.NoRight)) = Err (faults.EditRefused editor line edits.NoRight)
-edited_of editor line (Ok (Err (edits.SeenAhead len))) =
+abbrev pub edited_of : ℕ → ℕ → Result ℕ EditFault → Result ⊤ SessionFault
+edited_of editor line (Ok n) = Ok tt
+edited_of editor line (Err edits.Removed) = Err (faults.EditRefused editor line edits.Removed)
+edited_of editor line (Err edits.NoRight) = Err (faults.EditRefused editor line edits.NoRight)
+edited_of editor line (Err (edits.SeenAhead len)) =
     Err (faults.EditRefused editor line (edits.SeenAhead len))
-edited_of editor line (Ok (Err edits.WrongLength)) =
+edited_of editor line (Err edits.WrongLength) =
     Err (faults.EditRefused editor line edits.WrongLength)
-edited_of editor line (Ok (Err (edits.TooLong len))) =
+edited_of editor line (Err (edits.TooLong len)) =
     Err (faults.EditRefused editor line (edits.TooLong len))
-edited_of editor line (Ok (Err edits.PendingFull)) =
+edited_of editor line (Err edits.PendingFull) =
     Err (faults.EditRefused editor line edits.PendingFull)
-edited_of editor line (Ok (Err edits.JournalFull)) = Err faults.JournalFull
-edited_of editor line (Ok (Err edits.Memory)) = Err faults.Memory
-edited_of editor line (Err ticket) = Err (faults.Worn ticket)
+edited_of editor line (Err edits.JournalFull) = Err faults.JournalFull
+edited_of editor line (Err edits.Memory) = Err faults.Memory
 
 -- the fault of a session in which the next frame, which begins at this place, is no message
 abbrev pub unread_fault : ℕ → FrameFault → SessionFault
@@ -89,5 +81,5 @@ unread_fault place frames.Memory = faults.Memory
 -- disk of the leaves counted a fault
 abbrev pub HasReadFor : Pass Item → SessionFault → Type 0
 HasReadFor pass (faults.Worn ticket) = IsWorn pass
-HasReadFor pass (faults.Leaf leaves.DiskFault) = level_of pass ≢ 0
+HasReadFor pass (faults.Leaf leaves.DiskFault) = watermark_of pass ≢ 0
 HasReadFor pass _ = ⊤

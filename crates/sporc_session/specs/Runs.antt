@@ -5,21 +5,14 @@ use Rattle.std.specs.List.{filter}
 use Rattle.sporc_member.specs.declared.device.Device.{Device}
 use Rattle.sporc_member.specs.Device.{same_device}
 use Rattle.sporc_line.specs.Good.{Meets}
-use Rattle.sporc_client.specs.Calls.{LeadTo, events_of}
+use Rattle.sporc_client.specs.Calls.{LeadTo, events_of, mover_of}
 use Rattle.sporc_client.specs.Log.{Logged}
-use Rattle.sporc_client.specs.Run.{Setup, World, Move, Open, Happen, Give, Restart, opening_of}
+use Rattle.sporc_client.specs.Run.{Setup, World, Move, Open, opening_of}
 use Rattle.sporc_shared.specs.Items.{Item, Past, IsAllowed, client_of, items_of, with_events}
-
--- whose client a move is of
-abbrev pub device_of : Move → Device
-device_of (Open who ring) = who
-device_of (Happen who event) = who
-device_of (Give who position bytes) = who
-device_of (Restart who k) = who
 
 -- the moves of one device's client, in order
 abbrev pub moves_of : Device → List Move → List Move
-moves_of who moves = filter (λ move. same_device (device_of move) who) moves
+moves_of who moves = filter (λ move. same_device (mover_of move) who) moves
 
 -- the moves are that a device of the setup opens a client, and then its events, each of which its
 -- calls make there

@@ -49,21 +49,29 @@ pub record InboxInvariant (frames : Unread) (len : ℕ) : Type 0 where
       ((next to_client_of (record frames { fault = None })).answer ≡ Err fault) × (len ≡ 0))
   pub few : len ≤ PIECE
 
--- what a link tells: the bytes written to it and those that are left, with its count of faults; and
--- what was taken off it
-pub record LinkStand : Type 0 where
-  pub written : Option (List ℕ)
+-- what a link tells, but for whether it was shut: the bytes that are left, those written to it, and
+-- its count of faults
+pub record LinkTold : Type 0 where
   pub left : Option (List ℕ)
+  pub written : Option (List ℕ)
+  pub faults : ℕ
+
+abbrev pub link_told : StreamTold → LinkTold
+link_told link = record { left = link.left; written = link.written; faults = link.faults }
+
+-- and what was taken off it
+pub record LinkStand : Type 0 where
+  pub left : Option (List ℕ)
+  pub written : Option (List ℕ)
   pub faults : ℕ
   pub inbox : InboxModel
 
-abbrev pub link_stand : Option (List ℕ) → Option (List ℕ) → ℕ → InboxModel → LinkStand
-link_stand written left faults inbox =
-    record { written = written; left = left; faults = faults; inbox = inbox }
+abbrev pub link_stand : LinkTold → InboxModel → LinkStand
+link_stand link inbox =
+    record { left = link.left; written = link.written; faults = link.faults; inbox = inbox }
 
--- by what the link tells
 abbrev pub link_at : StreamTold → InboxModel → LinkStand
-link_at link inbox = link_stand link.written link.left link.faults inbox
+link_at link inbox = link_stand (link_told link) inbox
 
 -- the bytes that were taken off the link, with those from before, read as these answers, and then
 -- the rest

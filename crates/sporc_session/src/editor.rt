@@ -16,7 +16,7 @@ ghost use Rattle.sporc_session.specs.Replies.{HasReadFor, edited_of};
 
 use crate::context::Context;
 use crate::fault::SessionFault;
-use crate::receiver::{WithPass, plain, worn};
+use crate::receiver::{WithPass, plain};
 use sporc_base::Memory;
 use sporc_client::EditFault;
 use sporc_delta::{Delta, MAX_COUNT};
@@ -29,19 +29,14 @@ use std::alloc::{AllocError, Global};
 use std::sync::Wait;
 
 // The fault of a session in which a line isn't done.
-fn edited(
-    editor: u32,
-    line: u32,
-    answer: Result<Result<u64, EditFault>, u64>,
-) -> Result<(), SessionFault>
+fn edited(editor: u32, line: u32, answer: Result<u64, EditFault>) -> Result<(), SessionFault>
     ensures { result ≡ edited_of editor line answer }
 {
     match answer {
-        Ok(Ok(_)) => Ok(()),
-        Ok(Err(EditFault::JournalFull)) => Err(SessionFault::JournalFull),
-        Ok(Err(EditFault::Memory)) => Err(SessionFault::Memory),
-        Ok(Err(fault)) => Err(SessionFault::EditRefused(editor, line, fault)),
-        Err(ticket) => Err(SessionFault::Worn(ticket)),
+        Ok(_) => Ok(()),
+        Err(EditFault::JournalFull) => Err(SessionFault::JournalFull),
+        Err(EditFault::Memory) => Err(SessionFault::Memory),
+        Err(fault) => Err(SessionFault::EditRefused(editor, line, fault)),
     }
 }
 
@@ -52,8 +47,8 @@ pub(crate) struct Seen {
     pub len: u64,
 }
 
-// What a look shows, or the ticket that wasn't drawn, and the pass.
-fn looked(reply: Reply<Look>) -> (Result<Seen, u64>, Pass)
+// What a look shows, or that no ticket was left, and the pass.
+fn looked(reply: Reply<Look>) -> WithPass<Seen>
     ensures { result ≡ seen_of reply }
 {
     match reply {
@@ -67,7 +62,7 @@ fn looked(reply: Reply<Look>) -> (Result<Seen, u64>, Pass)
             let len = answer.len;
             (Ok(Seen { front, len }), pass)
         }
-        Err((pass, Worn(ticket))) => (Err(ticket), pass),
+        Err((pass, Worn(ticket))) => (Err(SessionFault::Worn(ticket)), pass),
     }
 }
 
@@ -81,8 +76,7 @@ fn see<R: Wait, D: LeafDisk, G>(context: &Context<'_, R, D, G>, pass: Pass) -> W
     ensures err { IfErr result.0 IsWornFault }
     ensures read { IfErr result.0 (HasReadFor result.1) }
 {
-    let (found, pass) = looked(context.shared.look(context.rt, pass));
-    (worn(found), pass)
+    looked(context.shared.look(context.rt, pass))
 }
 
 // Edits the text that was seen last.
@@ -104,7 +98,10 @@ fn edit_at<R: Wait, D: LeafDisk, G>(
 {
     let number = pass.number();
     let (answer, pass) = plain(context.shared.edit(context.rt, pass, seen.front, delta));
-    (edited(number, line, answer), pass)
+    match answer {
+        Ok(answer) => (edited(number, line, answer), pass),
+        Err(fault) => (Err(fault), pass),
+    }
 }
 
 // The delta of an insertion into a text of this length. No memory holds one of more than MAX_COUNT
@@ -200,7 +197,10 @@ fn change<R: Wait, D: LeafDisk, G>(
 {
     let number = pass.number();
     let (answer, pass) = plain(context.shared.change(context.rt, pass, change));
-    (edited(number, line, answer), pass)
+    match answer {
+        Ok(answer) => (edited(number, line, answer), pass),
+        Err(fault) => (Err(fault), pass),
+    }
 }
 
 // Does a line.

@@ -1,7 +1,7 @@
 //! Messages and their answers.
 
-ghost use Rattle.std.specs.Prelude.{◌≡◌, ◌≢◌, ◌≤◌, ◌<◌, ◌^◌, List, ℕ, length, IfNone, IfSome};
-ghost use Rattle.sporc_base.specs.Outcome.{GivesUnless};
+ghost use Rattle.std.specs.Prelude.{◌≡◌, ◌≢◌, ◌≤◌, ◌<◌, ◌^◌, List, ℕ, length, IfErr, IfNone, IfOk};
+ghost use Rattle.std.specs.Prelude.{IfSome, Ok};
 ghost use Rattle.sporc_wire.specs.declared.cutter.TheConstants.{MAX_BODY};
 ghost use Rattle.sporc_wire.specs.declared.to_server.ToServer.{ToServer};
 ghost use Rattle.sporc_wire.specs.declared.to_server.ToServer.TheVariants as to_server;
@@ -15,11 +15,11 @@ ghost use Rattle.sporc_session.specs.Wires.{link_at};
 
 use crate::fault::SessionFault;
 use crate::inbox::Inbox;
-use sporc_base::Bytes;
+use sporc_base::{Bytes, Memory};
 use sporc_head::Refusal;
 use sporc_outside::{Link, write_all};
 use sporc_wire::{Entries, FrameFault, ToClient, ToServer, write_submit, write_to_server};
-use std::alloc::Global;
+use std::alloc::{AllocError, Global};
 
 // What is sent to the server, however it is kept.
 pub(crate) trait Sent {
@@ -27,16 +27,17 @@ pub(crate) trait Sent {
     ghost message: { Self → ToServer };
 
     // The message's frame.
-    fn frame(&self, alloc: Global) -> Result<Vec<u8>, FrameFault>
-        ensures value { GivesUnless FrameFault.Memory (λ v. v.items) result
-            (framed (to_server_bytes (message self.now))) };
+    fn frame(&self, alloc: Global) -> Result<Vec<u8>, Memory>
+        requires within { length (to_server_bytes (message self.now)) ≤ MAX_BODY }
+        ensures value { IfOk result
+            (λ v. framed (to_server_bytes (message self.now)) ≡ Ok v.items) };
 }
 
 impl Sent for ToServer {
     ghost message = { λ m. m };
 
-    fn frame(&self, alloc: Global) -> Result<Vec<u8>, FrameFault> {
-        write_to_server(alloc, self)
+    fn frame(&self, alloc: Global) -> Result<Vec<u8>, Memory> {
+        fitting(write_to_server(alloc, self))
     }
 }
 
@@ -44,8 +45,20 @@ impl Sent for ToServer {
 impl Sent for Bytes {
     ghost message = { λ entry. to_server.Submit entry };
 
-    fn frame(&self, alloc: Global) -> Result<Vec<u8>, FrameFault> {
-        write_submit(alloc, self.as_slice())
+    fn frame(&self, alloc: Global) -> Result<Vec<u8>, Memory> {
+        fitting(write_submit(alloc, self.as_slice()))
+    }
+}
+
+// The frame of a message that isn't too long.
+fn fitting(frame: Result<Vec<u8>, FrameFault>) -> Result<Vec<u8>, Memory>
+    requires within { IfErr frame (λ fault. fault ≡ FrameFault.Memory) }
+    ensures value { IfOk result (λ v. frame ≡ Ok v) }
+{
+    match frame {
+        Ok(bytes) => Ok(bytes),
+        Err(FrameFault::Memory) => Err(AllocError),
+        Err(_) => unreachable!(),
     }
 }
 
@@ -73,13 +86,10 @@ pub(crate) fn send<L: Link, M: Sent>(
         (M.message message.now) result }
     ensures shut { (L.told link.new).is_shut ≡ (L.told link.old).is_shut }
 {
-    match message.frame(alloc) {
-        Ok(bytes) => match write_all(link, bytes.as_slice()) {
-            Ok(()) => Ok(()),
-            Err(_) => Err(SessionFault::LinkFault),
-        },
-        Err(FrameFault::Memory) => Err(SessionFault::Memory),
-        Err(_) => unreachable!(),
+    let bytes = message.frame(alloc)?;
+    match write_all(link, bytes.as_slice()) {
+        Ok(()) => Ok(()),
+        Err(_) => Err(SessionFault::LinkFault),
     }
 }
 

@@ -15,7 +15,7 @@ use crate::context::Context;
 use crate::exchange::{hello_of, send};
 use crate::fault::SessionFault;
 use crate::inbox::Inbox;
-use crate::receiver::{WithPass, plain, worn};
+use crate::receiver::{WithPass, plain};
 use crate::round::round;
 use sporc_outside::{Chance, Gate, LeafDisk, Link};
 use sporc_shared::{Look, Pass};
@@ -39,7 +39,7 @@ fn greet<R: Wait, D: LeafDisk, L: Link, G>(
     ensures read { IfErr result.0 (HasReadFor result.1) }
 {
     let (answer, pass) = plain(context.shared.membership(context.rt, pass));
-    match worn(answer) {
+    match answer {
         Ok(whose) => {
             let hello = hello_of(&whose.document, whose.member);
             (send(context.alloc, link, inbox, &hello), pass)
@@ -67,7 +67,7 @@ fn look_and_round<R: Wait, D: LeafDisk, L: Link, C: Chance, G: Gate>(
     ensures read { IfErr result.0 (HasReadFor result.1) }
 {
     let (answer, pass) = plain(context.shared.look(context.rt, pass));
-    match worn(answer) {
+    match answer {
         Ok(look) => round(context, link, inbox, chance, pass, look.at),
         Err(fault) => (Err(fault), pass),
     }
@@ -163,7 +163,7 @@ pub(crate) fn second_phase<R: Wait, D: LeafDisk, L: Link, C: Chance, G: Gate>(
     loop {
         let (answer, next) = plain(context.shared.look(context.rt, mine));
         mine = next;
-        let look = match worn(answer) {
+        let look = match answer {
             Ok(look) => look,
             Err(fault) => return (Err(fault), mine),
         };

@@ -12,7 +12,7 @@ ghost use Rattle.sporc_shared.specs.Calls.{CallGives};
 ghost use Rattle.sporc_shared.specs.Passes.{IsPassOf, IsReplyOf, IsWornOnErr};
 ghost use Rattle.sporc_session.specs.Traces.{CountsSame};
 ghost use Rattle.sporc_session.specs.Outcomes.{Drew, DrewFew, SubmittedOne, TookAll, TookOne};
-ghost use Rattle.sporc_session.specs.Replies.{HasReadFor, made_of, plain_of, taken_of, worn_of};
+ghost use Rattle.sporc_session.specs.Replies.{HasReadFor, made_of, plain_of, taken_of};
 
 use crate::context::Context;
 use crate::fault::SessionFault;
@@ -29,8 +29,8 @@ use std::vec::IntoIter;
 // A step's answer or the fault of the session, and the pass.
 pub(crate) type WithPass<T> = (Result<T, SessionFault>, Pass);
 
-// The answer, or the ticket that wasn't drawn, and the pass.
-pub(crate) fn plain<A>(reply: Reply<A>) -> (Result<A, u64>, Pass)
+// The answer, or that no ticket was left, and the pass.
+pub(crate) fn plain<A>(reply: Reply<A>) -> WithPass<A>
     ensures { result ≡ plain_of reply }
 {
     match reply {
@@ -41,54 +41,40 @@ pub(crate) fn plain<A>(reply: Reply<A>) -> (Result<A, u64>, Pass)
                 pass,
             },
         ) => (Ok(answer), pass),
-        Err((pass, Worn(ticket))) => (Err(ticket), pass),
-    }
-}
-
-// A session's fault in place of a ticket.
-pub(crate) fn worn<A>(answer: Result<A, u64>) -> Result<A, SessionFault>
-    ensures { result ≡ worn_of answer }
-{
-    match answer {
-        Ok(answer) => Ok(answer),
-        Err(ticket) => Err(SessionFault::Worn(ticket)),
+        Err((pass, Worn(ticket))) => (Err(SessionFault::Worn(ticket)), pass),
     }
 }
 
 // The fault of a session in which an entry isn't accepted.
-fn taken(position: u32, answer: Result<Result<u64, AcceptFault>, u64>) -> Result<(), SessionFault>
+fn taken(position: u32, answer: Result<u64, AcceptFault>) -> Result<(), SessionFault>
     ensures { result ≡ taken_of position answer }
 {
     match answer {
-        Ok(Ok(_)) => Ok(()),
-        Ok(Err(AcceptFault::Refused(refusal))) => Err(SessionFault::Refused(position, refusal)),
-        Ok(Err(AcceptFault::JournalFull)) => Err(SessionFault::JournalFull),
-        Ok(Err(AcceptFault::Memory)) => Err(SessionFault::Memory),
-        Err(ticket) => Err(SessionFault::Worn(ticket)),
+        Ok(_) => Ok(()),
+        Err(AcceptFault::Refused(refusal)) => Err(SessionFault::Refused(position, refusal)),
+        Err(AcceptFault::JournalFull) => Err(SessionFault::JournalFull),
+        Err(AcceptFault::Memory) => Err(SessionFault::Memory),
     }
 }
 
 // The entry that a submission made, or the fault of a session.
-fn made(answer: Result<Result<Submitted, SubmitFault>, u64>) -> Result<Option<Bytes>, SessionFault>
+fn made(answer: Result<Submitted, SubmitFault>) -> Result<Option<Bytes>, SessionFault>
     ensures { result ≡ made_of answer }
 {
     match answer {
-        Ok(Ok(Submitted::Entry(entry))) => Ok(Some(entry)),
-        Ok(Ok(Submitted::Waiting)) => Ok(None),
-        Ok(Ok(Submitted::Nothing)) => Ok(None),
-        Ok(Ok(Submitted::Dropped(_))) => Ok(None),
-        Ok(Err(SubmitFault::Removed)) => Ok(None),
-        Ok(Err(SubmitFault::NoRight)) => Ok(None),
-        Ok(Err(SubmitFault::HeadTooLong(_))) => Ok(None),
-        Ok(Err(SubmitFault::NoPairKey(_))) => Ok(None),
-        Ok(Err(SubmitFault::HistoryFull)) => Err(SessionFault::HistoryFull),
-        Ok(Err(SubmitFault::JournalFull)) => Err(SessionFault::JournalFull),
-        Ok(Err(SubmitFault::Exhausted(next))) => {
-            Err(SessionFault::Leaf(LeafFault::Exhausted(next)))
-        }
-        Ok(Err(SubmitFault::LeafFault)) => Err(SessionFault::Leaf(LeafFault::DiskFault)),
-        Ok(Err(SubmitFault::Memory)) => Err(SessionFault::Memory),
-        Err(ticket) => Err(SessionFault::Worn(ticket)),
+        Ok(Submitted::Entry(entry)) => Ok(Some(entry)),
+        Ok(Submitted::Waiting) => Ok(None),
+        Ok(Submitted::Nothing) => Ok(None),
+        Ok(Submitted::Dropped(_)) => Ok(None),
+        Err(SubmitFault::Removed) => Ok(None),
+        Err(SubmitFault::NoRight) => Ok(None),
+        Err(SubmitFault::HeadTooLong(_)) => Ok(None),
+        Err(SubmitFault::NoPairKey(_)) => Ok(None),
+        Err(SubmitFault::HistoryFull) => Err(SessionFault::HistoryFull),
+        Err(SubmitFault::JournalFull) => Err(SessionFault::JournalFull),
+        Err(SubmitFault::Exhausted(next)) => Err(SessionFault::Leaf(LeafFault::Exhausted(next))),
+        Err(SubmitFault::LeafFault) => Err(SessionFault::Leaf(LeafFault::DiskFault)),
+        Err(SubmitFault::Memory) => Err(SessionFault::Memory),
     }
 }
 
@@ -137,11 +123,16 @@ fn take_under<R: Wait, D: LeafDisk, G: Gate>(
 {
     let position = at + 1;
     let (answer, pass) = plain(accept_under(context, pass, position, entry, key));
-    let took = taken(position, answer);
-    if took.is_ok() {
-        context.gate.after_accept(context.rt, position);
+    match answer {
+        Ok(answer) => {
+            let took = taken(position, answer);
+            if took.is_ok() {
+                context.gate.after_accept(context.rt, position);
+            }
+            (took, pass)
+        }
+        Err(fault) => (Err(fault), pass),
     }
-    (took, pass)
 }
 
 // Accepts an entry after so many others: asks for its key in one turn, and accepts it in another
@@ -161,7 +152,7 @@ fn take_one<R: Wait, D: LeafDisk, G: Gate>(
     ensures read { IfErr result.0 (HasReadFor result.1) }
 {
     let (answer, pass) = plain(context.shared.key_for(context.rt, pass, entry.as_slice()));
-    match worn(answer) {
+    match answer {
         Ok(key) => take_under(context, pass, at, entry, key),
         Err(fault) => (Err(fault), pass),
     }
@@ -237,7 +228,10 @@ pub(crate) fn submit<R: Wait, D: LeafDisk, C: Chance, G>(
     match draw(chance) {
         Ok(random) => {
             let (answer, pass) = plain(context.shared.submit(context.rt, pass, &random));
-            (made(answer), pass)
+            match answer {
+                Ok(answer) => (made(answer), pass),
+                Err(fault) => (Err(fault), pass),
+            }
         }
         Err(fault) => (Err(fault), pass),
     }

@@ -94,13 +94,13 @@ fn drain<R: Wait, D: LeafDisk, L: Link, G: Gate>(
 }
 
 // The fault if an entry that was rejected is still on its way.
-fn checked(refusal: Refusal, answer: Result<bool, u64>) -> Result<(), SessionFault>
-    ensures { result ≡ checked_of refusal answer }
+fn checked(refusal: Refusal, is_flight: bool) -> Result<(), SessionFault>
+    ensures { result ≡ checked_of refusal is_flight }
 {
-    match answer {
-        Ok(true) => Err(SessionFault::ServerRejected(refusal)),
-        Ok(false) => Ok(()),
-        Err(ticket) => Err(SessionFault::Worn(ticket)),
+    if is_flight {
+        Err(SessionFault::ServerRejected(refusal))
+    } else {
+        Ok(())
     }
 }
 
@@ -120,7 +120,10 @@ fn check<R: Wait, D: LeafDisk, G>(
     ensures read { IfErr result.0 (HasReadFor result.1) }
 {
     let (answer, pass) = plain(context.shared.is_flight(context.rt, pass, entry));
-    (checked(refusal, answer), pass)
+    match answer {
+        Ok(is_flight) => (checked(refusal, is_flight), pass),
+        Err(fault) => (Err(fault), pass),
+    }
 }
 
 // Takes all entries that there are, and sees whether an entry that was rejected is still on its

@@ -7,8 +7,8 @@ use sporc_outside::LeafDisk;
 use sporc_turn::Kept;
 
 // The client under the lock, in a box, so that each turn moves a pointer alone. Its log begins with
-// what the client was opened with, and goes on with its events; its level is how many faults the
-// disk of its leaves counted.
+// what the client was opened with, and goes on with its events; its watermark is how many faults
+// the disk of its leaves counted.
 #[derive(Drop)]
 pub struct Desk<D: LeafDisk> {
     pub client: Box<Client<D>>,
@@ -23,7 +23,7 @@ impl<D: LeafDisk> Kept for Desk<D> {
 
     ghost by = { by_of };
 
-    ghost level = { λ d. disk_faults D.told d.client.value };
+    ghost watermark = { λ d. disk_faults D.told d.client.value };
 
     fn logged(&self) -> u64 {
         count_events(&self.client) + 1

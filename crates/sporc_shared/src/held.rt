@@ -39,7 +39,7 @@ pub(crate) fn edit<D: LeafDisk>(
     ensures past { past_of (value_of held.new).client.value ≡ with_events
         (past_of (value_of held.old).client.value) (added result.0 (Edited by seen delta.now)) }
     ensures allowed { IsAllowed (past_of (value_of held.new).client.value) }
-    ensures level { disk_faults D.told (value_of held.new).client.value
+    ensures watermark { disk_faults D.told (value_of held.new).client.value
         ≡ disk_faults D.told (value_of held.old).client.value }
     ensures events { result.1 ≡ length (past_of (value_of held.new).client.value).log }
 {
@@ -63,7 +63,7 @@ pub(crate) fn change<D: LeafDisk>(
     ensures past { past_of (value_of held.new).client.value ≡ with_events
         (past_of (value_of held.old).client.value) (added result.0 (Changed by change)) }
     ensures allowed { IsAllowed (past_of (value_of held.new).client.value) }
-    ensures level { disk_faults D.told (value_of held.new).client.value
+    ensures watermark { disk_faults D.told (value_of held.new).client.value
         ≡ disk_faults D.told (value_of held.old).client.value }
     ensures events { result.1 ≡ length (past_of (value_of held.new).client.value).log }
 {
@@ -85,7 +85,7 @@ pub(crate) fn submit<D: LeafDisk>(
     ensures past { past_of (value_of held.new).client.value
         ≡ with_events (past_of (value_of held.old).client.value) (submission_added by result.0) }
     ensures allowed { IsAllowed (past_of (value_of held.new).client.value) }
-    ensures level { disk_faults D.told (value_of held.old).client.value
+    ensures watermark { disk_faults D.told (value_of held.old).client.value
         ≤ disk_faults D.told (value_of held.new).client.value }
     ensures disk { result.0 ≡ Err SubmitFault.LeafFault
         → disk_faults D.told (value_of held.new).client.value ≢ 0 }
@@ -112,7 +112,7 @@ pub(crate) fn accept<D: LeafDisk>(
     ensures past { past_of (value_of held.new).client.value ≡ with_events
         (past_of (value_of held.old).client.value) (added result.0 (Accepted by bytes.now)) }
     ensures allowed { IsAllowed (past_of (value_of held.new).client.value) }
-    ensures level { disk_faults D.told (value_of held.new).client.value
+    ensures watermark { disk_faults D.told (value_of held.new).client.value
         ≡ disk_faults D.told (value_of held.old).client.value }
     ensures events { result.1 ≡ length (past_of (value_of held.new).client.value).log }
 {
@@ -138,7 +138,7 @@ pub(crate) fn accept_examined<D: LeafDisk>(
         ≡ with_events (past_of (value_of held.old).client.value)
         (added result.0 (Accepted by examined.now.entry)) }
     ensures allowed { IsAllowed (past_of (value_of held.new).client.value) }
-    ensures level { disk_faults D.told (value_of held.new).client.value
+    ensures watermark { disk_faults D.told (value_of held.new).client.value
         ≡ disk_faults D.told (value_of held.old).client.value }
     ensures events { result.1 ≡ length (past_of (value_of held.new).client.value).log }
 {

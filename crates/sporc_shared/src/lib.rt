@@ -30,8 +30,8 @@
 //! journal, and the pass has seen it all. What `close` gives back is the client with the journal
 //! that its pass has seen, whose entries were signed by leaves from the opening's next one on, each
 //! once. A submission answers that the disk of the leaves failed only if its pass has then seen
-//! that this disk counted a fault; that of the client that `close` gives back has counted as many
-//! as its pass has seen. Only tested: that calls of two passes succeed with ample memory
+//! that this disk counted a fault; that of the client that `close` gives back has counted no fewer
+//! than its pass has seen. Only tested: that calls of two passes succeed with ample memory
 //! (`sporc_thread_tests`). Neither: that a turn comes, and whose turn comes first.
 #![tactic(auto)]
 

@@ -8,7 +8,8 @@ ghost use Rattle.sporc_client.specs.Step.{is_flight};
 ghost use Rattle.sporc_client.specs.Submissions.{submission_added};
 ghost use Rattle.sporc_turn.specs.Knowing.{adding, copied, first_known, joined_with, splitting};
 ghost use Rattle.sporc_turn.specs.Log.{Agrees, Extends, StartsWith};
-ghost use Rattle.sporc_turn.specs.Passes.{known_held, known_of, level_held, level_of, out_of};
+ghost use Rattle.sporc_turn.specs.Passes.{known_held, known_of, out_of, watermark_held};
+ghost use Rattle.sporc_turn.specs.Passes.{watermark_of};
 ghost use Rattle.sporc_turn.specs.Passes.{read_of, value_of, IsHeldOf};
 ghost use Rattle.sporc_shared.specs.Calls.{CallGives, CallTells, IsCall, SubmitsAt};
 ghost use Rattle.sporc_shared.specs.Items.{IsAllowed, Past, by_of, client_of, disk_faults};
@@ -129,7 +130,7 @@ impl<D: LeafDisk> SharedClient<D> {
             × SubmitsAt before random.now r.answer) }
         ensures front { HasFront result }
         ensures disk { IfOk result
-            (λ r. r.answer ≡ Err SubmitFault.LeafFault → level_of r.pass ≢ 0) }
+            (λ r. r.answer ≡ Err SubmitFault.LeafFault → watermark_of r.pass ≢ 0) }
         ensures worn { IsWornOnErr pass result }
     {
         let by = pass.number();
@@ -249,13 +250,13 @@ impl<D: LeafDisk> SharedClient<D> {
         requires lock { IsHeldOf self.now.turn held }
         requires log { Extends by_of (known_held held)
             (items_of (past_of (value_of held).client.value)) }
-        requires level { level_held held ≤ disk_faults D.told (value_of held).client.value }
+        requires watermark { watermark_held held ≤ disk_faults D.told (value_of held).client.value }
         ensures lock { IsPassOf self.now result.pass }
         ensures answer { result.answer ≡ answer }
         ensures front { result.front.events ≡ events }
         ensures known { known_of result.pass
             ≡ adding (known_held held) (items_of (past_of (value_of held).client.value)) }
-        ensures level { level_of result.pass
+        ensures watermark { watermark_of result.pass
             ≡ disk_faults D.told (value_of held).client.value }
         ensures agrees { Agrees by_of (known_of result.pass)
             (items_of (past_of (value_of held).client.value)) }
@@ -283,7 +284,7 @@ impl<D: LeafDisk> SharedClient<D> {
 
     /// Joins a pass back to number 0, which keeps its items. It has seen the longer of both logs,
     /// and each of them is a prefix of that one. Of the next tickets that both read it keeps the
-    /// larger, and so of the levels that both saw.
+    /// larger, and so of the watermarks that both saw.
     pub fn join(&self, a: Pass, b: Pass) -> Pass
         requires lock { IsPassOf self.now a × IsPassOf self.now b }
         requires first { (known_of a).number ≡ 0 }
@@ -291,7 +292,7 @@ impl<D: LeafDisk> SharedClient<D> {
         ensures lock { IsPassOf self.now result }
         ensures known { known_of result ≡ joined_with (known_of a) (known_of b) }
         ensures read { read_of result ≡ max (read_of a) (read_of b) }
-        ensures level { level_of result ≡ max (level_of a) (level_of b) }
+        ensures watermark { watermark_of result ≡ max (watermark_of a) (watermark_of b) }
         ensures first { StartsWith (known_of result).seen (known_of a).seen }
         ensures other { StartsWith (known_of result).seen (known_of b).seen }
         ensures agrees { Agrees by_of (known_of result) (known_of result).seen }
@@ -307,7 +308,7 @@ impl<D: LeafDisk> SharedClient<D> {
         requires first { (known_of pass).number ≡ 0 }
         ensures all { IfOk result (λ c. out_of pass ≡ 0) }
         ensures log { IfOk result (λ c. items_of (past_of c) ≡ (known_of pass).seen) }
-        ensures level { IfOk result (λ c. level_of pass ≤ disk_faults D.told c) }
+        ensures watermark { IfOk result (λ c. watermark_of pass ≤ disk_faults D.told c) }
         ensures agrees { IfOk result (λ c. Agrees by_of (known_of pass) (items_of (past_of c))) }
         ensures allowed { IfOk result (λ c. IsAllowed (past_of c)) }
         ensures leaves { IfOk result

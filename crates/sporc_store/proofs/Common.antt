@@ -24,7 +24,7 @@ pub use Rattle.sporc_outside.specs.LeafDisk.{CrashStep, IsSame}
 pub use Rattle.sporc_outside.specs.Uses.{use_of}
 pub use Rattle.sporc_store.specs.Loading.{AppendsPart, AppendsSome, AreAccepted, Checker, accepted, accepted_behind, accepted_from, an_order, loaded}
 pub use Rattle.sporc_store.specs.SavedFile.{IsPrefix, IsUnchecked, Taken, entries_at, entry_and, first_and, head_bytes, listed, read_to, saved_bytes, saved_file, saved_in, stop_behind}
-pub use Rattle.sporc_store.specs.TailBytes.{Agree, FitsRecord, Gives, GivesSame, GoesOn, IsTail, IsUnread, Recovers, TailTaken, behind_head, record_bytes, records_behind, records_bytes}
+pub use Rattle.sporc_store.specs.TailBytes.{Agree, FitsRecord, GivesBehind, GivesSame, GoesOn, IsTail, IsUnread, Recovers, TailTaken, behind_head, record_bytes, records_behind, records_bytes}
 pub use Rattle.sporc_store.specs.TailBytes.{records_of, tail_behind, tail_bytes, tail_head, taken_from, taken_to}
 pub use Rattle.sporc_store.specs.TailFiles.{AreSynced, Between, Cuts, IsFaultOf, IsRefusal, Keeps, KeepsEntries, OpensBehind, Puts, RecoversAt, Settles, StaysFound, TailFileModel, TakesTail}
 pub use Rattle.sporc_store.specs.TailFiles.{TellsStill, Writes, counting, counting_of, head_behind, tail_on}

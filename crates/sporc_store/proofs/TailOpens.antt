@@ -1,7 +1,7 @@
 -- What is read of a tail's file and taken behind an order's entries, and why it is not.
 use Rattle.std.proofs.Common.{◌≡◌, ℕ, zero, suc, ◌+◌, ◌<◌, List, [], ◌∷◌, ◌++◌, length, Option, Some, None, Result, Ok, Err, refl, sym, ap, ◌∙◌, subst, arith, append-nil, length-append}
 use Rattle.sporc_store.proofs.Common.{IfSome, IsSome, OnErr, take_all, AppendTold, IsWholeFault, file_images, MAX_FILE, Stop, End, RefusedAt, TailFault, AppendsPart, Checker}
-use Rattle.sporc_store.proofs.Common.{accepted_behind, accepted_from, Taken, read_to, Gives, AreSynced, IsFaultOf, IsRefusal, StaysFound, TellsStill}
+use Rattle.sporc_store.proofs.Common.{accepted_behind, accepted_from, Taken, read_to, GivesBehind, AreSynced, IsFaultOf, IsRefusal, StaysFound, TellsStill}
 use Rattle.sporc_outside.specs.declared.file_fault.FileFault.TheVariants as files
 use Rattle.sporc_store.specs.declared.tail_fault.TailFault.TheVariants.{TooLong}
 use Rattle.sporc_store.specs.TailReadings.{AreTold, IsReadingFault, StaysTold}
@@ -58,7 +58,7 @@ told_still file_told is_image log document bytes old new (Some first) is told sy
     by (Some last) there some = λ entries found.
         let here : file_images (file_told new) last = subst (λ (o : Option (List ℕ)). IfSome o (file_images (file_told new))) there (is_image new) in
         let was = stays.during (file_told new).moment last stays.later (omega arith) here in
-        was.2 entries (subst (λ (l : List ℕ). Gives log document l entries) (told ∙ sym (synced was.0 was.1)) found)
+        was.2 entries (subst (λ (l : List ℕ). GivesBehind log document l entries) (told ∙ sym (synced was.0 was.1)) found)
 
 pub on_err : {T E : Type 0} {P : Type 0} (r : Result T E) → P → OnErr r P
 on_err (Ok x) p = tt

@@ -1,7 +1,7 @@
 -- A tail that was written is read again behind a log, also where its last record is cut.
 use Rattle.std.proofs.Common.{◌≡◌, ℕ, ◌+◌, ◌-◌, ◌^◌, ◌<◌, ◌≤◌, ◌⊎◌, inl, inr, true, false, leb, eqb, List, [], ◌∷◌, ◌++◌, length, take, drop, Ok, refl, sym, ap, ◌∙◌, subst, arith, append-nil, append_assoc}
 use Rattle.sporc_store.proofs.Common.{le-leb, cases_lt, Decides-eqb, length-append, length-take, take_all, take_at, drop_at, take-append-drop, All-append, All-cons, All-nil, starts_is}
-use Rattle.sporc_store.proofs.Common.{take-append-add, All, starts_with, w32, to_be_bytes, number_at, u32_again, TAIL_HEAD_LEN, IsPrefix, Agree, FitsRecord, Gives, IsTail, Recovers}
+use Rattle.sporc_store.proofs.Common.{take-append-add, All, starts_with, w32, to_be_bytes, number_at, u32_again, TAIL_HEAD_LEN, IsPrefix, Agree, FitsRecord, GivesBehind, IsTail, Recovers}
 use Rattle.sporc_store.proofs.Common.{record_bytes, records_bytes, records_of, tail_head, taken_to, Between, drop-nil}
 use Rattle.std.proofs.lemmas.Bool.{false_from_ne_true}
 use Rattle.sporc_store.specs.TailBytes.{tail_behind, tail_bytes}
@@ -97,7 +97,7 @@ pub prefix_same : (es : List (List ℕ)) → IsPrefix es es
 prefix_same es = sym (take_all (length es) es (omega arith))
 
 -- of bytes that give these entries
-pub at_least : (log entries all : List (List ℕ)) (document bytes : List ℕ) → Gives log document bytes all → IsPrefix entries all → Recovers log document bytes entries
+pub at_least : (log entries all : List (List ℕ)) (document bytes : List ℕ) → GivesBehind log document bytes all → IsPrefix entries all → Recovers log document bytes entries
 at_least log entries all document bytes found prefix = record {
   taken = found.taken;
   reads = found.reads;
@@ -107,7 +107,7 @@ at_least log entries all document bytes found prefix = record {
 gives_short : (log before behind front more : List (List ℕ)) (document next : List ℕ) (kept : ℕ) (image : List ℕ) → length document ≡ 16
     → Between log before behind front more → image ≡ tail_bytes document (length before) behind ++ take kept (record_bytes (length before + length behind + 1) next)
     → All FitsRecord behind → FitsRecord next → length before + length behind + 1 < 2 ^ 32
-    → kept < length (record_bytes (length before + length behind + 1) next) → Gives log document image (before ++ behind)
+    → kept < length (record_bytes (length before + length behind + 1) next) → GivesBehind log document image (before ++ behind)
 gives_short log before behind front more document next kept image is b bytes fit next_fits below short =
     let from = length before in
     let rest : drop from log ≡ front = ap (drop from) b.log_is ∙ drop_at before front from refl in
@@ -137,7 +137,7 @@ tail_more document from entries next =
 -- they give what the tail is of, and the next entry as well if its record is whole
 pub gives : (log before behind front more : List (List ℕ)) (document next : List ℕ) (kept : ℕ) (image : List ℕ) → length document ≡ 16
     → Between log before behind front more → IsTail document (length before) behind next kept image
-    → Gives log document image (before ++ behind) ⊎ ((0 < kept) × Gives log document image ((before ++ behind) ++ next ∷ []))
+    → GivesBehind log document image (before ++ behind) ⊎ ((0 < kept) × GivesBehind log document image ((before ++ behind) ++ next ∷ []))
 gives log before behind front more document next kept image is b t =
     let from = length before in
     elim (cases_lt kept (length (record_bytes (length before + length behind + 1) next))) [
@@ -156,12 +156,12 @@ gives log before behind front more document next kept image is b t =
           let found = gives_short log before all front (more ++ next ∷ []) document [] 0 image is between bytes fit (omega arith) (omega (arith, t.positions, size))
           (omega (arith, record_len (from + length all + 1) [])) in
           let longer : before ++ all ≡ (before ++ behind) ++ next ∷ [] = sym (append_assoc before behind (next ∷ [])) in
-          inr (omega (arith, whole, record_len (from + length behind + 1) next), subst (Gives log document image) longer found)
+          inr (omega (arith, whole, record_len (from + length behind + 1) next), subst (GivesBehind log document image) longer found)
     ]
 
 -- a tail with nothing behind it
 pub gives_whole : (log before behind front more : List (List ℕ)) (document image : List ℕ) → length document ≡ 16
-    → Between log before behind front more → IsTail document (length before) behind [] 0 image → Gives log document image (before ++ behind)
+    → Between log before behind front more → IsTail document (length before) behind [] 0 image → GivesBehind log document image (before ++ behind)
 gives_whole log before behind front more document image is b t =
     gives_short log before behind front more document [] 0 image is b t.bytes_are t.fit t.next_fits (omega (arith, t.positions))
     (omega (arith, record_len (length before + length behind + 1) []))
@@ -189,5 +189,5 @@ head_reads log document k is short =
     let size : length part < length head = omega (arith, length-take k head, head_len document is, short) in
     rw (no_start part head size, ap (λ (l : List ℕ). starts_with eqb l part) (sym (take-append-drop k head)) ∙ begins part (drop k head)) refl
 
-pub head_gives : (log : List (List ℕ)) (document : List ℕ) (k : ℕ) → length document ≡ 16 → k < TAIL_HEAD_LEN → Gives log document (take k (tail_head document)) log
+pub head_gives : (log : List (List ℕ)) (document : List ℕ) (k : ℕ) → length document ≡ 16 → k < TAIL_HEAD_LEN → GivesBehind log document (take k (tail_head document)) log
 head_gives log document k is short = record { taken = taken_to [] 0; reads = head_reads log document k is short; all = append-nil log }

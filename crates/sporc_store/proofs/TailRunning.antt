@@ -1,7 +1,7 @@
 -- Nothing that was ordered is lost in a run of a server over one log and its tail, and an order can always begin again.
 use Rattle.std.proofs.Common.{◌≡◌, ℕ, zero, suc, ◌+◌, ◌^◌, ◌<◌, ◌≤◌, ◌⊎◌, inl, inr, false, List, [], ◌∷◌, ◌++◌, length, take, Option, Some, None, Result, Ok, Err, refl, sym, ap, ◌∙◌, subst, arith, append-nil, append_assoc}
 use Rattle.std.proofs.lemmas.List.{take-take}
-use Rattle.sporc_store.proofs.Common.{IfSome, length-append, length-take, ok_is, Genesis, AppendTold, IsFileFound, file_images, AreAccepted, IsPrefix, FitsRecord, Gives, GivesSame, IsTail, Recovers}
+use Rattle.sporc_store.proofs.Common.{IfSome, length-append, length-take, ok_is, Genesis, AppendTold, IsFileFound, file_images, AreAccepted, IsPrefix, FitsRecord, GivesBehind, GivesSame, IsTail, Recovers}
 use Rattle.sporc_store.proofs.Common.{TailTaken, record_bytes, tail_behind, tail_bytes, Between, Keeps, OpensBehind, Puts, RecoversAt, StaysFound, TailFileModel, TakesTail}
 use Rattle.sporc_order.specs.declared.tail.Unkept.{Unkept}
 use Rattle.sporc_store.specs.TailRuns.{TailMove, Open, OpenFailed, OpenCut, Put, PutCut, Save, End, Remake, Stop, TailState, after_move, after_moves, held_then, MayOpen, MayMove, IsTailRun, IsChecked, IsCheckedRun, CanBegin, Begins}
@@ -18,7 +18,7 @@ pub prefix_then : (xs ys zs : List (List ℕ)) → IsPrefix xs ys → IsPrefix y
 prefix_then xs ys zs h k = h ∙ ap (take (length xs)) k ∙ take-take (length xs) (length ys) zs (prefix_fits xs ys h)
 
 -- what is given is what is read
-pub gives_taken : (log entries : List (List ℕ)) (document bytes : List ℕ) (taken : TailTaken) → Gives log document bytes entries → tail_behind log document bytes ≡ Ok taken
+pub gives_taken : (log entries : List (List ℕ)) (document bytes : List ℕ) (taken : TailTaken) → GivesBehind log document bytes entries → tail_behind log document bytes ≡ Ok taken
     → log ++ taken.entries ≡ entries
 gives_taken log entries document bytes taken found reads =
     ap (λ (t : TailTaken). log ++ t.entries) (ok_is taken found.taken (sym reads ∙ found.reads)) ∙ found.all
@@ -52,7 +52,7 @@ module _ {D : Type 0} (file_told : D → AppendTold) (genesis : Genesis) (P : Li
     (is_image : (file : D) → IfSome (file_told file).stored (file_images (file_told file))) (is16 : length genesis.document ≡ 16) where
   -- behind a log the bytes give what begins with these entries, and P holds of it
   abbrev Starts : List (List ℕ) → List (List ℕ) → List ℕ → Type 0
-  Starts log held bytes = (entries : List (List ℕ)) × Gives log genesis.document bytes entries × IsPrefix held entries × P entries
+  Starts log held bytes = (entries : List (List ℕ)) × GivesBehind log genesis.document bytes entries × IsPrefix held entries × P entries
 
   abbrev pub StartsAt : List (List ℕ) → List (List ℕ) → D → ℕ → Type 0
   StartsAt log held file at = (image : List ℕ) → (file_told file).images at image → Starts log held image
@@ -88,12 +88,12 @@ module _ {D : Type 0} (file_told : D → AppendTold) (genesis : Genesis) (P : Li
   starts_tail log held before behind front more image parts between has (next, kept, tail, more_has) =
       by (gives log before behind front more genesis.document next kept image is16 between tail) more_has
     where
-      by : Gives log genesis.document image (before ++ behind) ⊎ ((0 < kept) × Gives log genesis.document image ((before ++ behind) ++ next ∷ []))
+      by : GivesBehind log genesis.document image (before ++ behind) ⊎ ((0 < kept) × GivesBehind log genesis.document image ((before ++ behind) ++ next ∷ []))
           → (kept ≡ 0) ⊎ P (held ++ next ∷ []) → Starts log held image
-      by (inl found) more_has = (held, subst (Gives log genesis.document image) (sym parts) found, prefix_same held, has)
+      by (inl found) more_has = (held, subst (GivesBehind log genesis.document image) (sym parts) found, prefix_same held, has)
       by (inr (some, found)) (inl none) = absurd (omega (arith, some, none))
       by (inr (some, found)) (inr more_has) =
-          (held ++ next ∷ [], subst (λ (l : List (List ℕ)). Gives log genesis.document image (l ++ next ∷ [])) (sym parts) found, is_prefix held (next ∷ []), more_has)
+          (held ++ next ∷ [], subst (λ (l : List (List ℕ)). GivesBehind log genesis.document image (l ++ next ∷ [])) (sym parts) found, is_prefix held (next ∷ []), more_has)
 
   found_by : (o : Option (TailFileModel D)) (log held : List (List ℕ)) (file : D) → SoundBy o log held file → StartsAt log held file (file_told file).moment
   found_by None log held file h = h
@@ -276,7 +276,7 @@ module _ {D : Type 0} (file_told : D → AppendTold) (genesis : Genesis) (P : Li
   new_starts : (log held : List (List ℕ)) (image : List ℕ) → log ≡ held → P log → image ≡ [] → Starts log held image
   new_starts log held image all has none = (
     log,
-    subst (λ (i : List ℕ). Gives log genesis.document i log) (sym none) (head_gives log genesis.document 0 is16 (omega arith)),
+    subst (λ (i : List ℕ). GivesBehind log genesis.document i log) (sym none) (head_gives log genesis.document 0 is16 (omega arith)),
     subst (λ (l : List (List ℕ)). IsPrefix l log) all (prefix_same log),
     has,
   )
@@ -414,7 +414,7 @@ module _ {D : Type 0} (file_told : D → AppendTold) (genesis : Genesis)
       end : TailState D
       end = after_moves s run
 
-      by : (entries : List (List ℕ)) × Gives end.log genesis.document image entries × IsPrefix end.held entries × Any entries → Recovers end.log genesis.document image end.held
+      by : (entries : List (List ℕ)) × GivesBehind end.log genesis.document image entries × IsPrefix end.held entries × Any entries → Recovers end.log genesis.document image end.held
       by (entries, found, prefix, any) = at_least end.log end.held entries genesis.document image found prefix
 
   pub begins_again : (s : TailState D) (run : List (TailMove D)) → Begins file_told genesis s → AreAccepted genesis s.log → IsTailRun file_told genesis s run
@@ -427,7 +427,7 @@ module _ {D : Type 0} (file_told : D → AppendTold) (genesis : Genesis)
       starts : AreAccepted genesis end.log × StartsAt file_told genesis (AreAccepted genesis) is_image is16 end.log end.held end.file (file_told end.file).moment
       starts = run_starts file_told genesis (AreAccepted genesis) is_image is16 s run b accepted (checked_goes s run checked) may
 
-      by : (image : List ℕ) → (entries : List (List ℕ)) × Gives end.log genesis.document image entries × IsPrefix end.held entries × AreAccepted genesis entries
+      by : (image : List ℕ) → (entries : List (List ℕ)) × GivesBehind end.log genesis.document image entries × IsPrefix end.held entries × AreAccepted genesis entries
           → (entries : List (List ℕ)) × TakesTail genesis end.log image entries × IsPrefix end.held entries
       by image (entries, found, prefix, all) = (
         entries,

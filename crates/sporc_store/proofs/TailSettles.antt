@@ -2,21 +2,20 @@
 use Rattle.std.proofs.Common.{◌≡◌, ℕ, zero, suc, ◌+◌, ◌-◌, ◌^◌, ◌<◌, ◌≤◌, ◌⊎◌, inl, inr, Bool, true, false, cond, leb, List, [], ◌∷◌, ◌++◌, length, take, drop, eqb, Result, Ok, Err, refl, sym, ap, ◌∙◌, subst, arith, append-nil, append_assoc}
 use Rattle.sporc_store.proofs.Common.{◌&&◌, OnOk, cases_lt, leb-true, and_parts, Decides-eqb, length-append, length-drop, length-take, take_all, take_at, drop_at, take-append-drop, take-nil, All-nil}
 use Rattle.sporc_store.proofs.Common.{starts_is, All, starts_with, w32, IsBytes, Reading, number_at, ok_is, MAX_ENTRIES, AppendTold, GrowsBy, MayBeCut, FileSteps, file_images, MAX_FILE, TailFault}
-use Rattle.sporc_store.proofs.Common.{Malformed, TAIL_HEAD_LEN, Agree, FitsRecord, Gives, GivesSame, IsTail, TailTaken, behind_head, records_behind, records_bytes, records_of, tail_head, taken_to}
+use Rattle.sporc_store.proofs.Common.{Malformed, TAIL_HEAD_LEN, Agree, FitsRecord, GivesBehind, GivesSame, IsTail, TailTaken, behind_head, records_behind, records_bytes, records_of, tail_head, taken_to}
 use Rattle.sporc_store.proofs.Common.{AreSynced, Between, Cuts, OpensBehind, Settles, StaysFound, Writes, counting, counting_of, head_behind, tail_on, IsBytes-drop, IsSame, use_of}
 use Rattle.sporc_store.specs.TailBytes.{tail_behind, tail_bytes}
 use Rattle.sporc_store.proofs.TailReads.{gives_whole, head_gives, head_len, head_reads}
 use Rattle.sporc_store.proofs.TailRecords.{TakesRecords, records_few, records_take}
 use Rattle.sporc_store.proofs.TailRunning.{gives_taken}
 use Rattle.sporc_store.proofs.TailWrites.{step_then}
-use Rattle.sporc_store.proofs.TailRunning.{gives_taken}
 
 -- ---- what stays found from one moment to another
 
 -- bytes that give all that others gave
 pub gives_more : (log : List (List ℕ)) (document old new : List ℕ) (taken : TailTaken) → tail_behind log document old ≡ Ok taken
-    → Gives log document new (log ++ taken.entries) → GivesSame log document old new
-gives_more log document old new taken reads found entries was = subst (Gives log document new) (gives_taken log entries document old taken was reads) found
+    → GivesBehind log document new (log ++ taken.entries) → GivesSame log document old new
+gives_more log document old new taken reads found entries was = subst (GivesBehind log document new) (gives_taken log entries document old taken was reads) found
 
 module _ {D : Type 0} (file_told : D → AppendTold) (log : List (List ℕ)) (document : List ℕ) where
   pub step_stays : (old new : D) (step : List ℕ → List ℕ → Type 0) → FileSteps (use_of file_told old new) step
@@ -30,7 +29,7 @@ module _ {D : Type 0} (file_told : D → AppendTold) (log : List (List ℕ)) (do
   }
 
   pub same_stays : (old new : D) → FileSteps (use_of file_told old new) IsSame → StaysFound file_told log document old new
-  same_stays old new crash = step_stays old new IsSame crash (λ before after there same entries found. subst (λ (l : List ℕ). Gives log document l entries) (sym same) found)
+  same_stays old new crash = step_stays old new IsSame crash (λ before after there same entries found. subst (λ (l : List ℕ). GivesBehind log document l entries) (sym same) found)
 
   pub stays_then : (a b c : D) → StaysFound file_told log document a b → StaysFound file_told log document b c → StaysFound file_told log document a c
   stays_then a b c one two =
@@ -64,9 +63,9 @@ stands_between : (log : List (List ℕ)) (document bytes : List ℕ) (taken : Ta
 stands_between log document bytes taken s = record { log_is = s.log_is; behind_is = refl }
 
 pub stands_gives : (log : List (List ℕ)) (document bytes : List ℕ) (taken : TailTaken) → length document ≡ 16 → Stands log document taken bytes
-    → Gives log document bytes (log ++ taken.entries)
+    → GivesBehind log document bytes (log ++ taken.entries)
 stands_gives log document bytes taken is s =
-    subst (Gives log document bytes) (sym (stands_all log document bytes taken s))
+    subst (GivesBehind log document bytes) (sym (stands_all log document bytes taken s))
     (gives_whole log s.before (s.front ++ taken.entries) s.front taken.entries document bytes is (stands_between log document bytes taken s) (stands_tail log document bytes taken s))
 
 pub stands_opens : {D : Type 0} (file_told : D → AppendTold) (file : D) (log : List (List ℕ)) (document bytes : List ℕ) (taken : TailTaken)
@@ -98,7 +97,7 @@ head_stands log document taken none few = record {
 
 -- any first part of it
 pub part_gives : (log : List (List ℕ)) (document : List ℕ) (k : ℕ) → length document ≡ 16 → length log ≤ MAX_ENTRIES
-    → Gives log document (take k (tail_head document)) (log ++ [])
+    → GivesBehind log document (take k (tail_head document)) (log ++ [])
 part_gives log document k is few = elim (cases_lt k TAIL_HEAD_LEN) [
   | inl short ↦ rw append-nil (head_gives log document k is short)
   | inr all ↦
@@ -223,7 +222,7 @@ module _ (log : List (List ℕ)) (document bytes : List ℕ) (is16 : length docu
       subst (Stands log document taken) (sym (ap (λ (l : List ℕ). take (counting taken) bytes ++ l) nothing ∙ append-nil (take (counting taken) bytes))) stands
 
   -- and before the head is there
-  kept_gives : (taken : TailTaken) → Counted log document bytes taken → Gives log document (take (counting taken) bytes) (log ++ taken.entries)
+  kept_gives : (taken : TailTaken) → Counted log document bytes taken → GivesBehind log document (take (counting taken) bytes) (log ++ taken.entries)
   kept_gives taken (inl (none, all)) =
       rw (none, all) (part_gives log document 0 is16 few)
   kept_gives taken (inr (n, some, stands)) = stands_gives log document (take (counting taken) bytes) taken is16 stands
@@ -234,29 +233,29 @@ module _ (log : List (List ℕ)) (document bytes : List ℕ) (is16 : length docu
     cut_stays taken old new reads synced crash = step_stays file_told log document old new (MayBeCut (counting taken)) crash by
       where
         by : (before after : List ℕ) → file_images (file_told old) before → (after ≡ before) ⊎ (after ≡ take (counting taken) before) → (entries : List (List ℕ))
-            → Gives log document before entries → Gives log document after entries
-        by before after there (inl same) entries found = subst (λ (l : List ℕ). Gives log document l entries) (sym same) found
+            → GivesBehind log document before entries → GivesBehind log document after entries
+        by before after there (inl same) entries found = subst (λ (l : List ℕ). GivesBehind log document l entries) (sym same) found
         by before after there (inr cut) entries found =
             let was : before ≡ bytes = synced before there in
             let now : after ≡ take (counting taken) bytes = cut ∙ ap (take (counting taken)) was in
-            subst (λ (l : List ℕ). Gives log document l entries) (sym now)
+            subst (λ (l : List ℕ). GivesBehind log document l entries) (sym now)
             (gives_more log document bytes (take (counting taken) bytes) taken reads (kept_gives taken (counted taken reads)) entries
-            (subst (λ (l : List ℕ). Gives log document l entries) was found))
+            (subst (λ (l : List ℕ). GivesBehind log document l entries) was found))
 
     pub head_stays : (kept : ℕ) (mid new : D) → AreSynced file_told mid (take kept bytes)
         → FileSteps (use_of file_told mid new) (GrowsBy (head_behind document kept)) → StaysFound file_told log document mid new
     head_stays (suc n) mid new synced crash = step_stays file_told log document mid new (GrowsBy []) crash
         (λ before after there grown entries found.
         let same : after ≡ before = grown.1 ∙ ap (λ (l : List ℕ). before ++ l) (take-nil grown.0) ∙ append-nil before in
-        subst (λ (l : List ℕ). Gives log document l entries) (sym same) found)
+        subst (λ (l : List ℕ). GivesBehind log document l entries) (sym same) found)
     head_stays zero mid new synced crash = step_stays file_told log document mid new (GrowsBy (tail_head document)) crash
         (λ before after there grown entries found.
         let was : before ≡ [] = synced before there in
         let now : after ≡ take grown.0 (tail_head document) = grown.1 ∙ ap (λ (l : List ℕ). l ++ take grown.0 (tail_head document)) was in
         let none : tail_behind log document [] ≡ Ok (taken_to [] 0) = head_reads log document 0 is16 (omega arith) in
-        subst (λ (l : List ℕ). Gives log document l entries) (sym now)
+        subst (λ (l : List ℕ). GivesBehind log document l entries) (sym now)
         (gives_more log document [] (take grown.0 (tail_head document)) (taken_to [] 0) none (part_gives log document grown.0 is16 few) entries
-        (subst (λ (l : List ℕ). Gives log document l entries) was found)))
+        (subst (λ (l : List ℕ). GivesBehind log document l entries) was found)))
 
     pub settled : {E : Type 0} (taken : TailTaken) (old mid new : D) (result : Result (Unit {0}) E) → tail_behind log document bytes ≡ Ok taken → AreSynced file_told old bytes
         → (done : Unit {0}) → Cuts file_told {E = E} (counting taken) old mid (Ok done) → Writes file_told (head_behind document (counting taken)) mid new result

@@ -174,7 +174,7 @@ pub record IsTail (document : List ℕ) (from : ℕ) (entries : List (List ℕ))
   pub positions : from + length entries < 2 ^ 31
 
 -- behind a log it gives these entries, the log's first
-pub record Gives (log : List (List ℕ)) (document bytes : List ℕ)
+pub record GivesBehind (log : List (List ℕ)) (document bytes : List ℕ)
     (entries : List (List ℕ)) : Type 0 where
   pub taken : TailTaken
   pub reads : tail_behind log document bytes ≡ Ok taken
@@ -182,8 +182,8 @@ pub record Gives (log : List (List ℕ)) (document bytes : List ℕ)
 
 -- what bytes give behind a log, others give
 abbrev pub GivesSame : List (List ℕ) → List ℕ → List ℕ → List ℕ → Type 0
-GivesSame log document old new =
-    (entries : List (List ℕ)) → Gives log document old entries → Gives log document new entries
+GivesSame log document old new = (entries : List (List ℕ))
+    → GivesBehind log document old entries → GivesBehind log document new entries
 
 -- behind a log it gives at least these entries, the log's first
 pub record Recovers (log : List (List ℕ)) (document bytes : List ℕ)

@@ -37,9 +37,10 @@
 //! bytes, and where it stops; that line and order keep the entries taken if memory runs out; what
 //! is read of a tail, what a crash at any moment of its calls leaves, and what is found of that;
 //! the laws. Only tested: the loading of entries with real signatures and of files cut at each
-//! byte, and that the calls succeed with ample memory (`sporc_commands_tests`), and that workers
-//! examine at the same time. Neither: how long a call takes, that no signature is verified twice,
-//! and that a block is examined while another is taken.
+//! byte, and that the calls succeed with ample memory (`sporc_commands_tests`, and
+//! `sporc_history_tests` for tails and for a file of version 1), and that workers examine at the
+//! same time. Neither: how long a call takes, that no signature is verified twice, and that a block
+//! is examined while another is taken.
 #![tactic(auto)]
 
 mod appending;

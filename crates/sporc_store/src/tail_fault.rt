@@ -1,7 +1,7 @@
 //! Why the tail of a log is not opened.
 
 use sporc_head::Refusal;
-use sporc_outside::{Failed, FileFault};
+use sporc_outside::Failed;
 use std::alloc::{AllocError, AllocFailed};
 use thiserror::Error;
 

@@ -72,7 +72,7 @@ impl<A: AppendFile> TailFile<A> {
             StaysFound A.told order.old.entries order.old.genesis.document file tail.file) }
         ensures still_found { IfErr result
             (λ e. StaysFound A.told order.old.entries order.old.genesis.document file e.1) }
-        ensures why { IfErr result (λ e. IsFaultOfRead order.old.genesis order.old.entries
+        ensures err { IfErr result (λ e. IsFaultOfRead order.old.genesis order.old.entries
             (A.told file).stored (A.told file).faults (A.told e.1).faults e.0) }
         ensures still_told { IfErr result
             (λ e. StaysTold order.old.entries order.old.genesis.document (A.told file).stored
@@ -114,7 +114,7 @@ impl<A: AppendFile> Tail for TailFile<A> {
             → KeepsEntries A.told self.new (entries ++ entry.now ∷ [])) }
         ensures err { OnErr result ((entries : List (List ℕ)) → KeepsEntries A.told self.old entries
             → position ≡ length entries + 1 → KeepsEntries A.told self.new entries) }
-        ensures failed { OnErr result (Unit {0}) }
+        ensures unkept { OnErr result (Unit {0}) }
     {
         if self.is_faulty || position > MAX_ENTRIES || entry.len() > MAX_ENTRY as usize {
             return Err(Unkept);
@@ -151,7 +151,7 @@ fn begin<A: AppendFile>(alloc: Global, file: &mut A, order: &mut Order) -> Resul
         (tail_on file.new order.old.genesis.document) order.new.entries) }
     ensures found { StaysFound A.told order.old.entries order.old.genesis.document file.old
         file.new }
-    ensures why { IfErr result (IsFaultOfRead order.old.genesis order.old.entries
+    ensures err { IfErr result (IsFaultOfRead order.old.genesis order.old.entries
         (A.told file.old).stored (A.told file.old).faults (A.told file.new).faults) }
     ensures still_told { OnErr result (StaysTold order.old.entries order.old.genesis.document
         (A.told file.old).stored (A.told file.new).stored) }

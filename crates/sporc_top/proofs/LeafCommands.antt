@@ -16,10 +16,10 @@ use Rattle.sporc_files.specs.declared.file.File.{File}
 use Rattle.sporc_files.specs.declared.file.File.TheVariants as files
 use Rattle.sporc_commands.specs.KeyMaking.{IsFilesFault, IsThere, KeygenOutcome, Makes, StoresKey, StoresKeyFile, key_files}
 use Rattle.sporc_docs.specs.Hands.{Both}
-use Rattle.sporc_commands.specs.Moments.{Moment, at_end, folder_between, sink_between}
-use Rattle.sporc_commands.specs.Outcomes.{IsRound, KeepsLog, ServeOutcome}
-use Rattle.sporc_commands.specs.Rounds.{GoWell, Round, Standing}
-use Rattle.sporc_commands.specs.Tails.{GivesBack, KeepsTail, RemovesTail}
+use Rattle.sporc_hosting.specs.Moments.{Moment, at_end, folder_between, sink_between}
+use Rattle.sporc_hosting.specs.Outcomes.{IsRound, KeepsLog, ServeOutcome}
+use Rattle.sporc_hosting.specs.Rounds.{GoWell, Round, Standing}
+use Rattle.sporc_hosting.specs.Tails.{GivesBack, KeepsTail, RemovesTail}
 use Rattle.sporc_hosting.specs.Hosting.{GivesAllBack, IsRoundOfAll, ServeAllOutcome}
 use Rattle.sporc_hosting.specs.Loading.{ChangesTails, IsNoTail, with_tail_made, with_tails_made}
 use Rattle.sporc_hosting.specs.OpenLogModel.{OpenLogModel}

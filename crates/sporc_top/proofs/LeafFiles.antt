@@ -9,7 +9,7 @@ use Rattle.sporc_keys.specs.declared.ring_file.RingFile.{RingFile}
 use Rattle.sporc_script.specs.Spelling.{DeviceInRange, device_text}
 use Rattle.sporc_files.specs.declared.file.File.TheVariants as files
 use Rattle.sporc_files.proofs.NamesApart.{names_apart}
-use Rattle.sporc_commands.proofs.Opened.{made_other, put_other}
+use Rattle.sporc_hosting.proofs.Opened.{made_other, put_other}
 
 -- ---- names that end otherwise
 

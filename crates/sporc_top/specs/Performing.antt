@@ -22,18 +22,17 @@ use Rattle.sporc_files.specs.declared.fault.Fault.TheVariants as faults
 use Rattle.sporc_files.specs.declared.file.File.{File}
 use Rattle.sporc_files.specs.declared.file.File.TheVariants as files
 use Rattle.sporc_files.specs.Names.{FileNames, file_name, names_of_document, names_of_documents}
-use Rattle.sporc_files.specs.Uses.{AsksOnly}
+use Rattle.sporc_files.specs.Uses.{AsksAtMost, AsksOnly}
 use Rattle.sporc_commands.specs.Founding.{FoundOutcome, found_files}
 use Rattle.sporc_commands.specs.KeyMaking.{KeygenOutcome}
 use Rattle.sporc_commands.specs.KeyShowing.{PublicOutcome}
 use Rattle.sporc_help.specs.Pages.{page_text, version_text}
 use Rattle.sporc_help.specs.Telling.{TellsText}
 use Rattle.sporc_commands.specs.Outcomes.{CheckOutcome, CompareOutcome, EntriesOutcome}
-use Rattle.sporc_commands.specs.Outcomes.{ServeOutcome, TextOutcome}
-use Rattle.sporc_commands.specs.Rounds.{AsksAgain}
+use Rattle.sporc_commands.specs.Outcomes.{TextOutcome}
+use Rattle.sporc_hosting.specs.Outcomes.{ServeOutcome}
 use Rattle.sporc_hosting.specs.Hosting.{ServeAllOutcome}
 use Rattle.sporc_hosting.specs.Loading.{files_of_all}
-use Rattle.sporc_clients.specs.Nets.{AsksAtMost}
 use Rattle.sporc_clients.specs.Outcome.{ClientOutcome, ClientUse, client_files}
 use Rattle.sporc_clients.specs.Outcome.{names_of as names_of_client}
 use Rattle.sporc_top.specs.Uses.{OutsideUse, client_use}
@@ -132,7 +131,7 @@ pub record ServesDocument (words : Serve) (folder : Use FolderTold) (out : Use S
       folder out net.before net.after answer
   pub files_may_ask : AsksFor (names_of_document words.name)
       (files.Genesis ∷ files.Tail ∷ files.Log ∷ []) folder
-  pub net_may_ask : AsksAgain words.times net.before.asked net.after.asked words.address
+  pub net_may_ask : AsksAtMost words.times net.before.asked net.after.asked words.address
   pub shut : AreShutBehind net.before.returned net.after.returned
 
 -- sessions of several documents were served at the address alone, from three files of each alone,
@@ -142,7 +141,7 @@ pub record ServesDocuments (words : ServeAll) (folder : Use FolderTold) (out : U
   pub outcome : ServeAllOutcome words.names words.sessions words.times folder out
       net.before net.after answer
   pub files_may_ask : AsksOnly (files_of_all words.names) folder.before.asked folder.after.asked
-  pub net_may_ask : AsksAgain words.times net.before.asked net.after.asked words.address
+  pub net_may_ask : AsksAtMost words.times net.before.asked net.after.asked words.address
   pub shut : AreShutBehind net.before.returned net.after.returned
 
 -- a member's device worked from its own files and its editors' scripts alone, with the server at

@@ -54,9 +54,9 @@ pub fn long_scripts_are_told<D: LeafDisk>()
 /// If the words ask for a generated run, `play` writes its summary, unless memory runs out or the
 /// sink fails.
 pub fn generated_runs_are_played<D: LeafDisk>()
-    ensures { (words : List (List ℕ)) (outside : OutsideUse) (status n : ℕ)
-        → RunOutcome D.told words outside status → command_of words ≡ Some (Generate n)
-        → UnlessCutOff status ((status ≡ 0) × PlaysGenerated n outside.out) }
+    ensures { (words : List (List ℕ)) (did : OutsideUse) (status n : ℕ)
+        → RunOutcome D.told words did status → command_of words ≡ Some (Generate n)
+        → UnlessCutOff status ((status ≡ 0) × PlaysGenerated n did.out) }
 {}
 
 /// Behind a run of the program that did not have the disk of a device's leaf file handed out,

@@ -6,9 +6,6 @@ ghost use Rattle.sporc_outside.specs.Reading.{ConsumesAtMost};
 ghost use Rattle.sporc_script.specs.declared.limits.TheConstants.{MAX_GENERATED};
 ghost use Rattle.sporc_wire.specs.declared.limits.TheConstants.{MAX_DOCUMENTS, MAX_SESSIONS};
 ghost use Rattle.sporc_play.specs.declared.playing.TheConstants.{MAX_SCRIPT};
-ghost use Rattle.sporc_files.specs.Names.{names_of_document};
-ghost use Rattle.sporc_commands.specs.Outcomes.{CheckOutcome, CompareOutcome, EntriesOutcome};
-ghost use Rattle.sporc_commands.specs.Outcomes.{TextOutcome};
 ghost use Rattle.sporc_top.specs.Needs.{needs_of};
 ghost use Rattle.sporc_top.specs.Performing.{Performs, PlaysEdits, PlaysSource, ServesDocument};
 ghost use Rattle.sporc_top.specs.Performing.{ServesDocuments, fault_of_play, names_of};
@@ -16,13 +13,13 @@ ghost use Rattle.sporc_top.specs.Ranges.{IsInRange};
 ghost use Rattle.sporc_top.specs.Uses.{uses};
 
 use sporc_clients::{Platform, client};
-use sporc_commands::{check, compare, found, keygen, list_entries, public, serve, text};
+use sporc_commands::{check, compare, found, keygen, list_entries, public, text};
 use sporc_files::{Fault, Names};
 use sporc_help::{help, version};
-use sporc_hosting::serve_all;
+use sporc_hosting::{serve, serve_all};
 use sporc_outside::{Chance, Dial, Folder, Gate, Listen, Sink, Source};
 use sporc_play::{PlayFault, play, play_generated};
-use sporc_words::{Check, Command, Compare, EntriesFrom, Serve, ServeAll, TextAt};
+use sporc_words::{Command, Serve, ServeAll};
 use std::alloc::Global;
 use std::sync::Wait;
 use std::thread::Threads;
@@ -135,77 +132,6 @@ where
     serve_all(rt, alloc, files, net, out, words, gate)
 }
 
-// Examines the history of a device.
-fn check_history<R: Threads + Wait + Sync, O: Sink, F: Folder, G: Gate + Sync>(
-    rt: &R,
-    alloc: Global,
-    words: &Check,
-    out: &mut O,
-    files: &mut F,
-    gate: &G,
-) -> Result<(), Fault>
-    ensures outcome { CheckOutcome (names_of_document words.now.name) words.now.device
-        (use_of F.told files.old files.new) (use_of O.told out.old out.new) result }
-    ensures lent { (F.told files.new).lent ≡ (F.told files.old).lent }
-    ensures files_kept { (F.told files.old).faults ≤ (F.told files.new).faults }
-    ensures out_kept { (O.told out.old).faults ≤ (O.told out.new).faults }
-{
-    check(rt, alloc, files, out, words, gate)
-}
-
-// Compares the histories of two devices.
-fn compare_histories<O: Sink, F: Folder>(
-    alloc: Global,
-    words: &Compare,
-    out: &mut O,
-    files: &mut F,
-) -> Result<(), Fault>
-    ensures outcome { CompareOutcome
-        (names_of_document words.now.name) words.now.first words.now.second
-        (use_of F.told files.old files.new) (use_of O.told out.old out.new) result }
-    ensures lent { (F.told files.new).lent ≡ (F.told files.old).lent }
-    ensures files_kept { (F.told files.old).faults ≤ (F.told files.new).faults }
-    ensures out_kept { (O.told out.old).faults ≤ (O.told out.new).faults }
-{
-    compare(alloc, files, out, words)
-}
-
-// Tells the committed text of a device's history.
-fn tell_text<R: Threads + Wait + Sync, O: Sink, F: Folder, G: Gate + Sync>(
-    rt: &R,
-    alloc: Global,
-    words: &TextAt,
-    out: &mut O,
-    files: &mut F,
-    gate: &G,
-) -> Result<(), Fault>
-    ensures outcome { TextOutcome (names_of_document words.now.name) words.now.device words.now.at
-        (use_of F.told files.old files.new) (use_of O.told out.old out.new) result }
-    ensures lent { (F.told files.new).lent ≡ (F.told files.old).lent }
-    ensures files_kept { (F.told files.old).faults ≤ (F.told files.new).faults }
-    ensures out_kept { (O.told out.old).faults ≤ (O.told out.new).faults }
-{
-    text(rt, alloc, files, out, words, gate)
-}
-
-// Lists the entries of a device's history.
-fn list_history<R: Threads + Wait + Sync, O: Sink, F: Folder, G: Gate + Sync>(
-    rt: &R,
-    alloc: Global,
-    words: &EntriesFrom,
-    out: &mut O,
-    files: &mut F,
-    gate: &G,
-) -> Result<(), Fault>
-    ensures outcome { EntriesOutcome (names_of_document words.now.name) words.now.device
-        words.now.from (use_of F.told files.old files.new) (use_of O.told out.old out.new) result }
-    ensures lent { (F.told files.new).lent ≡ (F.told files.old).lent }
-    ensures files_kept { (F.told files.old).faults ≤ (F.told files.new).faults }
-    ensures out_kept { (O.told out.old).faults ≤ (O.told out.new).faults }
-{
-    list_entries(rt, alloc, files, out, words, gate)
-}
-
 // Does what a command asks for, and tells no fault.
 pub(crate) fn perform<
     R: Threads + Wait + Sync,
@@ -256,13 +182,13 @@ where
         Command::Found(words) => found(rt, alloc, files, chance, words),
         Command::Serve(words) => serve_document(rt, alloc, words, out, files, net, gate),
         Command::Client(words) => client(platform, words, out, files, net, chance),
-        Command::Check(words) => check_history(rt, alloc, words, out, files, gate),
-        Command::Compare(words) => compare_histories(alloc, words, out, files),
+        Command::Check(words) => check(rt, alloc, files, out, words, gate),
+        Command::Compare(words) => compare(alloc, files, out, words),
         Command::Help(page) => help(out, *page),
         Command::Version => version(out),
         Command::Public(words) => public(rt, alloc, files, out, words),
-        Command::Text(words) => tell_text(rt, alloc, words, out, files, gate),
-        Command::Entries(words) => list_history(rt, alloc, words, out, files, gate),
+        Command::Text(words) => text(rt, alloc, files, out, words, gate),
+        Command::Entries(words) => list_entries(rt, alloc, files, out, words, gate),
         Command::ServeAll(words) => serve_documents(rt, alloc, words, out, files, net, gate),
     }
 }

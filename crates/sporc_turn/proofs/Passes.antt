@@ -12,22 +12,22 @@ use Rattle.sporc_turn.specs.Passes.{known_of, out_of}
 use Rattle.sporc_turn.specs.declared.pass.Pass.{Pass}
 use Rattle.sporc_turn.proofs.Logs
 
-module _ {S E : Type 0} (logs : S → List E) (levels : S → ℕ) (by : E → ℕ) (start : ℕ) where
-  pub splits : (id : ℕ) (v : View E) → v.known.spent ≡ false → v.known.number ≡ 0 → Splits (TurnInvariant by logs levels start) id v (left_of_split v) (right_of_split v)
+module _ {S E : Type 0} (logs : S → List E) (watermarks : S → ℕ) (by : E → ℕ) (start : ℕ) where
+  pub splits : (id : ℕ) (v : View E) → v.known.spent ≡ false → v.known.number ≡ 0 → Splits (TurnInvariant by logs watermarks start) id v (left_of_split v) (right_of_split v)
   splits id v live zero' s o at =
       let w = left_of_split v in
       let c = right_of_split v in
       let vs : List (View E) = set s.views id w in
-      let P : ℕ → View E → Type 0 = TicketInvariant o.ticket o.serving o.level o.busy o.owner in
+      let P : ℕ → View E → Type 0 = TicketInvariant o.ticket o.serving o.watermark o.busy o.owner in
       let q = o.each id v at in
-      let T : View E → Type 0 = HasTurn o.log o.level in
+      let T : View E → Type 0 = HasTurn o.log o.watermark in
       let longer_there : (R : View E → Type 0) (k : ℕ) → HoldsAt R vs k → HoldsAt R (vs ++ c ∷ []) k = λ R k t. (t.0, at_longer vs (c ∷ []) k t.0 t.1, t.2) in record {
         ticket = o.ticket;
         serving = o.serving;
         busy = o.busy;
         owner = o.owner;
         log = o.log;
-        level = o.level;
+        watermark = o.watermark;
         words = o.words;
         in_order = o.in_order;
         bounded = o.bounded;
@@ -43,20 +43,20 @@ module _ {S E : Type 0} (logs : S → List E) (levels : S → ℕ) (by : E → �
             (Logs.splits by start o.log (map known s.views) id v.known o.shared (at_map known s.views id v at) live zero');
       }
 
-  pub joins : (id : ℕ) (v : View E) (other : ℕ) (u : View E) → IsIdle v → v.known.number ≡ 0 → IsIdle u → Joins (TurnInvariant by logs levels start) id v other u (of_both v u) spent_view
+  pub joins : (id : ℕ) (v : View E) (other : ℕ) (u : View E) → IsIdle v → v.known.number ≡ 0 → IsIdle u → Joins (TurnInvariant by logs watermarks start) id v other u (of_both v u) spent_view
   joins id v other u first_idle zero' idle s o at apart there =
       let w = of_both v u in
       let vs : List (View E) = set s.views id w in
       let there' : get_elem? s.views other ≡ some u = sym (set_else s.views id other w apart) ∙ there in
-      let P : ℕ → View E → Type 0 = TicketInvariant o.ticket o.serving o.level o.busy o.owner in
+      let P : ℕ → View E → Type 0 = TicketInvariant o.ticket o.serving o.watermark o.busy o.owner in
       let q = o.each id v at in
-      let T : View E → Type 0 = HasTurn o.log o.level in record {
+      let T : View E → Type 0 = HasTurn o.log o.watermark in record {
         ticket = o.ticket;
         serving = o.serving;
         busy = o.busy;
         owner = o.owner;
         log = o.log;
-        level = o.level;
+        watermark = o.watermark;
         words = o.words;
         in_order = o.in_order;
         bounded = o.bounded;
@@ -74,7 +74,7 @@ module _ {S E : Type 0} (logs : S → List E) (levels : S → ℕ) (by : E → �
 
   -- where all passes were joined back, the value is at home, and its log is what the first has seen
   closes_seat : (id : ℕ) (v : View E) (ws : List ℕ) (xs : List (std.Option S)) → IsIdle v → v.known.number ≡ 0 → v.known.splits ≡ length v.known.joined
-      → Final (Seen (TurnInvariant by logs levels start) id v) ws xs → (x : S) × (get_elem? xs 0 ≡ some (Some x)) × (logs x ≡ v.known.seen) × Agrees by v.known (logs x) × (v.level ≤ levels x)
+      → Final (Seen (TurnInvariant by logs watermarks start) id v) ws xs → (x : S) × (get_elem? xs 0 ≡ some (Some x)) × (logs x ≡ v.known.seen) × Agrees by v.known (logs x) × (v.watermark ≤ watermarks x)
   closes_seat id v ws xs first_idle zero' all fin =
       let s = fin.0 in
       let o = fin.1.0 in
@@ -83,7 +83,7 @@ module _ {S E : Type 0} (logs : S → List E) (levels : S → ℕ) (by : E → �
       let end = Logs.closes by start o.log (map known s.views) id v.known o.shared at' first_idle.2 zero' all in
       let free : o.busy ≡ false = elim o.busy as (λ b. (b ≡ o.busy) → b ≡ false) [
         | true ↦ λ e. (let t = o.holder (sym e) in
-            let here : o.owner o.serving ≡ id = end.0 (o.owner o.serving) t.0.known (at_map known s.views (o.owner o.serving) t.0 t.1) (live_of logs levels by start s o (o.owner o.serving) t.0 t.1 (inr t.2.0)) in
+            let here : o.owner o.serving ≡ id = end.0 (o.owner o.serving) t.0.known (at_map known s.views (o.owner o.serving) t.0 t.1) (live_of logs watermarks by start s o (o.owner o.serving) t.0 t.1 (inr t.2.0)) in
             no_both v.turns first_idle.1 (ap (λ (y : View E). y.turns) (same_at s.views id (o.owner o.serving) v t.0 (sym here) at t.1) ∙ t.2.0))
         | false ↦ λ e. refl
       ] refl in
@@ -92,30 +92,30 @@ module _ {S E : Type 0} (logs : S → List E) (levels : S → ℕ) (by : E → �
 
   -- so it is in what the first pass knows: the value is at home, and its log is what that pass has seen
   pub closes : (id : ℕ) (v w : View E) (ws : List ℕ) (xs : List (std.Option S)) (y : std.Option S) → w ≡ v → IsIdle w → w.known.number ≡ 0 → w.known.splits ≡ length w.known.joined
-      → Final (Seen (TurnInvariant by logs levels start) id v) ws xs → get_elem? xs 0 ≡ some y → (x : S) × (Some x ≡ y) × (logs x ≡ w.known.seen) × Agrees by w.known (logs x) × (w.level ≤ levels x)
+      → Final (Seen (TurnInvariant by logs watermarks start) id v) ws xs → get_elem? xs 0 ≡ some y → (x : S) × (Some x ≡ y) × (logs x ≡ w.known.seen) × Agrees by w.known (logs x) × (w.watermark ≤ watermarks x)
   closes id v w ws xs y is first_idle zero' all fin got =
-      let t = closes_seat id w ws xs first_idle zero' all (subst (λ u. Final (Seen (TurnInvariant by logs levels start) id u) ws xs) (sym is) fin) in
+      let t = closes_seat id w ws xs first_idle zero' all (subst (λ u. Final (Seen (TurnInvariant by logs watermarks start) id u) ws xs) (sym is) fin) in
       (t.0, some-injective (Some t.0) y (sym t.1 ∙ got), t.2, t.3, t.4)
 
   -- and that value is the one in the slot
   pub closed : (id : ℕ) (v w : View E) (ws : List ℕ) (xs : List (std.Option S)) (y : std.Option S) (x : S) → y ≡ Some x → w ≡ v → IsIdle w → w.known.number ≡ 0 → w.known.splits ≡ length w.known.joined
-      → Final (Seen (TurnInvariant by logs levels start) id v) ws xs → get_elem? xs 0 ≡ some y → (logs x ≡ w.known.seen) × Agrees by w.known (logs x) × (w.level ≤ levels x)
+      → Final (Seen (TurnInvariant by logs watermarks start) id v) ws xs → get_elem? xs 0 ≡ some y → (logs x ≡ w.known.seen) × Agrees by w.known (logs x) × (w.watermark ≤ watermarks x)
   closed id v w ws xs y x there is first_idle zero' all fin got =
       let t = closes id v w ws xs y is first_idle zero' all fin got in
-      subst (λ (z : S). (logs z ≡ w.known.seen) × Agrees by w.known (logs z) × (w.level ≤ levels z)) (same_Some t.0 x (t.1 ∙ there)) (t.2, t.3, t.4)
+      subst (λ (z : S). (logs z ≡ w.known.seen) × Agrees by w.known (logs z) × (w.watermark ≤ watermarks z)) (same_Some t.0 x (t.1 ∙ there)) (t.2, t.3, t.4)
 
-pub opens : {S E : Type 0} (logs : S → List E) (levels : S → ℕ) (by : E → ℕ) (x : S) (n : ℕ) → n ≡ length (logs x) → TurnInvariant by logs levels (length (logs x)) (opening (0 ∷ 0 ∷ n ∷ []) (Some x ∷ []) (newcomer (logs x) (levels x)))
-opens {S} {E} logs levels by x n is = record {
+pub opens : {S E : Type 0} (logs : S → List E) (watermarks : S → ℕ) (by : E → ℕ) (x : S) (n : ℕ) → n ≡ length (logs x) → TurnInvariant by logs watermarks (length (logs x)) (opening (0 ∷ 0 ∷ n ∷ []) (Some x ∷ []) (newcomer (logs x) (watermarks x)))
+opens {S} {E} logs watermarks by x n is = record {
   ticket = 0;
   serving = 0;
   busy = false;
   owner = λ _. 0;
   log = log;
-  level = levels x;
+  watermark = watermarks x;
   words = ap (λ (c : ℕ). 0 ∷ 0 ∷ c ∷ []) is;
   in_order = omega arith;
   bounded = omega arith;
-  each = λ j v e. subst (TicketInvariant 0 0 (levels x) false (λ _. 0) j) (only j v e).1 (record { read = omega arith; within = omega arith; waiting = λ t. no_both false refl t; turning = λ t. no_both false refl t; still = λ t. no_both false refl t });
+  each = λ j v e. subst (TicketInvariant 0 0 (watermarks x) false (λ _. 0) j) (only j v e).1 (record { read = omega arith; within = omega arith; waiting = λ t. no_both false refl t; turning = λ t. no_both false refl t; still = λ t. no_both false refl t });
   drawn = λ k from below. absurd (omega arith);
   holder = λ t. no_both false refl t;
   out = λ t. no_both false refl t;
@@ -153,8 +153,8 @@ opens {S} {E} logs levels by x n is = record {
     none' : drop (length (logs x)) (logs x) ≡ []
     none' = drop_length (logs x)
 
-    only : (j : ℕ) (v : View E) → get_elem? (newcomer (logs x) (levels x) ∷ []) j ≡ some v → (j ≡ 0) × (newcomer (logs x) (levels x) ≡ v)
-    only zero v e = (refl, some-injective (newcomer (logs x) (levels x)) v e)
+    only : (j : ℕ) (v : View E) → get_elem? (newcomer (logs x) (watermarks x) ∷ []) j ≡ some v → (j ≡ 0) × (newcomer (logs x) (watermarks x) ≡ v)
+    only zero v e = (refl, some-injective (newcomer (logs x) (watermarks x)) v e)
     only (suc j) v e = absurd (some-ne-none v (sym e))
 
     only_known : (j : ℕ) (k : Known E) → get_elem? (first_known (logs x) ∷ []) j ≡ some k → (j ≡ 0) × (first_known (logs x) ≡ k)

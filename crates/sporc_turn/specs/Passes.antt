@@ -16,9 +16,9 @@ known_of p = (view_of p.badge).known
 abbrev pub read_of : {E : Type 0} → Pass E → ℕ
 read_of p = (view_of p.badge).read
 
--- the level of the value, as the pass last saw it
-abbrev pub level_of : {E : Type 0} → Pass E → ℕ
-level_of p = (view_of p.badge).level
+-- the watermark of the value, as the pass last saw it
+abbrev pub watermark_of : {E : Type 0} → Pass E → ℕ
+watermark_of p = (view_of p.badge).watermark
 
 -- the pass has read that every ticket was drawn
 abbrev pub IsWorn : {E : Type 0} → Pass E → Type 0
@@ -45,9 +45,9 @@ module _ {S E : Type 0} {g : Ghosts S E} where
   abbrev pub read_held : Held S E g → ℕ
   read_held h = h.holder.seat.me.0.read
 
-  -- the level that `take` found
-  abbrev pub level_held : Held S E g → ℕ
-  level_held h = h.holder.seat.me.0.level
+  -- the watermark that `take` found
+  abbrev pub watermark_held : Held S E g → ℕ
+  watermark_held h = h.holder.seat.me.0.watermark
 
   -- the value is one of this lock
   abbrev pub IsHeldOf : Turn S E → Held S E g → Type 0

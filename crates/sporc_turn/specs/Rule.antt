@@ -26,10 +26,10 @@ spent_of [] = 0
 spent_of (k ∷ ks) = one_if k.spent + spent_of ks
 
 -- what the rule says of one view's numbers. The view at `owner n` has the ticket n
-pub record TicketInvariant {E : Type 0} (ticket serving level : ℕ) (busy : Bool) (owner : ℕ → ℕ)
+pub record TicketInvariant {E : Type 0} (ticket serving watermark : ℕ) (busy : Bool) (owner : ℕ → ℕ)
     (place : ℕ) (v : View E) : Type 0 where
   pub read : v.read ≤ ticket
-  pub within : v.level ≤ level
+  pub within : v.watermark ≤ watermark
   pub waiting : v.waits ≡ true
       → (owner v.ticket ≡ place) × (serving ≤ v.ticket) × (v.ticket < ticket) × (v.turns ≡ false)
   pub turning : v.turns ≡ true
@@ -40,9 +40,9 @@ pub record TicketInvariant {E : Type 0} (ticket serving level : ℕ) (busy : Boo
 abbrev pub HasTicket : {E : Type 0} → ℕ → View E → Type 0
 HasTicket n v = ((v.waits ≡ true) ⊎ (v.turns ≡ true)) × (v.ticket ≡ n)
 
--- the view has the value, and has seen the log and the level
+-- the view has the value, and has seen the log and the watermark
 abbrev pub HasTurn : {E : Type 0} → List E → ℕ → View E → Type 0
-HasTurn log level v = (v.turns ≡ true) × (v.known.seen ≡ log) × (v.level ≡ level)
+HasTurn log watermark v = (v.turns ≡ true) × (v.known.seen ≡ log) × (v.watermark ≡ watermark)
 
 -- Q holds of the view at this place
 abbrev pub HoldsAt : {E : Type 0} → (View E → Type 0) → List (View E) → ℕ → Type 0
@@ -96,22 +96,22 @@ module _ {E : Type 0} (by : E → ℕ) where
     pub spents : spent_of ks ≡ length joined
 
   -- The rule on tickets, words and the slot, with that on the log
-  pub record TurnInvariant {S : Type 0} (logs : S → List E) (levels : S → ℕ) (start : ℕ)
+  pub record TurnInvariant {S : Type 0} (logs : S → List E) (watermarks : S → ℕ) (start : ℕ)
       (s : State (std.Option S) (View E)) : Type 0 where
     pub ticket : ℕ
     pub serving : ℕ
     pub busy : Bool
     pub owner : ℕ → ℕ
     pub log : List E
-    pub level : ℕ
+    pub watermark : ℕ
     pub words : s.words ≡ ticket ∷ serving ∷ length log ∷ []
     pub in_order : serving ≤ ticket
     pub bounded : ticket ≤ MAX_TICKETS
     pub each : (place : ℕ) (v : View E) → get_elem? s.views place ≡ some v
-        → TicketInvariant ticket serving level busy owner place v
+        → TicketInvariant ticket serving watermark busy owner place v
     pub drawn : (n : ℕ) → serving ≤ n → n < ticket → HoldsAt (HasTicket n) s.views (owner n)
-    pub holder : busy ≡ true → HoldsAt (HasTurn log level) s.views (owner serving)
+    pub holder : busy ≡ true → HoldsAt (HasTurn log watermark) s.views (owner serving)
     pub out : busy ≡ true → s.homes ≡ none ∷ []
     pub home : busy ≡ false
-        → (x : S) × (s.homes ≡ some (Some x) ∷ []) × (logs x ≡ log) × (levels x ≡ level)
+        → (x : S) × (s.homes ≡ some (Some x) ∷ []) × (logs x ≡ log) × (watermarks x ≡ watermark)
     pub shared : LogInvariant start log (map known s.views)

@@ -13,12 +13,12 @@ use Rattle.sporc_turn.specs.Knowing.{joining, matched, nothing_known}
 module _ {E : Type 0} where
   -- the first view
   abbrev pub newcomer : List E → ℕ → View E
-  newcomer log level = record {
+  newcomer log watermark = record {
     waits = false;
     turns = false;
     ticket = 0;
     read = 0;
-    level = level;
+    watermark = watermark;
     known = first_known log;
   }
 
@@ -30,14 +30,14 @@ module _ {E : Type 0} where
   abbrev pub drawing : View E → ℕ → View E
   drawing v ticket = record v { waits = true; turns = false; ticket = ticket }
 
-  -- the turn came, with this log and this level
+  -- the turn came, with this log and this watermark
   abbrev pub serving : View E → List E → ℕ → View E
-  serving v log level =
-      record v { waits = false; turns = true; level = level; known = seeing v.known log }
+  serving v log watermark =
+      record v { waits = false; turns = true; watermark = watermark; known = seeing v.known log }
 
-  -- log and level grew to these
+  -- log and watermark grew to these
   abbrev pub raising : View E → List E → ℕ → View E
-  raising v log level = record v { level = level; known = adding v.known log }
+  raising v log watermark = record v { watermark = watermark; known = adding v.known log }
 
   -- the turn was passed on
   abbrev pub idling : View E → View E
@@ -53,7 +53,7 @@ module _ {E : Type 0} where
     turns = false;
     ticket = 0;
     read = v.read;
-    level = v.level;
+    watermark = v.watermark;
     known = copied v.known;
   }
 
@@ -61,7 +61,7 @@ module _ {E : Type 0} where
   abbrev pub of_both : View E → View E → View E
   of_both v w = record v {
     read = max v.read w.read;
-    level = max v.level w.level;
+    watermark = max v.watermark w.watermark;
     known = joining v.known w.known;
   }
 
@@ -71,7 +71,7 @@ module _ {E : Type 0} where
     turns = false;
     ticket = 0;
     read = 0;
-    level = 0;
+    watermark = 0;
     known = nothing_known;
   }
 
@@ -85,23 +85,23 @@ module _ {S E : Type 0} (m : Me (std.Option S) (View E)) where
   DrawsTicket ticket r n = (r ≡ ticket → n ≡ (drawing m.0 ticket, m.1)) × (r ≢ ticket → n ≡ m)
 
   -- a value whose log agrees with what the pass knows, and is no shorter than its news, and whose
-  -- level is none below the one that the pass saw last, is out with the seat
+  -- watermark is none below the one that the pass saw last, is out with the seat
   abbrev pub TakesOut : (S → List E) → (S → ℕ) → (E → ℕ) → Me (std.Option S) (View E) → Type 0
-  TakesOut logs levels by n = (x : S)
-      × (n ≡ (serving m.0 (logs x) (levels x), (0, Some x) ∷ m.1))
+  TakesOut logs watermarks by n = (x : S)
+      × (n ≡ (serving m.0 (logs x) (watermarks x), (0, Some x) ∷ m.1))
       × Agrees by m.0.known (logs x) × (m.0.known.news ≤ length (logs x))
-      × (m.0.level ≤ levels x)
+      × (m.0.watermark ≤ watermarks x)
 
   -- the value is taken out, if the ticket is served
   abbrev pub ReadsServing : (S → List E) → (S → ℕ) → (E → ℕ) → ℕ → Me (std.Option S) (View E)
       → Type 0
-  ReadsServing logs levels by r n =
-      (r ≡ m.0.ticket → TakesOut logs levels by n) × (r ≢ m.0.ticket → n ≡ m)
+  ReadsServing logs watermarks by r n =
+      (r ≡ m.0.ticket → TakesOut logs watermarks by n) × (r ≢ m.0.ticket → n ≡ m)
 
-  -- log and level are those of the value which the seat has
+  -- log and watermark are those of the value which the seat has
   abbrev pub RaisesCount : (S → List E) → (S → ℕ) → (E → ℕ) → Me (std.Option S) (View E) → Type 0
-  RaisesCount logs levels by n = (x : S) → m.1 ≡ (0, Some x) ∷ []
-      → (n ≡ (raising m.0 (logs x) (levels x), m.1))
+  RaisesCount logs watermarks by n = (x : S) → m.1 ≡ (0, Some x) ∷ []
+      → (n ≡ (raising m.0 (logs x) (watermarks x), m.1))
       × Agrees by (adding m.0.known (logs x)) (logs x)
 
   -- the value is home, and the turn was passed on

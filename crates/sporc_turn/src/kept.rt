@@ -2,8 +2,8 @@
 
 ghost use Rattle.std.specs.Prelude.{◌≡◌, ℕ, List, length};
 
-/// A value that stands for a list of items, each with the number of a pass, and has a level. While
-/// the value is held, the list only grows and the level never falls.
+/// A value that stands for a list of items, each with the number of a pass, and has a watermark.
+/// While the value is held, the list only grows and the watermark never falls.
 pub trait Kept {
     type Item;
 
@@ -13,8 +13,8 @@ pub trait Kept {
     /// The number of the pass that added an item.
     ghost by: { Self.Item → ℕ };
 
-    /// A number that says of a value what its list does not.
-    ghost level: { Self → ℕ };
+    /// A number that never falls while the value is held.
+    ghost watermark: { Self → ℕ };
 
     /// The length of the list.
     fn logged(&self) -> u64

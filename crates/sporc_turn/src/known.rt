@@ -41,7 +41,7 @@ pub struct View<E> {
     pub ticket: u64,
     /// The next ticket, as it was last read.
     pub read: u64,
-    /// The level of the value, as it was last seen.
-    pub level: u64,
+    /// The watermark of the value, as it was last seen.
+    pub watermark: u64,
     pub known: Known<E>,
 }

@@ -1,6 +1,6 @@
 //! A ticket lock that proves what its holders know of the value's log.
 //!
-//! The value under the lock stands for a list of items, its log, and has a level, a number that
+//! The value under the lock stands for a list of items, its log, and has a watermark, a number that
 //! never falls ([`Kept`]). Whoever wants the value has a [`Pass`]. A pass draws a ticket and waits
 //! for its turn ([`Turn::take`]), changes the value through the [`Held`] that it gets, and gives it
 //! back ([`Turn::give`]). Each pass knows a prefix of the log, all that it has seen, and its own
@@ -18,7 +18,7 @@
 //!
 //! Proved, over every way in which the threads' steps on the lock's words may follow one another:
 //! no pass finds a log that doesn't begin with what it has seen, nor one that lacks an item of its
-//! own or has one twice, nor a level below the last that it saw; and `close` gives back a value
+//! own or has one twice, nor a watermark below the last that it saw; and `close` gives back a value
 //! whose log is what the last pass has seen.
 //! [`Turn::news`], [`Turn::give`], [`Turn::split`], [`Turn::join`] and [`Turn::close`] take no
 //! runtime, so they wait for nobody: a mutex round the whole lock could not meet these signatures,

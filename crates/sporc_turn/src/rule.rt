@@ -18,9 +18,9 @@ use std::snapshot::Snapshot;
 pub(crate) struct Rule;
 
 impl<S: Kept> TableRule<Option<S>, View<S::Item>, Snapshot<S>> for Rule {
-    ghost holds = { λ key. TurnInvariant S.by S.log S.level (length (S.log key.value)) };
+    ghost holds = { λ key. TurnInvariant S.by S.log S.watermark (length (S.log key.value)) };
 
-    ghost first = { λ key. newcomer (S.log key.value) (S.level key.value) };
+    ghost first = { λ key. newcomer (S.log key.value) (S.watermark key.value) };
 }
 
 /// A load of the ticket word.
@@ -41,14 +41,14 @@ impl<S: Kept> Play<Option<S>, View<S::Item>> for DrawTicket {
 pub(crate) struct ReadServing;
 
 impl<S: Kept> Play<Option<S>, View<S::Item>> for ReadServing {
-    ghost then = { λ st m r n. ReadsServing m S.log S.level S.by r n };
+    ghost then = { λ st m r n. ReadsServing m S.log S.watermark S.by r n };
 }
 
 /// A store of the count, while the value is out.
 pub(crate) struct RaiseCount;
 
 impl<S: Kept> Play<Option<S>, View<S::Item>> for RaiseCount {
-    ghost then = { λ st m r n. RaisesCount m S.log S.level S.by n };
+    ghost then = { λ st m r n. RaisesCount m S.log S.watermark S.by n };
 }
 
 /// A store of the serving word, at which the value is put home.

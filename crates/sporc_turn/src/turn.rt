@@ -45,15 +45,16 @@ pub struct Turn<S: Kept> {
 }
 
 impl<S: Kept> Turn<S> {
-    ghost use Rattle.sporc_turn.specs.Passes.{known_of, read_of, level_of, out_of, known_held};
-    ghost use Rattle.sporc_turn.specs.Passes.{read_held, level_held, value_of, IsPassOf, IsHeldOf};
+    ghost use Rattle.sporc_turn.specs.Passes.{known_of, read_of, watermark_of, out_of, known_held};
+    ghost use Rattle.sporc_turn.specs.Passes.{read_held, watermark_held, value_of};
+    ghost use Rattle.sporc_turn.specs.Passes.{IsPassOf, IsHeldOf};
 
-    /// The lock round a value, with the pass whose number is 0. It has seen log and level of the
-    /// value.
+    /// The lock round a value, with the pass whose number is 0. It has seen the value's log and
+    /// watermark.
     pub fn open(alloc: Global, value: S) -> Result<(Turn<S>, Pass<S::Item>), (S, Memory)>
         ensures lock { IfOk result (λ t. IsPassOf t.0 t.1) }
         ensures first { IfOk result (λ t. known_of t.1 ≡ first_known (S.log value)) }
-        ensures level { IfOk result (λ t. level_of t.1 ≡ S.level value) }
+        ensures watermark { IfOk result (λ t. watermark_of t.1 ≡ S.watermark value) }
         ensures returned { IfErr result (λ e. e.0 ≡ value) }
     {
         let count = value.logged();
@@ -119,10 +120,10 @@ impl<S: Kept> Turn<S> {
         requires bare { seat.old.me.1 ≡ [] }
         ensures table { seat.new.table_id ≡ seat.old.table_id }
         ensures room { has_room seat.new.me.1 ≡ true }
-        ensures view { seat.new.me.0 ≡ serving seat.old.me.0 (S.log result) (S.level result) }
+        ensures view { seat.new.me.0 ≡ serving seat.old.me.0 (S.log result) (S.watermark result) }
         ensures found { Agrees S.by seat.old.me.0.known (S.log result) }
         ensures news { seat.old.me.0.known.news ≤ length (S.log result) }
-        ensures level { seat.old.me.0.level ≤ S.level result }
+        ensures watermark { seat.old.me.0.watermark ≤ S.watermark result }
     {
         'turns: for _ in rt.forever() {
             let served = self.table.shared.load::<ReadServing>(seat, SERVING);
@@ -135,8 +136,8 @@ impl<S: Kept> Turn<S> {
     }
 
     /// Draws a ticket, waits until it is served, and takes the value out. The log of the value
-    /// agrees with all that the pass knows, and is no shorter than its last news; and the level is
-    /// none below the one that the pass saw last.
+    /// agrees with all that the pass knows, and is no shorter than its last news; and the watermark
+    /// is none below the one that the pass saw last.
     ///
     /// No ticket is drawn if all of them were: then the pass comes back, and has read `MAX_TICKETS`
     /// as the next ticket. The next ticket is never below one that was read before, so it stays
@@ -152,9 +153,10 @@ impl<S: Kept> Turn<S> {
         ensures news { IfOk result (λ h. (known_of pass).news ≤ length (S.log (value_of h))) }
         ensures held { IfOk result
             (λ h. known_held h ≡ seeing (known_of pass) (S.log (value_of h))) }
-        ensures level { MatchResult result
-            (λ h. (level_of pass ≤ level_held h) × (level_held h ≡ S.level (value_of h)))
-            (λ e. level_of e.0 ≡ level_of pass) }
+        ensures watermark { MatchResult result
+            (λ h. watermark_held h ≡ S.watermark (value_of h))
+            (λ e. watermark_of e.0 ≡ watermark_of pass) }
+        ensures watermark_kept { IfOk result (λ h. watermark_of pass ≤ watermark_held h) }
         ensures drawn { IfOk result
             (λ h. (read_of pass ≤ read_held h) × (read_held h < MAX_TICKETS)) }
         ensures worn { IfErr result (λ e. e.1.0 ≡ MAX_TICKETS) }
@@ -184,11 +186,11 @@ impl<S: Kept> Turn<S> {
     pub fn give(&self, held: Held<S>) -> Pass<S::Item>
         requires lock { IsHeldOf self.now held }
         requires log { Extends S.by (known_held held) (S.log (value_of held)) }
-        requires level { level_held held ≤ S.level (value_of held) }
+        requires watermark { watermark_held held ≤ S.watermark (value_of held) }
         ensures lock { IsPassOf self.now result }
         ensures known { known_of result ≡ adding (known_held held) (S.log (value_of held)) }
         ensures read { read_of result ≡ read_held held }
-        ensures level { level_of result ≡ S.level (value_of held) }
+        ensures watermark { watermark_of result ≡ S.watermark (value_of held) }
         ensures agrees { Agrees S.by (known_of result) (S.log (value_of held)) }
     {
         let Held { holder, value } = held;
@@ -223,7 +225,7 @@ impl<S: Kept> Turn<S> {
         ensures again { (known_of pass).news ≤ result.0 }
         ensures known { known_of result.1 ≡ hearing (known_of pass) result.0 }
         ensures read { read_of result.1 ≡ read_of pass }
-        ensures level { level_of result.1 ≡ level_of pass }
+        ensures watermark { watermark_of result.1 ≡ watermark_of pass }
     {
         let Pass { badge, numbers } = pass;
         let mut seat = badge.into_seat();
@@ -249,8 +251,8 @@ impl<S: Kept> Turn<S> {
         ensures new { IfOk result (λ r. known_of r.1 ≡ copied (known_of pass)) }
         ensures read { IfOk result
             (λ r. (read_of r.0 ≡ read_of pass) × (read_of r.1 ≡ read_of pass)) }
-        ensures level { IfOk result
-            (λ r. (level_of r.0 ≡ level_of pass) × (level_of r.1 ≡ level_of pass)) }
+        ensures watermark { IfOk result (λ r. watermark_of r.0 ≡ watermark_of pass) }
+        ensures copied_watermark { IfOk result (λ r. watermark_of r.1 ≡ watermark_of pass) }
         ensures returned { IfErr result (λ e. e.0 ≡ pass) }
     {
         let Pass { badge, numbers } = pass;
@@ -279,7 +281,7 @@ impl<S: Kept> Turn<S> {
 
     /// Joins a pass back to number 0, which keeps its items. It has seen the longer of both lists,
     /// and each of them is a prefix of that one. Of the next tickets that both read it keeps the
-    /// larger, and so of the levels that both saw.
+    /// larger, and so of the watermarks that both saw.
     pub fn join(&self, a: Pass<S::Item>, b: Pass<S::Item>) -> Pass<S::Item>
         requires lock { IsPassOf self.now a × IsPassOf self.now b }
         requires first { (known_of a).number ≡ 0 }
@@ -287,7 +289,7 @@ impl<S: Kept> Turn<S> {
         ensures lock { IsPassOf self.now result }
         ensures known { known_of result ≡ joined_with (known_of a) (known_of b) }
         ensures read { read_of result ≡ max (read_of a) (read_of b) }
-        ensures level { level_of result ≡ max (level_of a) (level_of b) }
+        ensures watermark { watermark_of result ≡ max (watermark_of a) (watermark_of b) }
         ensures first { StartsWith (known_of result).seen (known_of a).seen }
         ensures other { StartsWith (known_of result).seen (known_of b).seen }
         ensures agrees { Agrees S.by (known_of result) (known_of result).seen }
@@ -313,14 +315,14 @@ impl<S: Kept> Turn<S> {
     }
 
     /// The value, if each pass that was split was joined back. Its log is what number 0 has seen,
-    /// and its level none below the one that number 0 saw last. Otherwise the lock and the pass
+    /// and its watermark none below the one that number 0 saw last. Otherwise the lock and the pass
     /// come back, with the number of passes that are out.
     pub fn close(self, pass: Pass<S::Item>) -> Result<S, (Turn<S>, Pass<S::Item>, Away)>
         requires lock { IsPassOf self pass }
         requires first { (known_of pass).number ≡ 0 }
         ensures all { OnOk result (out_of pass ≡ 0) }
         ensures log { IfOk result (λ x. S.log x ≡ (known_of pass).seen) }
-        ensures level { IfOk result (λ x. level_of pass ≤ S.level x) }
+        ensures watermark { IfOk result (λ x. watermark_of pass ≤ S.watermark x) }
         ensures agrees { IfOk result (λ x. Agrees S.by (known_of pass) (S.log x)) }
         ensures away { IfErr result (λ e. (e.2.out ≡ out_of pass) × (e.2.out ≢ 0)) }
         ensures returned { IfErr result (λ e. (e.0 ≡ self) × (e.1 ≡ pass)) }

@@ -1,5 +1,5 @@
 -- What an answer of the codec says, in the words of the stream.
-use Rattle.std.proofs.Common.{◌≡◌, ℕ, ◌≤◌, List, [], ◌∷◌, ◌++◌, length, take, drop, Result, Option, IfOk, IfNone, Some, None, Ok, Err, refl, sym, ap, ◌∙◌, subst, inl, inr, arith, pos, append-nil}
+use Rattle.std.proofs.Common.{◌≡◌, ℕ, ◌≤◌, List, [], ◌∷◌, ◌++◌, length, take, drop, Result, Option, IfOk, IfNone, Some, None, Ok, Err, refl, sym, ap, ◌∙◌, subst, inl, inr, ◌⊎◌, arith, pos, append-nil}
 use Rattle.sporc_wire.proofs.Common.{cases_lt, length-take-le, IsBytes, MAX_BODY, first_frame, partial, too_long, whole, CutsFirst, FitsLimit, IsOurs, IsWithin, filled, our_layout, put_back, rest_of}
 use Rattle.sporc_wire.proofs.Common.{cut_payload_whole, cut_payload_short, Filled, DecodeState, Head, Data, layout, codec_layout, with_state, Cut, frame, too_big, overflows, unfinished, cut_in, cut}
 use Rattle.sporc_wire.proofs.Common.{Answers, AnswersLast, AnswersAtEnd, IsSettled, gives_frames}
@@ -82,6 +82,7 @@ framed_of (Data n) ys payload rest fits small e =
 pub record Fails (c : LengthDelimitedCodec) (xs : List ℕ) (e : Error) (t : LengthDelimitedCodec) (ys : List ℕ) : Type 0 where
   pub ours : IsOurs t
   pub same : rest_of t.state ys ≡ rest_of c.state xs
+  pub kind : (error_kind e ≡ InvalidData) ⊎ (error_kind e ≡ OutOfMemory)
   pub long : error_kind e ≡ InvalidData → 4 ≤ length ys
   pub cause : error_kind e ≡ InvalidData → first_frame (rest_of c.state xs) ≡ too_long (head_of ys)
 
@@ -93,6 +94,7 @@ err_of c t xs ys e (frame payload rest) fits ours m a =
     record {
       ours = record { layout = laid; within = framed.0 };
       same = framed.1 ∙ sym m.1;
+      kind = inr kind;
       long = λ k. let no : OutOfMemory ≡ InvalidData = sym kind ∙ k in cc;
       cause = λ k. let no : OutOfMemory ≡ InvalidData = sym kind ∙ k in cc;
     }
@@ -102,6 +104,7 @@ err_of c t xs ys e too_big fits ours m a =
     (record {
       ours = ours;
       same = refl;
+      kind = inl a.0;
       long = λ _. m.0;
       cause = λ _. m.1;
     }))

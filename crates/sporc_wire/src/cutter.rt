@@ -13,16 +13,19 @@ use sporc_base::Memory;
 use std::alloc::Global;
 use std::io;
 use std::marker::Model;
+use thiserror::Error;
 use tokio_util::codec::{Decoder, LengthDelimitedCodec};
 
 /// The largest body of a frame, in bytes.
 pub const MAX_BODY: u32 = 4_194_304;
 
 // Why no body is cut out.
-#[derive(Drop)]
+#[derive(Debug, Drop, Error)]
 pub(crate) enum CutFault {
+    #[error("out of memory")]
     Memory,
     // A length above the limit.
+    #[error("a body of {0} bytes is too long")]
     TooLong(u32),
 }
 
@@ -129,7 +132,8 @@ fn take_body(
         Err(e) => match e.kind() {
             // The refused length is still there.
             io::ErrorKind::InvalidData => Err(CutFault::TooLong(length_of(after))),
-            _ => Err(CutFault::Memory),
+            io::ErrorKind::OutOfMemory => Err(CutFault::Memory),
+            _ => unreachable!(),
         },
     }
 }

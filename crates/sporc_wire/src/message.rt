@@ -6,12 +6,15 @@ ghost use Rattle.sporc_bytes.specs.Fields.{fault_as};
 
 use sporc_bytes::Short;
 use std::alloc::{AllocError, AllocFailed, Global};
+use thiserror::Error;
 
 // Why the body of a frame gives no message.
-#[derive(Clone, Copy)]
+#[derive(Clone, Copy, Debug, Error)]
 pub(crate) enum BodyFault {
     // The field whose first byte has this place in the body is cut short or forbidden.
+    #[error("the body is no message, from its place {0} on")]
     Bad(usize),
+    #[error("out of memory")]
     Memory,
 }
 

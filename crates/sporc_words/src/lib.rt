@@ -22,7 +22,7 @@
 //!
 //! Proved: words ask for exactly one command or for none, which `specs/Commands.antt` defines by
 //! `clap`'s own definition of what a simple command takes, and `read_words` answers which. Only
-//! tested: that reading does not run out of memory if there is ample (`sporc_commands_tests`).
+//! tested: that reading does not run out of memory if there is ample (`sporc_top_tests`).
 //! Neither: whether a document, a file or an address has such a name.
 #![tactic(auto)]
 

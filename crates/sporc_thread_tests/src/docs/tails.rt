@@ -8,10 +8,11 @@ use crate::docs::serving::{entry_of, hello_and_submit};
 use crate::serve::notes::Notes;
 use crate::serve::server::Peers;
 use sporc_base::is_same;
-use sporc_docs::{Docs, DocsServeFault, KeptDocs, serve_docs_kept};
+use sporc_docs::{Docs, KeptDocs, serve_docs_kept};
 use sporc_order::Order;
 use sporc_outside::OpenGate;
 use sporc_samples::Cast;
+use sporc_serve::ServeFault;
 use std::alloc::Global;
 use std::process::Abort;
 use std::sync::Wait;
@@ -57,7 +58,7 @@ fn two_tails<'a>(
 struct Left<'a> {
     orders: Vec<Order>,
     tails: Vec<Notes<'a>>,
-    answer: Result<(), DocsServeFault>,
+    answer: Result<(), ServeFault>,
 }
 
 impl<'a> Left<'a> {
@@ -136,7 +137,7 @@ fn serve_two<R: Threads + Wait + Sync + Abort>(rt: &R, alloc: Global, cast: &Cas
     let left = served(rt, alloc, docs, tails, peers);
     check(rt, "document 7", left.has_only(0, seventh.as_slice()));
     let is_eighth = match failing {
-        1 => left.has_none(1) && left.answer == Err(DocsServeFault::Unkept),
+        1 => left.has_none(1) && left.answer == Err(ServeFault::Unkept),
         _ => left.has_only(1, eighth.as_slice()) && left.answer.is_ok(),
     };
     check_at(rt, "document 8", u64::from(failing), is_eighth);

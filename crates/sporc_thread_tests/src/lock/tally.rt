@@ -16,7 +16,7 @@ impl Kept for Tally {
 
     ghost by = { λ n. n };
 
-    ghost level = { λ t. 0 };
+    ghost watermark = { λ t. 0 };
 
     fn logged(&self) -> u64 {
         self.numbers.len() as u64
@@ -40,7 +40,7 @@ impl Tally {
         self.numbers.push(number).is_ok()
     }
 
-    pub fn len(&self) -> usize {
+    pub(crate) fn len(&self) -> usize {
         self.numbers.len()
     }
 

@@ -1,6 +1,6 @@
 //! The entry of a pending item, before it is signed.
 
-ghost use Rattle.std.specs.Prelude.{◌≡◌, ◌+◌, ◌≤◌, [], length, is_some, true, Some, IfOk, OnOk};
+ghost use Rattle.std.specs.Prelude.{◌≡◌, ◌+◌, ◌≤◌, length, is_some, true, Some, IfOk, OnOk};
 ghost use Rattle.sporc_cipher.specs.Mask.{mask_of};
 ghost use Rattle.sporc_delta.specs.Format.{delta_bytes};
 ghost use Rattle.sporc_delta.specs.Typed.{IsTypedDelta};

@@ -1,8 +1,7 @@
 use Rattle.std.proofs.Common.{◌+◌, [], ◌∷◌, ap, option_map, refl, subst, sym, ◌∙◌}
 use Rattle.sporc_clients.proofs.Common.{shut_none, ended, file_name, History, past_of, AsksAtMost, links_for_hints, names_of, no_history, no_leaves, no_session, not_worked, worked}
-use Rattle.sporc_files.proofs.Asking.{AsksOnly-none}
+use Rattle.sporc_files.proofs.Asking.{AsksOnly-none, asks_never}
 use Rattle.sporc_clients.specs.Counts.{CountedIfFailed}
-use Rattle.sporc_clients.proofs.Addresses.{asks_never}
 use Rattle.sporc_clients.proofs.Asking.{asks_history, asks_history_again}
 use Rattle.sporc_clients.proofs.LeafFiles.{kept_to}
 use Rattle.sporc_clients.proofs.Outcomes.{attended_at, history_fault, history_says, not_attended_at, saved_as}

@@ -1,7 +1,8 @@
 use Rattle.std.proofs.Common.{ℕ, map, ap, refl, ◌∙◌}
 use Rattle.sporc_clients.proofs.Common.{err_from_is_err_and, shut_none, if_err, no_entries}
 use Rattle.std.specs.Global.{Vec}
-use Rattle.sporc_clients.proofs.Addresses.{asks_for_hints, asks_never}
+use Rattle.sporc_clients.proofs.Addresses.{asks_for_hints}
+use Rattle.sporc_files.proofs.Asking.{asks_never}
 use Rattle.sporc_clients.proofs.OpenedLines.{founder, joiner, not_opened_by, opened_by}
 use Rattle.sporc_clients.proofs.opening.open_member.Goals as goal
 

@@ -1,6 +1,6 @@
 use Rattle.std.proofs.Common.{refl}
 use Rattle.sporc_clients.proofs.Common.{err_from_is_err_and, shut_none, if_err, not_opened, not_whole}
-use Rattle.sporc_clients.proofs.Addresses.{asks_never}
+use Rattle.sporc_files.proofs.Asking.{asks_never}
 use Rattle.sporc_clients.proofs.Resumed.{not_resumed_by, resumed}
 use Rattle.sporc_clients.proofs.resuming.resume_line.Goals as goal
 

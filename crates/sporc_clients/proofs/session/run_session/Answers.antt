@@ -20,4 +20,4 @@ pub returns-in-Ok-close-clause-chance_kept : goal.returns-in-Ok-close-clause-cha
 returns-in-Ok-close-clause-chance_kept g c = (session_kept _ _ c.args.wanted.now.rounds c.args.wanted.now.until c.as_slice-editors.result.now c.session-result.result.0 c.session-result.ensures.session.1).chance
 
 pub returns-in-Ok-close-clause-disk : goal.returns-in-Ok-close-clause-disk
-returns-in-Ok-close-clause-disk g c = disk_counted c.session-result.result.1 _ c.session-result.result.0 c.session-result.ensures.read c.in-Ok-close.ensures.level
+returns-in-Ok-close-clause-disk g c = disk_counted c.session-result.result.1 _ c.session-result.result.0 c.session-result.ensures.read c.in-Ok-close.ensures.watermark

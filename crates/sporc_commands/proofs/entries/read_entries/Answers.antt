@@ -1,6 +1,6 @@
 use Rattle.std.proofs.Common.{Err, List, ℕ, ap, ◌∙◌}
 use Rattle.sporc_commands.proofs.Common.{err_from_is_err_and, saved_in, any_bytes, whole, entries_of}
-use Rattle.sporc_commands.proofs.ReadFiles.{reads_none, reads_value}
+use Rattle.sporc_files.proofs.ReadFiles.{reads_none, reads_value}
 use Rattle.sporc_commands.proofs.entries.read_entries.Goals as goal
 
 pub returns-in_err-bytes-clause-found : goal.returns-in_err-bytes-clause-found

@@ -45,7 +45,7 @@ returns-clause-crowd g t c logs =
     (crowd_more c.args.turns.now c.args.documents.now c.in-Some.hand.now hand
     c.in-Some.others.now others (g.N.Link.Stream.told c.in-Ok.link) (g.N.Link.Stream.told link) r.1 before came left after r.0 c.with_end.result have.0 have' c.requires.one_length
     logs'.0 sits crowd c.in-Ok.ensures.did.next c.in-Ok.ensures.did.not_shut c.accept.ensures.did.returned c.accept.ensures.did.count.kept c.take_back.ensures.coming c.take_back.ensures.returned
-    c.take_back.ensures.kept c.with_end.ensures)
+    c.take_back.ensures.kept c.with_end.ensures.value)
 
 pub returns-clause-shut : goal.returns-clause-shut
 returns-clause-shut g t c =

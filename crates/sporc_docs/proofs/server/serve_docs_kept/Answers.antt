@@ -1,5 +1,5 @@
-use Rattle.std.proofs.Common.{◌∙◌, List, Result, Err, ap, subst, sym, arith}
-use Rattle.sporc_docs.proofs.Common.{OrderModel, ServeFault, AreKept, AreServed, IsServedDocument, as_served}
+use Rattle.std.proofs.Common.{List, Err, subst, sym, arith}
+use Rattle.sporc_docs.proofs.Common.{OrderModel, AreKept, AreServed, IsServedDocument}
 use Rattle.sporc_serve.specs.declared.fault.ServeFault.TheVariants as faults
 use Rattle.sporc_docs.proofs.Opening.{both_length}
 use Rattle.sporc_docs.proofs.Served.{serves_none, serves_before, apart_kept}
@@ -28,8 +28,8 @@ returns-clause-served g c =
     let old = g.N.Links.told c.args.net.now in
     let mid = g.N.Links.told c.listen.new.self in
     let new = g.N.Links.told c.serve_orders-answer.new.net in
-    subst (λ (z : List OrderModel × List OrderModel × Result (Unit {0}) ServeFault). AreServed z.0 z.1 old new
-    c.args.sessions z.2) (λ i. (c.into_orders-orders.ensures.value i, sym c.of.ensures.value i, sym c.told.ensures i))
+    subst (λ (z : List OrderModel × List OrderModel). AreServed z.0 z.1 old new c.args.sessions c.serve_orders-answer.result)
+    (λ i. (c.into_orders-orders.ensures.value i, sym c.of.ensures.value i))
     (serves_before old mid new c.args.sessions
     c.serve_orders-answer.result c.into_orders-orders.result.items c.serve_orders-answer.new.orders.items c.serve_orders-answer.ensures.served c.listen.ensures.coming
     c.listen.ensures.returned c.listen.ensures.count.kept)
@@ -41,6 +41,3 @@ serve_orders-answer-requires-clause-tails g c κs within =
 pub returns-clause-tails : goal.returns-clause-tails
 returns-clause-tails g c =
     subst (λ (os : List OrderModel). AreKept g.T.Tail.keeps c.serve_orders-answer.new.tails.items os) (sym c.of.ensures.value) c.serve_orders-answer.ensures.tails
-
-pub returns-clause-unkept : goal.returns-clause-unkept
-returns-clause-unkept g c is = c.serve_orders-answer.ensures.unkept (sym c.told.ensures ∙ ap as_served is)

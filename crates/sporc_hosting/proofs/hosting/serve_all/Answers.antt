@@ -1,5 +1,5 @@
 use Rattle.std.proofs.Common.{Err, Ok, [], inl, inr, ℕ, List, refl, sym, subst, ◌∙◌}
-use Rattle.sporc_hosting.proofs.Common.{AsksOnly, ServeAllOutcome, files_of_all, orders_in, use_of, moment_of, AsksAgain, ends}
+use Rattle.sporc_hosting.proofs.Common.{AsksOnly, ServeAllOutcome, files_of_all, orders_in, use_of, moment_of, AsksAtMost, ends}
 use Rattle.sporc_hosting.proofs.Changed.{back_changes, tails_front, tails_then}
 use Rattle.sporc_hosting.proofs.Hosted.{all_open, asked_again, opened_first, tells_longer}
 use Rattle.sporc_hosting.proofs.hosting.serve_all.Goals as goal
@@ -76,7 +76,7 @@ returns-in-Err-clause-files_may_ask g c =
 
 pub returns-in-Ok-clause-net_may_ask : goal.returns-in-Ok-clause-net_may_ask
 returns-in-Ok-clause-net_may_ask g c =
-    subst (AsksAgain c.args.asked.now.times (g.N.Links.told c.args.net.now).asked (g.N.Links.told c.serve_rounds-last.new.net).asked) c.as_str-address.ensures.value
+    subst (AsksAtMost c.args.asked.now.times (g.N.Links.told c.args.net.now).asked (g.N.Links.told c.serve_rounds-last.new.net).asked) c.as_str-address.ensures.value
     c.serve_rounds-last.ensures.net_may_ask
 
 pub returns-in-Ok-clause-outcome : goal.returns-in-Ok-clause-outcome

@@ -1,7 +1,7 @@
 use Rattle.std.proofs.Common.{Err, ap, refl, ◌∙◌}
 use Rattle.sporc_hosting.proofs.Common.{err_from_is_err_and}
 use Rattle.sporc_hosting.proofs.Changed.{more_made, none_made, tails_first, tails_more, tails_same}
-use Rattle.sporc_hosting.proofs.Opened.{first_fails, none_opened, others_opened}
+use Rattle.sporc_hosting.proofs.OpenDocuments.{first_fails, none_opened, others_opened}
 use Rattle.sporc_hosting.proofs.Rooms.{first_asked, none_asked, numbers_left, others_asked, room_first, room_left}
 use Rattle.sporc_hosting.proofs.loading.+open_documents.Goals as goal
 

@@ -2,7 +2,7 @@ use Rattle.std.proofs.Common.{List, [], ◌∷◌, Err, ap, refl, subst, ◌∙�
 use Rattle.sporc_hosting.proofs.Common.{err_from_is_err_and, string_bytes, OrderModel, FileNames, file_name, names_of_document, AnswersUnlessOutside, added, opened_to, use_of, OpenedOrder}
 use Rattle.sporc_files.specs.declared.file.File.TheVariants as files
 use Rattle.sporc_hosting.proofs.Changed.{added_changes, added_made, failed_changes, tails_same}
-use Rattle.sporc_hosting.proofs.Opened.{added_open, document_adds, document_fails, none_tried, still_open}
+use Rattle.sporc_hosting.proofs.OpenDocuments.{added_open, document_adds, document_fails, none_tried, still_open}
 use Rattle.sporc_hosting.proofs.Rooms.{one_added, own_asked}
 use Rattle.sporc_hosting.proofs.loading.open_document.Goals as goal
 

@@ -1,5 +1,6 @@
 use Rattle.std.proofs.Common.{◌≡◌, List, Option, Err, [], ◌∷◌, ap, sym, subst, ◌∙◌}
-use Rattle.sporc_hosting.proofs.Common.{OnErr, OnOk, option_map, err_from_is_err_and, NamedFile, file_name, asks_first, asks_then, changes_same, ChangesFile, made_in, OpenedOrder}
+use Rattle.sporc_hosting.proofs.Common.{OnErr, OnOk, option_map, err_from_is_err_and, NamedFile, file_name, asks_first, asks_then, ChangesFile, made_in, OpenedOrder}
+use Rattle.sporc_hosting.proofs.Opened.{changes_same}
 use Rattle.sporc_files.specs.declared.file.File.TheVariants as files
 use Rattle.sporc_files.proofs.Written.{any_err}
 use Rattle.sporc_hosting.proofs.Loaded.{free_found, genesis_fails, held_found}

@@ -5,4 +5,4 @@ use Rattle.sporc_play.proofs.joining.push_not_opened.Goals as goal
 pub returns-clause-line : goal.returns-clause-line
 returns-clause-line c =
     told_in_parts c.push_str.result (string_bytes c.args.out.now) _ _ _ (device_text c.args.device) (codes " join refused ") (open_fault_name c.args.fault) (codes "\n")
-    c.in_ok-push_start.ensures.ok c.in_ok-push_open_fault.ensures.name c.push_str.ensures.bytes
+    c.in_ok-push_start.ensures.ok c.in_ok-push_open_fault.ensures.ok c.push_str.ensures.bytes

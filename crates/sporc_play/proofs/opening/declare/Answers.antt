@@ -1,51 +1,80 @@
 use Rattle.std.proofs.Common.{ap, refl, subst, ◌∙◌}
-use Rattle.sporc_play.proofs.Common.{Device, public_of, HasSat}
+use Rattle.sporc_script.specs.declared.command.Command.TheVariants as commands
+use Rattle.sporc_play.proofs.Common.{Device, first_device, public_of, HasSat}
 use Rattle.sporc_play.proofs.Becoming.{ok_then}
-use Rattle.sporc_play.proofs.Declared.{device_declared, joiner_declared, member_declared, none_declared, rogue_declared, unpaired_declared}
+use Rattle.sporc_play.proofs.Declared.{all_declared, cast_same, founded, joined, none_declared, parted, rogues_more, rogues_same, seats_more, seats_same}
 use Rattle.sporc_play.proofs.opening.declare.Goals as goal
 
 pub returns-in_ok-name-in-Member : goal.returns-in_ok-name-in-Member
 returns-in_ok-name-in-Member c =
+    let line = c.args.line.now in
+    let m = c.in-Member.founder in
+    let is = c.in-Member.is in
     let cast = c.args.cast.now in
     let sat = c.in_ok-key-in-Member.ensures in
     let sits : Device → Type 0 = λ who. HasSat cast.tree who c.args.seats.now.items c.sit.new.seats.items in
     record {
-      ok = ok_then c.found.result _ _ c.found.ensures.founders (λ founders tree lines known.
-          member_declared tree lines c.args.line.now c.in-Member.founder cast c.name.new.cast c.found.new.cast c.args.seats.now.items c.sit.new.seats.items c.args.rogues.now.items c.in_ok-key-in-Member.key
-          known c.in-Member.is (sat.key ∙ ap (public_of cast.tree) c.first.ensures.value) (subst sits c.first.ensures.value sat.seats) c.in_ok-name-in-Member.ensures
-          founders c.found.ensures.tree c.found.ensures.declared c.found.ensures.unpaired);
+      ok = ok_then c.found.result _ _ c.found.ensures.founders (λ founders tree lines known. all_declared _ _ _ _ _
+          (founded tree lines line (commands.Member m) m c.in_ok-key-in-Member.key cast c.name.new.cast c.found.new.cast known.cast_is is refl refl refl
+          (sat.key ∙ ap (public_of cast.tree) c.first.ensures.value) c.in_ok-name-in-Member.ensures founders c.found.ensures.tree c.found.ensures.declared c.found.ensures.unpaired)
+          (seats_more tree cast.tree lines line (commands.Member m) (first_device m.member) c.args.seats.now.items c.sit.new.seats.items known.seats_are known.cast_is.tree_is is refl (subst sits c.first.ensures.value sat.seats))
+          (rogues_same tree lines line (commands.Member m) c.args.rogues.now.items known.rogues_are is refl));
     }
 
 pub returns-in_ok-name-in-Rogue : goal.returns-in_ok-name-in-Rogue
 returns-in_ok-name-in-Rogue c =
+    let line = c.args.line.now in
+    let m = c.in-Rogue.founder in
+    let is = c.in-Rogue.is in
+    let cast = c.args.cast.now in
+    let found = c.found-in-Rogue in
     record {
-      ok = ok_then c.found-in-Rogue.result _ _ c.found-in-Rogue.ensures.founders (λ founders tree lines known.
-          rogue_declared tree lines c.args.line.now c.in-Rogue.founder c.args.cast.now c.name-in-Rogue.new.cast c.found-in-Rogue.new.cast c.args.seats.now.items c.args.rogues.now.items c.employ.new.rogues.items c.in_ok-key-in-Rogue.key
-          known c.in-Rogue.is c.in_ok-key-in-Rogue.ensures.key c.in_ok-key-in-Rogue.ensures.rogues c.in_ok-name-in-Rogue.ensures
-          founders c.found-in-Rogue.ensures.tree c.found-in-Rogue.ensures.declared c.found-in-Rogue.ensures.unpaired);
+      ok = ok_then found.result _ _ found.ensures.founders (λ founders tree lines known. all_declared _ _ _ _ _
+          (founded tree lines line (commands.Rogue m) m c.in_ok-key-in-Rogue.key cast c.name-in-Rogue.new.cast found.new.cast known.cast_is is refl refl refl
+          c.in_ok-key-in-Rogue.ensures.key c.in_ok-name-in-Rogue.ensures founders found.ensures.tree found.ensures.declared found.ensures.unpaired)
+          (seats_same tree lines line (commands.Rogue m) c.args.seats.now.items known.seats_are is refl)
+          (rogues_more tree cast.tree lines line (commands.Rogue m) (first_device m.member) c.args.rogues.now.items c.employ.new.rogues.items known.rogues_are known.cast_is.tree_is is refl c.in_ok-key-in-Rogue.ensures.rogues));
     }
 
 pub returns-in_ok-key-in-Joiner : goal.returns-in_ok-key-in-Joiner
 returns-in_ok-key-in-Joiner c =
+    let line = c.args.line.now in
+    let m = c.in-Joiner.member in
+    let is = c.in-Joiner.is in
     let cast = c.args.cast.now in
     let sat = c.in_ok-key-in-Joiner.ensures in
     let sits : Device → Type 0 = λ who. HasSat cast.tree who c.args.seats.now.items c.sit-in-Joiner.new.seats.items in
     record {
-      ok = ok_then c.name-in-Joiner.result _ _ c.name-in-Joiner.ensures (λ named tree lines known.
-          joiner_declared tree lines c.args.line.now c.in-Joiner.member cast c.name-in-Joiner.new.cast c.args.seats.now.items c.sit-in-Joiner.new.seats.items c.args.rogues.now.items c.in_ok-key-in-Joiner.key
-          known c.in-Joiner.is (sat.key ∙ ap (public_of cast.tree) c.first-in-Joiner.ensures.value) (subst sits c.first-in-Joiner.ensures.value sat.seats) named);
+      ok = ok_then c.name-in-Joiner.result _ _ c.name-in-Joiner.ensures (λ named tree lines known. all_declared _ _ _ _ _
+          (joined tree lines line m c.in_ok-key-in-Joiner.key cast c.name-in-Joiner.new.cast known.cast_is is (sat.key ∙ ap (public_of cast.tree) c.first-in-Joiner.ensures.value) named)
+          (seats_more tree cast.tree lines line (commands.Joiner m) (first_device m) c.args.seats.now.items c.sit-in-Joiner.new.seats.items known.seats_are known.cast_is.tree_is is refl (subst sits c.first-in-Joiner.ensures.value sat.seats))
+          (rogues_same tree lines line (commands.Joiner m) c.args.rogues.now.items known.rogues_are is refl));
     }
 
 pub returns-in_ok-sit-in-Device : goal.returns-in_ok-sit-in-Device
 returns-in_ok-sit-in-Device c =
+    let line = c.args.line.now in
+    let who = c.in-Device.device in
+    let is = c.in-Device.is in
+    let cast = c.args.cast.now in
     record {
-      ok = λ tree lines known. device_declared tree lines c.args.line.now c.in-Device.device c.args.cast.now c.args.seats.now.items c.sit-in-Device.new.seats.items c.args.rogues.now.items
-          known c.in-Device.is c.in_ok-sit-in-Device.ensures.seats;
+      ok = λ tree lines known. all_declared _ _ _ _ _
+          (cast_same tree lines line (commands.Device who) cast known.cast_is is refl refl refl)
+          (seats_more tree cast.tree lines line (commands.Device who) who c.args.seats.now.items c.sit-in-Device.new.seats.items known.seats_are known.cast_is.tree_is is refl c.in_ok-sit-in-Device.ensures.seats)
+          (rogues_same tree lines line (commands.Device who) c.args.rogues.now.items known.rogues_are is refl);
     }
 
 pub returns-in_ok-push-in-Unpaired : goal.returns-in_ok-push-in-Unpaired
 returns-in_ok-push-in-Unpaired c =
-    record { ok = λ tree lines known. unpaired_declared tree lines c.args.line.now c.in-Unpaired.pair c.args.cast.now _ c.args.seats.now.items c.args.rogues.now.items known c.in-Unpaired.is c.in_ok-push-in-Unpaired.ensures.items refl refl refl }
+    let line = c.args.line.now in
+    let pair = c.in-Unpaired.pair in
+    let is = c.in-Unpaired.is in
+    record {
+      ok = λ tree lines known. all_declared _ _ _ _ _
+          (parted tree lines line pair c.args.cast.now _ known.cast_is is c.in_ok-push-in-Unpaired.ensures.items refl refl refl)
+          (seats_same tree lines line (commands.Unpaired pair) c.args.seats.now.items known.seats_are is refl)
+          (rogues_same tree lines line (commands.Unpaired pair) c.args.rogues.now.items known.rogues_are is refl);
+    }
 
 pub returns-in_default : goal.returns-in_default
 returns-in_default c =

@@ -26,7 +26,7 @@ returns-clause-crowd g c' c =
 pub returns-clause-read : goal.returns-clause-read
 returns-clause-read g c' c =
     let r = c.join_mut-first.result in
-    read_join r.0.1 r.1.1 c.join.result c.join.ensures.read c.join.ensures.level r.0.0.receiver c.with_editor.result.receiver r.1.0 r.0.0.editors c.with_editor.result.editors
+    read_join r.0.1 r.1.1 c.join.result c.join.ensures.read c.join.ensures.watermark r.0.0.receiver c.with_editor.result.receiver r.1.0 r.0.0.editors c.with_editor.result.editors
     c.with_editor.ensures.receiver c.with_editor.ensures.editors (search rules) (search rules)
 
 pub returns-clause-shut : goal.returns-clause-shut

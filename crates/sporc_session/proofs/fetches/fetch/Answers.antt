@@ -1,5 +1,5 @@
 use Rattle.std.proofs.Common.{arith, List, ℕ, ap, ◌∙◌, length}
-use Rattle.sporc_session.proofs.Common.{err_from_is_err_and, link_at}
+use Rattle.sporc_session.proofs.Common.{err_from_is_err_and, link_at, link_told}
 use Rattle.sporc_session.proofs.Fetching.{ends_empty, ends_full, greeted, is_nothing, lost, still, stopped}
 use Rattle.sporc_session.proofs.fetches.fetch.Goals as goal
 use Rattle.sporc_session.proofs.fetches.fetch.Goals.{then-is_last-via-then-is_last, then-is_last-via-else-is_last+then-len}
@@ -9,7 +9,7 @@ loop-entries-init g c = record {
   few = omega (arith, ap (λ (l : List (List ℕ)). length l) c.new-entries.ensures.value);
   shut = c.send.ensures.shut;
   so_far =
-      greeted (g.L.Stream.told c.args.link.now).written (g.L.Stream.told c.args.link.now).left (g.L.Stream.told c.args.link.now).faults (link_at (g.L.Stream.told c.send.new.link) c.new-inbox.result) c.args.document.now c.args.member
+      greeted (link_told (g.L.Stream.told c.args.link.now)) (link_at (g.L.Stream.told c.send.new.link) c.new-inbox.result) c.args.document.now c.args.member
       c.new-inbox.ensures.value c.hello_of.ensures.value c.new-entries.ensures.value c.in_ok-send.ensures.sent.ok;
 }
 

@@ -1,4 +1,4 @@
-use Rattle.std.proofs.Common.{◌≡◌, Ok, sym, ap, ◌∙◌}
+use Rattle.std.proofs.Common.{◌≡◌, Ok, inl, inr, sym, ap, ◌∙◌}
 use Rattle.sporc_wire.proofs.Common.{too_long}
 use Rattle.sporc_wire.proofs.Cuts.{head_of}
 use Rattle.sporc_wire.proofs.Decoding.{Says, says, says_ours, says_fits, says_same, says_front, says_err, same_length, no_length}
@@ -37,7 +37,15 @@ returns-in-InvalidData c =
       too_long = λ n e. fails.cause (sym c.kind.ensures ∙ c.in-InvalidData.is) ∙ ap too_long (sym len ∙ same_length c.length_of.result n e);
     }
 
-pub returns-in_default : goal.returns-in_default
-returns-in_default c =
+pub returns-in-OutOfMemory : goal.returns-in-OutOfMemory
+returns-in-OutOfMemory c =
     let fails = says_err _ _ _ _ _ c.bytes_of-before.ensures.fits c.bytes_of-after.ensures.fits c.requires c.in-Err.ensures.next in
     record { ours = fails.ours; fits = tt; unread = fails.same; same = tt; ok = tt; too_long = λ n e. absurd (no_length n e) }
+
+pub unreachable-requires : goal.unreachable-requires
+unreachable-requires c =
+    let fails = says_err _ _ _ _ _ c.bytes_of-before.ensures.fits c.bytes_of-after.ensures.fits c.requires c.in-Err.ensures.next in
+    elim fails.kind [
+      | inl long ↦ absurd (c.in_default.not-InvalidData (c.kind.ensures ∙ long))
+      | inr memory ↦ absurd (c.in_default.not-OutOfMemory (c.kind.ensures ∙ memory))
+    ]

@@ -1,9 +1,8 @@
-use Rattle.std.proofs.Common.{refl}
 use Rattle.sporc_memory.proofs.AppendImages.{append_images, append_unlogged, prefix_failed}
 use Rattle.sporc_memory.proofs.memory_append_file.MemoryAppendFileAppendFile.append.Goals as goal
 
 pub returns-in_default-clause-images : goal.returns-in_default-clause-images
-returns-in_default-clause-images c = append_unlogged c.args.self.now _ _ _ _ _ c.args.bytes.now c.self.view_is refl
+returns-in_default-clause-images c = append_unlogged c.args.self.now _ _ _ _ c.args.bytes.now c.self.view_is
 
 pub returns-in_err-log_call-clause-prefix : goal.returns-in_err-log_call-clause-prefix
 returns-in_err-log_call-clause-prefix c =

@@ -1,5 +1,6 @@
 use Rattle.std.proofs.Common.{rules, ◌≡◌, ℕ, ◌≤◌, ◌++◌, List, length, take, drop, sym, subst, ◌∙◌, arith}
-use Rattle.sporc_memory.proofs.Common.{take-length, take-append-le, DiskCall, IsSpoilt, state_after}
+use Rattle.sporc_memory.proofs.Common.{take-length, take-append-le, Call, IsSpoilt, state_after}
+use Rattle.sporc_memory.specs.declared.requests.DiskRequest.{DiskRequest}
 use Rattle.sporc_memory.proofs.memory_disk.MemoryDisk.spoilt.Goals as goal
 
 pub returns : goal.returns
@@ -8,7 +9,7 @@ returns c =
     let image = c.spoil.new.image in
     let log_is : c.deref-2.result.now ≡ disk.log = search rules in
     let bytes_are : c.deref_mut.result.now ≡ (state_after disk.first disk.log).bytes = search rules in
-    let P : List DiskCall → Type 0 = λ log. IsSpoilt (record { bytes = c.deref_mut.result.now; unsynced = (state_after disk.first log).unsynced }) c.args.byte image in
+    let P : List (Call DiskRequest) → Type 0 = λ log. IsSpoilt (record { bytes = c.deref_mut.result.now; unsynced = (state_after disk.first log).unsynced }) c.args.byte image in
     let Q : List ℕ → Type 0 = λ bytes. IsSpoilt (record { bytes = bytes; unsynced = (state_after disk.first disk.log).unsynced }) c.args.byte image in
     let R : List ℕ → Type 0 = λ image. IsSpoilt (state_after disk.first disk.log) c.args.byte image in
     let done = c.spoil.ensures disk.first in

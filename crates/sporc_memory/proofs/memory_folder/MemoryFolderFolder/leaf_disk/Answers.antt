@@ -8,4 +8,4 @@ invariant_of-self-2 c =
     let there : file_in c.self.inside.files.items c.as_bytes.result.now ≡ Some c.in_ok-bytes.bytes.now =
     ap₂ file_in (sym c.deref.ensures.value) c.as_bytes.ensures.value ∙ c.in_ok-bytes.ensures.ok.0 in
     each_lent c.self.inside.files.items c.self.inside.lent.items c.lend.new.lent.items c.as_bytes.result.now c.in_ok-bytes.bytes.now c.lend.result
-    there c.lend.ensures.lent c.lend.ensures.err c.self.invariant
+    there c.lend.ensures.lent c.lend.ensures.lent_unchanged c.self.invariant

@@ -10,19 +10,15 @@ join-requires-clause-signer c =
     let at = seat_read c.as_slice.result.now old.seats.items c.seat_at-i.result _ c.index_mut.result.now c.as_slice.ensures.value c.seat_at-i.ensures.value c.index_mut.ensures.value in
     (at_place IsReadySeat old.seats.items c.seat_at-i.result c.index_mut.result.now c.requires.can.seats at.there).signer
 
-pub returns-clause-state : goal.returns-clause-state
-returns-clause-state c =
+pub returns : goal.returns
+returns c =
     let old = c.args.self.now in
     let x = c.index_mut.result.now in
     let at = seat_read c.as_slice.result.now old.seats.items c.seat_at-i.result _ x c.as_slice.ensures.value c.seat_at-i.ensures.value c.index_mut.ensures.value in
-    ok_then c.join.result _ _ c.join.ensures.seat (λ is. join_becomes old _ c.args.join.now c.seat_at-i.result x c.join.new.seat at (record { genesis = refl; cast = refl; rogues = refl; seats = refl }) refl
-    (subst (λ (xs : List (Vec ℕ Global)). (s : Setup) → IsCastOf s old.cast → old.genesis ≡ s.genesis → c.join.new.seat ≡ seat_joined s x (entries_at (map (λ b. b.items) xs) c.args.join.now.entries) x.client) c.as_slice-2.ensures.value is))
-
-pub returns-clause-line : goal.returns-clause-line
-returns-clause-line c =
-    let old = c.args.self.now in
-    let x = c.index_mut.result.now in
-    let at = seat_read c.as_slice.result.now old.seats.items c.seat_at-i.result _ x c.as_slice.ensures.value c.seat_at-i.ensures.value c.index_mut.ensures.value in
-    ok_then c.join.result _ _ c.join.ensures.line (λ is. join_tells old c.args.join.now c.seat_at-i.result x (string_bytes c.args.out.now) (string_bytes c.join.new.out) at
-    (subst (λ (xs : List (Vec ℕ Global)). (s : Setup) → IsCastOf s old.cast → old.genesis ≡ s.genesis
-    → string_bytes c.join.new.out ≡ string_bytes c.args.out.now ++ join_line s x.device (entries_at (map (λ b. b.items) xs) c.args.join.now.entries) (plain_in x)) c.as_slice-2.ensures.value is))
+    record {
+      state = ok_then c.join.result _ _ c.join.ensures.seat (λ is. join_becomes old _ c.args.join.now c.seat_at-i.result x c.join.new.seat at (record { genesis = refl; cast = refl; rogues = refl; seats = refl }) refl
+          (subst (λ (xs : List (Vec ℕ Global)). (s : Setup) → IsCastOf s old.cast → old.genesis ≡ s.genesis → c.join.new.seat ≡ seat_joined s x (entries_at (map (λ b. b.items) xs) c.args.join.now.entries) x.client) c.as_slice-2.ensures.value is));
+      line = ok_then c.join.result _ _ c.join.ensures.line (λ is. join_tells old c.args.join.now c.seat_at-i.result x (string_bytes c.args.out.now) (string_bytes c.join.new.out) at
+          (subst (λ (xs : List (Vec ℕ Global)). (s : Setup) → IsCastOf s old.cast → old.genesis ≡ s.genesis
+          → string_bytes c.join.new.out ≡ string_bytes c.args.out.now ++ join_line s x.device (entries_at (map (λ b. b.items) xs) c.args.join.now.entries) (plain_in x)) c.as_slice-2.ensures.value is));
+    }

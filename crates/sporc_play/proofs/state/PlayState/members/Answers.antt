@@ -1,16 +1,16 @@
 use Rattle.sporc_play.proofs.Common.{members_line}
 use Rattle.sporc_play.proofs.Becoming.{ok_then}
-use Rattle.sporc_play.proofs.Kept.{found_by, line_there, none_there}
+use Rattle.sporc_play.proofs.Kept.{line_there, none_there}
 use Rattle.sporc_play.proofs.state.PlayState.members.Goals as goal
 
 pub returns-in-Some : goal.returns-in-Some
 returns-in-Some c =
     let state = c.args.self.now in
     ok_then c.push_members.result _ _ c.push_members.ensures.ok
-    (λ is script scene stands. line_there script scene state c.args.device c.in-Some.client.now members_line _ _ stands (found_by state _ _ c.in-Some.ensures.value) is)
+    (λ is script scene stands. line_there script scene state c.args.device c.in-Some.client.now members_line _ _ stands c.in-Some.ensures.value is)
 
 pub returns-in-None : goal.returns-in-None
 returns-in-None c =
     let state = c.args.self.now in
     ok_then c.push_not_open.result _ _ c.push_not_open.ensures.ok
-    (λ is script scene stands. none_there script scene state c.args.device (members_line c.args.device) _ _ stands (found_by state _ _ c.in-None.ensures.value) is)
+    (λ is script scene stands. none_there script scene state c.args.device (members_line c.args.device) _ _ stands c.in-None.ensures.value is)

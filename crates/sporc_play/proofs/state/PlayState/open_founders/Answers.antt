@@ -1,7 +1,11 @@
 use Rattle.std.proofs.Common.{List, sym, subst}
 use Rattle.sporc_play.proofs.Common.{Contains, Device, Genesis, IsGenesis}
+use Rattle.sporc_play.proofs.FirstMoves.{founders_open}
 use Rattle.sporc_play.proofs.Openings.{device_there}
 use Rattle.sporc_play.proofs.state.PlayState.open_founders.Goals as goal
+
+pub open_by-requires-clause-opens : goal.open_by-requires-clause-opens
+open_by-requires-clause-opens c = founders_open c.args.lines.now _ _ c.loop-line.invariant.stands
 
 pub open_by-requires-clause-seated : goal.open_by-requires-clause-seated
 open_by-requires-clause-seated c who is =

@@ -11,12 +11,12 @@ store-requires g c =
     let logs = g.S.Kept.log in (
       search rules,
       search rules,
-      raises logs g.S.Kept.level g.S.Kept.by _ _ _ c.exchange.new.seat.me held.value _
+      raises logs g.S.Kept.watermark g.S.Kept.by _ _ _ c.exchange.new.seat.me held.value _
           (ap (λ m. m.1) e.3 ∙ ap (λ l. (0, Some held.value) ∷ rest l) (room_slot held.holder.seat.me.1 held.holder.room))
           (ap (λ m. m.0.turns) e.3 ∙ held.holder.is_out.1)
           c.logged-count.ensures
           (subst (λ k. Extends g.S.Kept.by k (logs held.value)) (sym (ap (λ m. m.0.known) e.3)) c.requires.log)
-          (subst (λ n. n ≤ g.S.Kept.level held.value) (sym (ap (λ m. m.0.level) e.3)) c.requires.level),
+          (subst (λ n. n ≤ g.S.Kept.watermark held.value) (sym (ap (λ m. m.0.watermark) e.3)) c.requires.watermark),
     )
 
 pub store-requires-2 : goal.store-requires-2
@@ -28,11 +28,11 @@ store-requires-2 g c =
     let s = (c.store.ensures.2 held.value has).0 in (
       search rules,
       search rules,
-      passes logs g.S.Kept.level g.S.Kept.by _ _ _ c.store.new.seat.me held.value _
+      passes logs g.S.Kept.watermark g.S.Kept.by _ _ _ c.store.new.seat.me held.value _
           (ap (λ m. m.1) s ∙ has)
           (ap (λ m. m.0.turns) s ∙ ap (λ m. m.0.turns) e.3 ∙ held.holder.is_out.1)
           (ap (λ m. m.0.known.seen) s)
-          (ap (λ m. m.0.level) s)
+          (ap (λ m. m.0.watermark) s)
           (ap (λ n. n + 1) held.holder.ticket_is ∙ ap (λ m. m.0.ticket + 1) (sym e.3) ∙ ap (λ m. m.0.ticket + 1) (sym s)),
     )
 

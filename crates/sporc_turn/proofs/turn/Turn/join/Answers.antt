@@ -11,13 +11,13 @@ join_seat-requires g c =
       search rules,
       search rules,
       search rules,
-      joins g.S.Kept.log g.S.Kept.level g.S.Kept.by _ _ _ _ _ (subst IsIdle is c.args.a.idle) (ap (λ v. v.known.number) (sym is) ∙ c.requires.first) (subst IsIdle (view_there _ _ c.into_seat.ensures.2) c.args.b.idle),
+      joins g.S.Kept.log g.S.Kept.watermark g.S.Kept.by _ _ _ _ _ (subst IsIdle is c.args.a.idle) (ap (λ v. v.known.number) (sym is) ∙ c.requires.first) (subst IsIdle (view_there _ _ c.into_seat.ensures.2) c.args.b.idle),
     )
 
 pub load-requires : goal.load-requires
 load-requires g c =
     let first_idle = subst IsIdle (view_there _ _ c.into_seat-seat.ensures.2) c.args.a.idle in
-    (search rules, search rules, compares g.S.Kept.log g.S.Kept.level g.S.Kept.by _ _ _ _ (ap (λ m. m.0.known.spent) c.join_seat.ensures.2 ∙ first_idle.2))
+    (search rules, search rules, compares g.S.Kept.log g.S.Kept.watermark g.S.Kept.by _ _ _ _ (ap (λ m. m.0.known.spent) c.join_seat.ensures.2 ∙ first_idle.2))
 
 pub returns-clause-agrees : goal.returns-clause-agrees
 returns-clause-agrees g c =

@@ -4,7 +4,7 @@ use Rattle.sporc_turn.proofs.Turns.{serves}
 use Rattle.sporc_turn.proofs.turn.Turn.wait.Goals as goal
 
 pub load-served-requires : goal.load-served-requires
-load-served-requires g c = (search rules, search rules, serves g.S.Kept.log g.S.Kept.level g.S.Kept.by _ _ _ _ (ap (λ m. m.0.waits) c.turns.invariant.3 ∙ c.requires.waits))
+load-served-requires g c = (search rules, search rules, serves g.S.Kept.log g.S.Kept.watermark g.S.Kept.by _ _ _ _ (ap (λ m. m.0.waits) c.turns.invariant.3 ∙ c.requires.waits))
 
 pub exchange-requires : goal.exchange-requires
 exchange-requires g c =

@@ -1,7 +1,0 @@
-use Rattle.sporc_top.proofs.performing.compare_histories.Goals as goal
-
-pub returns-clause-files_kept : goal.returns-clause-files_kept
-returns-clause-files_kept g c = c.compare.ensures.outcome.reads.kept
-
-pub returns-clause-lent : goal.returns-clause-lent
-returns-clause-lent g c = c.compare.ensures.outcome.reads.lent
