@@ -1,6 +1,6 @@
 # shellcheck shell=bash disable=SC2034
 # What the scripts of this folder share; each of them reads this file. They time the program that is built, on files in memory
-# if the machine has such a folder, so that no disk is measured, and print rows of the table in docs/SPEED.md.
+# if the machine has such a folder, so that no disk is measured, and print rows of the tables in docs/SPEED.md.
 set -eu
 # shellcheck source=examples/ports.sh
 . "$(dirname "$0")/../examples/ports.sh"
@@ -38,6 +38,12 @@ took() {
     took=$(($(micros) - begun))
 }
 
+# fewest NAME: sets this variable to `took`, if it is empty or more.
+fewest() {
+    local -n so_far=$1
+    if [ -z "$so_far" ] || [ "$took" -lt "$so_far" ]; then so_far=$took; fi
+}
+
 # least TIMES COMMAND..: sets `least` to the fewest microseconds of so many runs.
 least() {
     local times=$1
@@ -45,7 +51,7 @@ least() {
     least=
     for _ in $(seq "$times"); do
         took "$@"
-        if [ -z "$least" ] || [ "$took" -lt "$least" ]; then least=$took; fi
+        fewest least
     done
 }
 
@@ -56,10 +62,13 @@ serve() {
     address=127.0.0.1:$(free_port)
     (cd "${3:-.}" && exec "${4:-$program}" serve "$1" "$address" --sessions "$2") >"$out" 2>&1 &
     server=$!
-    until listens "${address##*:}"; do
-        kill -0 "$server"
-        sleep 0.05
-    done
+    await_server
+}
+
+# await_server: until `server` listens at `address`.
+await_server() {
+    await_port "${address##*:}" "$server"
+    listens "${address##*:}"
 }
 
 # four_members NAME: a document of four members with keys of height 10.

@@ -14,10 +14,10 @@ free_port() {
     echo "$port"
 }
 
-# await_port PORT PID: until somebody listens on this port, for ten seconds at most, or the process has ended.
+# await_port PORT PID: until somebody listens on this port, for a minute at most, or the process has ended.
 await_port() {
     local tries=0
-    until listens "$1" || [ "$tries" = 1000 ] || ! kill -0 "$2" 2>/dev/null; do
+    until listens "$1" || [ "$tries" = 6000 ] || ! kill -0 "$2" 2>/dev/null; do
         sleep 0.01
         tries=$((tries + 1))
     done

@@ -2,10 +2,14 @@
 which the toolchain's commands need too, since bash can't listen at a port."""
 
 import collections
+import contextlib
+import multiprocessing
 import os
 import pathlib
 import random
 import re
+import resource
+import shutil
 import socket
 import subprocess
 import tempfile
@@ -15,12 +19,83 @@ import time
 # How long one thing may take, on a machine that does much else.
 SECONDS = 60
 BUILT = pathlib.Path(__file__).resolve().parent.parent / "crates" / "sporc" / "out" / "sporc"
+# So few descriptors that a process has used them up soon.
+DESCRIPTORS = 64
 
 
-def new_folder():
-    """A folder that is removed at the end, in memory if the machine has such a place, so that nothing waits for a disk."""
+def new_folder(within=None):
+    """A folder that is removed at the end: within another, or in memory if the machine has such a place, so that nothing waits
+    for a disk."""
     memory = "/dev/shm"
-    return tempfile.TemporaryDirectory(dir=memory if os.access(memory, os.W_OK) else None)
+    return tempfile.TemporaryDirectory(dir=within or (memory if os.access(memory, os.W_OK) else None))
+
+
+# The processes that this script has begun.
+begun = []
+
+
+def begin(words, **options):
+    """A process that does not outlive this script."""
+    process = subprocess.Popen(words, encoding="utf-8", **options)
+    begun.append(process)
+    return process
+
+
+def end_all():
+    """Ends what has not ended by itself."""
+    for process in [*begun, *multiprocessing.active_children()]:
+        process.kill()
+
+
+@contextlib.contextmanager
+def limited(script, seconds):
+    """A folder for a script, which gives up once so many seconds are over. Nothing that it has begun outlives it."""
+
+    def give_up():
+        print(f"{script}: more than {seconds} seconds", flush=True)
+        end_all()
+        shutil.rmtree(folder, ignore_errors=True)
+        os._exit(1)
+
+    limit = threading.Timer(seconds, give_up)
+    limit.daemon = True
+    with new_folder() as folder:
+        limit.start()
+        try:
+            yield folder
+        finally:
+            end_all()
+
+
+class Checks:
+    """What a script looks at, in whatever threads: what holds, and what doesn't, which is told at once."""
+
+    def __init__(self, script):
+        self.script, self.passed, self.failed = script, [], []
+
+    def holds(self, what, does):
+        """Whether this holds is seen."""
+        if does:
+            self.passed.append(what)
+        else:
+            self.failed.append(what)
+            print(f"{self.script}: not {what}\n", end="", flush=True)
+
+    def end(self, *more):
+        """Tells how many there were, and more of them, and ends the script."""
+        print(f"{self.script}: {', '.join([f'{len(self.passed)} passed, {len(self.failed)} failed', *more])}")
+        raise SystemExit(1 if self.failed else 0)
+
+
+def few_descriptors():
+    """What a process does before it begins, to have few descriptors."""
+    resource.setrlimit(resource.RLIMIT_NOFILE, (DESCRIPTORS, DESCRIPTORS))
+
+
+def can_trace():
+    """Whether strace is here and may trace."""
+    tool = shutil.which("strace")
+    return bool(tool) and subprocess.run([tool, "-o", "/dev/null", "true"], capture_output=True).returncode == 0
 
 
 # The addresses that were given last. One is looked for at a time.
@@ -117,23 +192,46 @@ def handed_out(body):
     return entries
 
 
-def answer(link):
-    """The body of the next frame that comes."""
+def received(link, size):
+    """So many bytes of a link, or fewer if it ends before."""
     data = b""
-    while not frames(data):
-        piece = link.recv(65_536)
-        if not piece:
-            raise EOFError(data)
+    while len(data) < size and (piece := link.recv(min(size - len(data), 65_536))):
         data += piece
-    return frames(data)[0]
+    return data
+
+
+def next_body(link):
+    """The body of the next frame of a link, or nothing if it ends before."""
+    head = received(link, 4)
+    length = int.from_bytes(head, "big")
+    body = received(link, length) if len(head) == 4 else b""
+    return body if len(body) == length else b""
+
+
+def answer(link):
+    """The body of the next frame, which comes."""
+    body = next_body(link)
+    if not body:
+        raise EOFError("no whole frame")
+    return body
+
+
+def hello(document):
+    """A Hello of member 1."""
+    return counted(b"\1" + document + b"\0\1")
+
+
+def pull(length):
+    """A Pull of all behind so many entries."""
+    return counted(b"\3" + length.to_bytes(4, "big"))
 
 
 def pulled(address, document):
     """All entries of a server, as a peer gets them."""
     entries = []
-    with call(address, counted(b"\1" + document + b"\0\1")) as link:
+    with call(address, hello(document)) as link:
         while True:
-            link.sendall(counted(b"\3" + len(entries).to_bytes(4, "big")))
+            link.sendall(pull(len(entries)))
             more = handed_out(answer(link))
             if not more:
                 return entries
@@ -147,9 +245,9 @@ class Program:
         self.path = str(pathlib.Path(path).resolve())
         self.folder = pathlib.Path(folder)
 
-    def run(self, *words, **options):
+    def run(self, *words, timeout=SECONDS):
         """Its status, its last line, and what stands on standard error."""
-        done = subprocess.run([self.path, *words], cwd=self.folder, capture_output=True, **options)
+        done = subprocess.run([self.path, *words], cwd=self.folder, capture_output=True, timeout=timeout)
         lines = done.stdout.decode().splitlines()
         return done.returncode, lines[-1] if lines else "", done.stderr.decode()
 
@@ -167,7 +265,7 @@ class Program:
     def start(self, address, words, before=(), **options):
         """The same of these words, behind those of a program that runs it."""
         words = [*before, self.path, *words]
-        server = subprocess.Popen(words, cwd=self.folder, stdout=subprocess.PIPE, text=True, **options)
+        server = begin(words, cwd=self.folder, stdout=subprocess.PIPE, **options)
         # Its sessions are counted, so nobody calls it to find out whether it listens.
         while not listens(address):
             if server.poll() is not None:
@@ -185,6 +283,10 @@ class Program:
         """The sixteen bytes that a document is known by."""
         return (self.folder / f"{name}.genesis").read_bytes()[1:17]
 
+    def greeting(self, name):
+        """A Hello for a document, and a Pull, which is answered."""
+        return hello(self.document(name)) + pull(0)
+
     def write(self, name, member, script, before, is_joiner=False):
         """The entries that a session of a member with this editor script saves, whose server has those of `before`."""
         (self.folder / "script").write_text(script)
@@ -196,5 +298,5 @@ class Program:
             # It has two sessions in each run, and reads its addition before it edits.
             self.done("client", name, member, address)
         self.done("client", name, member, address, "script")
-        assert server.wait() == 0
+        assert server.wait(SECONDS) == 0
         return saved(saved_by.read_bytes())
