@@ -68,22 +68,27 @@ same_history s i j c d one two free h =
 
 -- ---- one key
 
+is_held : (P : List ℕ → Type 0) (o p there : Option (List ℕ)) → there ≡ o → IsSomeAnd there P → o ≡ p → IsSomeAnd o (λ key. p ≡ Some key)
+is_held P None p there is met same = absurd (subst (λ (k : Option (List ℕ)). IsSomeAnd k P) is met)
+is_held P (Some key) p there is met same = sym same
+
 one_key : (s : Setup) (i j : Device) (c d : PlainClient) (epoch : ℕ) → IsReached s i c → IsReached s j d → NoCollision c d → is_out c ≡ false → is_out d ≡ false
     → epoch ≤ epoch_of c.entries → epoch ≤ epoch_of d.entries → commitment_after s.genesis (changes c.entries) epoch ≡ commitment_after s.genesis (changes d.entries) epoch
-    → epoch_key c.opening.genesis c.opening.kit c.entries epoch ≡ epoch_key d.opening.genesis d.opening.kit d.entries epoch
+    → IsSomeAnd (epoch_key c.opening.genesis c.opening.kit c.entries epoch) (λ key. epoch_key d.opening.genesis d.opening.kit d.entries epoch ≡ Some key)
 one_key s i j c d epoch one two free there there' le le' same =
     let g = s.genesis in
     let mine = line_strings g c.opening.kit c.entries in
     let yours = line_strings g d.opening.kit d.entries in
     let its = keys_meet g c.opening.kit c.entries (good_of s i c one) there epoch le in
     let theirs = keys_meet g d.opening.kit d.entries (good_of s j d two) there' epoch le' in
-    ap (λ (g : Genesis). epoch_key g c.opening.kit c.entries epoch) (genesis_of s i c one)
+    let key : Genesis → Option (List ℕ) = λ g. epoch_key g c.opening.kit c.entries epoch in
+    is_held _ _ _ (key g) (sym (ap key (genesis_of s i c one))) its (ap key (genesis_of s i c one)
     ∙ same_key g epoch (mine ++ yours) (epoch_key g c.opening.kit c.entries epoch) (epoch_key g d.opening.kit d.entries epoch) (commitment_after g (changes c.entries) epoch) (free_of s i j c d one two free)
     (λ x h. has_left g c.opening.kit c.entries yours epoch x le h)
     (λ x h. has_right g d.opening.kit d.entries mine epoch x le' h)
     its
     (subst (Meets g epoch (epoch_key g d.opening.kit d.entries epoch)) (sym same) theirs)
-    ∙ sym (ap (λ (g : Genesis). epoch_key g d.opening.kit d.entries epoch) (genesis_of s j d two))
+    ∙ sym (ap (λ (g : Genesis). epoch_key g d.opening.kit d.entries epoch) (genesis_of s j d two)))
 
 -- ---- one base
 

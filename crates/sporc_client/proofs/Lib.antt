@@ -3,6 +3,7 @@ pub mod Shown
 pub mod Soundness
 pub mod Small
 pub mod Checked
+pub mod GoodVerdicts
 pub mod Events
 pub mod Comings
 pub mod InHistories

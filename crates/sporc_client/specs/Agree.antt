@@ -69,7 +69,7 @@ module _ (s : Setup) (moves : List Move) where
     pub one_key : (c d : PlainClient) (e : ℕ) → IsClient c → IsClient d → NoCollision c d
         → is_out c ≡ false → is_out d ≡ false → e ≤ epoch_of c.entries → e ≤ epoch_of d.entries
         → commitment s.genesis (changes c.entries) e ≡ commitment s.genesis (changes d.entries) e
-        → reading c epoch_key e ≡ reading d epoch_key e
+        → IsSomeAnd (reading c epoch_key e) (λ key. reading d epoch_key e ≡ Some key)
     -- clients that accepted one entry agree up to its base
     pub one_base : (c d : PlainClient) (x y : ℕ) (b : List ℕ) (e : Entry) → IsClient c → IsClient d
         → NoCollision c d → StandsBehind x c.entries b e → StandsBehind y d.entries b e

@@ -1,7 +1,6 @@
 -- Values as numbers and lists, by which proofs tell them apart.
 use Rattle.std.specs.Prelude.{◌≡◌, ℕ, ◌==◌, Bool, List, [], Option, if◌then◌else◌, refl}
 use Rattle.std.specs.Coded.{Coded, code_by, coded×, coded_ℕ, coded_bool, coded_list, coded_option}
-use Rattle.std.proofs.Common.{ap}
 use Rattle.lms_leaf.specs.Leaves.{LeavesModel}
 use Rattle.lms_ots.specs.declared.ots_type.OtsType.{OtsType}
 use Rattle.lms_ots.specs.declared.ots_type.OtsType.TheVariants.{W1, W2, W4, W8}
@@ -10,16 +9,14 @@ use Rattle.lms_tree.specs.declared.lms_type.LmsType.TheVariants.{H5, H10, H15, H
 use Rattle.lms_tree.specs.LmsPrivate.{LmsPrivate}
 use Rattle.sporc_delta.specs.Marks.{Mark, Keep, Remove, Insert}
 use Rattle.sporc_member.specs.declared.change.Change.{Change as MemberChange}
-use Rattle.sporc_member.specs.declared.change.Change.TheVariants.{Add, Remove as RemoveMember}
-use Rattle.sporc_member.specs.declared.change.Change.TheVariants.{SetRole, AddDevice, DropDevice}
-use Rattle.sporc_member.specs.declared.change.Change.TheVariants.{Upgrade}
+use Rattle.sporc_member.specs.declared.change.Change.TheVariants.{Remove as RemoveMember}
 use Rattle.sporc_member.specs.declared.change.ChangeFault.{ChangeFault}
 use Rattle.sporc_member.specs.declared.change.ChangeFault.TheVariants as faults
-use Rattle.sporc_member.specs.ChangeFault.{change_fault_code_of}
-use Rattle.sporc_member.specs.Role.{role_code_of}
-use Rattle.sporc_line.specs.Codes.{genesis_code, kit_code, role_again, role_of_code}
+use Rattle.sporc_member.specs.Codes.{change_code, fault_code}
+use Rattle.sporc_line.specs.Codes.{kit_code}
 use Rattle.sporc_line.specs.Kit.{Kit}
 use Rattle.sporc_entry.specs.declared.genesis.Genesis.{Genesis}
+use Rattle.sporc_entry.specs.Codes.{genesis_code}
 use Rattle.sporc_client.specs.ClientModel.{ClientModel}
 use Rattle.sporc_client.specs.Log.{Logged, Edit, Change, Submit, Dropped, Accept, Discard}
 use Rattle.sporc_client.specs.PlainClient.{Opening}
@@ -83,56 +80,6 @@ mark_again m = refl
 
 abbrev pub mark_code : Coded Mark
 mark_code = code_by (ℕ × ℕ) (coded× coded_ℕ coded_ℕ) mark_parts mark_of_parts mark_again
-
-abbrev pub ChangeParts : Type 0
-ChangeParts = ℕ × (ℕ × (ℕ × List ℕ))
-
-abbrev pub change_parts : MemberChange → ChangeParts
-change_parts (Add member role key) = (0, (member, (role_code_of role, key)))
-change_parts (RemoveMember member) = (1, (member, (0, [])))
-change_parts (SetRole member role) = (2, (member, (role_code_of role, [])))
-change_parts (AddDevice member device key) = (3, (member, (device, key)))
-change_parts (DropDevice member device) = (4, (member, (device, [])))
-change_parts Upgrade = (5, (0, (0, [])))
-
-abbrev pub change_of_parts : ChangeParts → MemberChange
-change_of_parts p =
-    if p.0 == 0 then Add p.1.0 (role_of_code p.1.1.0) p.1.1.1
-    else (if p.0 == 1 then RemoveMember p.1.0
-    else (if p.0 == 2 then SetRole p.1.0 (role_of_code p.1.1.0)
-    else (if p.0 == 3 then AddDevice p.1.0 p.1.1.0 p.1.1.1
-    else (if p.0 == 4 then DropDevice p.1.0 p.1.1.0 else Upgrade))))
-
-pub change_again : (c : MemberChange) → change_of_parts (change_parts c) ≡ c
-change_again (Add member role key) = ap (λ r. Add member r key) (role_again role)
-change_again (SetRole member role) = ap (SetRole member) (role_again role)
-change_again change = refl
-
-abbrev pub change_code : Coded MemberChange
-change_code =
-    code_by ChangeParts (coded× coded_ℕ (coded× coded_ℕ (coded× coded_ℕ (coded_list coded_ℕ))))
-    change_parts change_of_parts change_again
-
-abbrev pub fault_of_number : ℕ → ChangeFault
-fault_of_number n =
-    if n == 1 then faults.NumberUsed
-    else (if n == 2 then faults.NotMember
-    else (if n == 3 then faults.SameRole
-    else (if n == 4 then faults.LastAdmin
-    else (if n == 5 then faults.RosterFull
-    else (if n == 6 then faults.BadKey
-    else (if n == 7 then faults.DeviceUsed
-    else (if n == 8 then faults.NoDevice
-    else (if n == 9 then faults.LastDevice
-    else (if n == 10 then faults.DevicesFull
-    else (if n == 11 then faults.NotUpgraded else faults.AlreadyUpgraded))))))))))
-
-pub fault_again : (f : ChangeFault) → fault_of_number (change_fault_code_of f) ≡ f
-fault_again faults.NumberUsed = refl
-fault_again fault = refl
-
-abbrev pub fault_code : Coded ChangeFault
-fault_code = code_by ℕ coded_ℕ change_fault_code_of fault_of_number fault_again
 
 -- the kind, who made it, the events seen, and what it has of marks, a change, a fault and bytes
 abbrev pub LoggedParts : Type 0

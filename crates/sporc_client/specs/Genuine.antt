@@ -1,4 +1,4 @@
--- When no one forges: what is accepted under the key of a device of the run, such a client signed.
+-- When no one forges: what is accepted under a key of the run, a client with that key signed.
 use Rattle.std.specs.Prelude.{◌≡◌, ℕ, suc, List, [], ◌∷◌, ◌++◌, Some, Contains, Ok}
 use Rattle.sporc_member.specs.declared.device.Device.{Device}
 use Rattle.sporc_member.specs.Roster.{key_of}

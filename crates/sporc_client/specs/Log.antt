@@ -1,5 +1,5 @@
 -- The log of a client: its journal, with the bytes of each entry that was accepted.
-use Rattle.std.specs.Prelude.{ℕ, ◌+◌, ◌-◌, ◌==◌, List, [], ◌∷◌, ◌++◌, length, map, filter}
+use Rattle.std.specs.Prelude.{ℕ, ◌+◌, ◌-◌, List, [], ◌∷◌, ◌++◌, length, map}
 use Rattle.std.specs.Prelude.{slice_index_or}
 use Rattle.sporc_delta.specs.Marks.{Mark}
 use Rattle.sporc_member.specs.declared.change.Change.{Change as MemberChange}
@@ -28,10 +28,6 @@ by_of (Submit by entry) = by
 by_of (Dropped by fault) = by
 by_of (Accept by entry) = by
 by_of (Discard by) = by
-
--- the events that one number made
-abbrev pub made_by : ℕ → List Logged → List Logged
-made_by number log = filter (λ e. by_of e == number) log
 
 -- the entries that an event adds to the history
 abbrev pub entries_by : Logged → List (List ℕ)

@@ -18,7 +18,7 @@ pub type ClientOpenFault = LineOpenFault;
 /// Why an edit, a change or a discard is refused.
 #[derive(Clone, Copy, Debug, PartialEq, Eq, Error)]
 pub enum EditFault {
-    #[error("the member was removed")]
+    #[error("the member was removed, or the device dropped")]
     Removed,
     #[error("the member has no right to it")]
     NoRight,
@@ -39,7 +39,7 @@ pub enum EditFault {
 /// Why a submission is refused.
 #[derive(Clone, Copy, Debug, PartialEq, Eq, Error)]
 pub enum SubmitFault {
-    #[error("the member was removed")]
+    #[error("the member was removed, or the device dropped")]
     Removed,
     #[error("the member has no right to the first pending item")]
     NoRight,

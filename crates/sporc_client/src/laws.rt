@@ -25,11 +25,11 @@ ghost use Rattle.sporc_client.specs.Soundness.{IsSound};
 ghost use Rattle.sporc_client.specs.Typed.{IsTypedRun};
 ghost use Rattle.sporc_client.specs.Agree.{Agree};
 
-/// Unless two strings of their histories have one digest, clients with one history hash hold the
-/// same, and clients that accepted one entry have one history up to the base that it states, which
-/// is all that its author had committed, if a client of the run signed it. Each accepted entry
-/// verifies under the key of its author's device there, once, in order and under a right held
-/// there; a refusal names the first failed check and changes nothing. So in every run.
+/// Unless two different strings of their histories have one digest, clients with one history hash
+/// hold the same, and clients that accepted one entry have one history up to the base that it
+/// states, which is all that its author had committed, if a client of the run signed it. Each
+/// accepted entry verifies under the key of its author's device there, once, in order and under a
+/// right held there; a refusal names the first failed check and changes nothing. So in every run.
 pub fn runs_agree()
     ensures agree { (s : Setup) (moves : List Move) → IsWellFormed s → IsRun s start moves
         → Agree s moves }

@@ -1,12 +1,11 @@
 -- Files that are asked for, one call after another.
 use Rattle.std.proofs.Common.{◌≡◌, ℕ, zero, suc, ◌+◌, ◌<◌, inl, inr, ⊎_elim, List, [], ◌∷◌, ◌++◌, length, map, Option, Some, None, sym, ap, ◌∙◌, subst, arith, append-nil}
-use Rattle.sporc_clients.proofs.Common.{drop, option_map, map-append, Device, MayAppend, Words, Key, Ring, Script, Leaf, History, FileNames, file_name, AsksOnly, own_files, script_files, client_files}
+use Rattle.sporc_clients.proofs.Common.{drop, option_map, map-append, MayAppend, Words, Script, Leaf, History, FileNames, file_name, AsksOnly, own_files, script_files, client_files}
 use Rattle.sporc_clients.proofs.Common.{names_of, All-contains, All-nil, All-push, Contains-append_left, Contains-push, File}
 use Rattle.std.specs.List.{Contains}
 use Rattle.std.proofs.lemmas.Bool.{cases_lt}
 use Rattle.sporc_base.specs.Numbers.{up_to}
-use Rattle.sporc_files.specs.declared.file.File.TheVariants.{Genesis}
-use Rattle.sporc_files.proofs.Asking.{AsksOnly-among, AsksOnly-trans, asks_first as names_first, asks_then as names_then}
+use Rattle.sporc_files.proofs.Asking.{Among, AsksOnly-trans, asks_first as names_first, asks_then as names_then}
 
 module _ (names : FileNames) where
   -- some of the first files are some of all
@@ -37,41 +36,11 @@ module _ (names : FileNames) where
       (λ past. let at : read ≡ count = omega (arith, past, less) in subst (λ (n : ℕ). Contains (some ++ last ∷ []) (file_name names (Script n))) (omega (arith, at)) (Contains-push some last))
       (cases_lt read count))
 
-  -- some of them, and then this one
-  pub asks_script : (count read : ℕ) (a b c : Option (List (List ℕ))) → read < count → AsksOnly (map (file_name names) (script_files count)) a b
-      → AsksOnly (file_name names (Script (read + 1)) ∷ []) b c → AsksOnly (map (file_name names) (script_files count)) a c
-  asks_script count read a b c less asks more =
+  pub script_among : (count read : ℕ) → read < count → Among names (Script (read + 1) ∷ []) (script_files count)
+  script_among count read less =
       let all = map (file_name names) (script_files count) in
       let one = file_name names (Script (read + 1)) in
-      AsksOnly-trans all a b c asks
-      (AsksOnly-among (one ∷ []) all b c
-      (λ name. All-contains (Contains all) (one ∷ []) name (All-push (Contains all) [] one (All-nil (Contains all)) (among_scripts count read less)))
-      more)
-
-  -- ---- a member's files
-
-  module _ (device : Device) (count : ℕ) where
-    pub asks_genesis : (a b : Option (List (List ℕ))) → AsksOnly (file_name names Genesis ∷ []) a b → AsksOnly (map (file_name names) (own_files device count)) a b
-    asks_genesis a b genesis = asks_first (Genesis ∷ []) (Key device ∷ Ring device.member ∷ script_files count) a b genesis
-
-    pub asks_key : (a b c : Option (List (List ℕ))) → AsksOnly (file_name names Genesis ∷ []) a b → AsksOnly (file_name names (Key device) ∷ []) b c
-        → AsksOnly (map (file_name names) (own_files device count)) a c
-    asks_key a b c genesis key =
-        asks_first (Genesis ∷ Key device ∷ []) (Ring device.member ∷ script_files count) a c (asks_then (Genesis ∷ []) (Key device ∷ []) a b c genesis key)
-
-    -- those before the scripts
-    before_scripts : (a b c d : Option (List (List ℕ))) → AsksOnly (file_name names Genesis ∷ []) a b → AsksOnly (file_name names (Key device) ∷ []) b c
-        → AsksOnly (file_name names (Ring device.member) ∷ []) c d → AsksOnly (map (file_name names) (Genesis ∷ Key device ∷ Ring device.member ∷ [])) a d
-    before_scripts a b c d genesis key ring = asks_then (Genesis ∷ Key device ∷ []) (Ring device.member ∷ []) a c d (asks_then (Genesis ∷ []) (Key device ∷ []) a b c genesis key) ring
-
-    pub asks_ring : (a b c d : Option (List (List ℕ))) → AsksOnly (file_name names Genesis ∷ []) a b → AsksOnly (file_name names (Key device) ∷ []) b c
-        → AsksOnly (file_name names (Ring device.member) ∷ []) c d → AsksOnly (map (file_name names) (own_files device count)) a d
-    asks_ring a b c d genesis key ring = asks_first (Genesis ∷ Key device ∷ Ring device.member ∷ []) (script_files count) a d (before_scripts a b c d genesis key ring)
-
-    pub asks_scripts : (a b c d e : Option (List (List ℕ))) → AsksOnly (file_name names Genesis ∷ []) a b → AsksOnly (file_name names (Key device) ∷ []) b c
-        → AsksOnly (file_name names (Ring device.member) ∷ []) c d → AsksOnly (map (file_name names) (script_files count)) d e → AsksOnly (map (file_name names) (own_files device count)) a e
-    asks_scripts a b c d e genesis key ring scripts =
-        asks_then (Genesis ∷ Key device ∷ Ring device.member ∷ []) (script_files count) a d e (before_scripts a b c d genesis key ring) scripts
+      λ name. All-contains (Contains all) (one ∷ []) name (All-push (Contains all) [] one (All-nil (Contains all)) (among_scripts count read less))
 
 -- one name may have been asked for
 one_name : (name : List ℕ) (a b : Option (List (List ℕ))) → MayAppend a b name → AsksOnly (name ∷ []) a b

@@ -1,5 +1,5 @@
 -- The names of this crate and of those below that many of its proofs cite, passed on from one place.
-pub use Rattle.sporc_files.proofs.FaultCases.{file_later, if_err}
+pub use Rattle.sporc_files.proofs.FaultCases.{IsPart, file_within, if_err, says_now}
 pub use Rattle.sporc_files.specs.Names.{FileNames, file_name}
 pub use Rattle.sporc_files.specs.Uses.{AsksAtMost, AsksOnly}
 pub use Rattle.sporc_files.specs.declared.fault.Fault.{Fault}
@@ -17,6 +17,7 @@ pub use Rattle.sporc_outside.proofs.Returning.{shut_none, shut_one, shut_then}
 pub use Rattle.sporc_outside.specs.Chances.{ChanceTold}
 pub use Rattle.sporc_outside.specs.Counts.{Rose, count_of_both}
 pub use Rattle.sporc_outside.specs.LeafDisk.{DiskTold, disk_images}
+pub use Rattle.sporc_outside.specs.Folders.{FolderTold}
 pub use Rattle.sporc_outside.specs.Nets.{NetTold}
 pub use Rattle.sporc_outside.specs.Told.{AppendsItem, IsPositive, MayAppend, TakesItem}
 pub use Rattle.sporc_outside.specs.Uses.{Use, use_of}
@@ -42,5 +43,5 @@ pub use Rattle.sporc_clients.specs.Outcome.{ClientOutcome, ClientUse, DiskOutcom
 pub use Rattle.sporc_clients.specs.Sessions.{IsSessionOf, stand_at}
 pub use Rattle.sporc_clients.specs.declared.session.Wanted.{Wanted}
 pub use Rattle.sporc_script.specs.declared.editor_line.EditorLine.{EditorLine}
-pub use Rattle.sporc_clients.specs.LeafFile.{IsLendFault, KeepsPassed}
+pub use Rattle.sporc_clients.specs.LeafFile.{KeepsPassed}
 pub use Rattle.sporc_clients.specs.Concluding.{LeavesAreTaken, SaveOutcome}

@@ -1,5 +1,5 @@
 -- Of which faults of a session a count tells.
-use Rattle.std.proofs.Common.{◌≡◌, ⊎_elim, ℕ, ◌+◌, ◌≤◌, List, [], ◌∷◌, drop, length, Option, Some, None, refl, sym, subst, arith}
+use Rattle.std.proofs.Common.{◌≡◌, ℕ, ◌+◌, ◌≤◌, List, [], ◌∷◌, drop, length, Option, Some, None, refl, sym, ap, subst, arith}
 use Rattle.sporc_clients.proofs.Common.{Result, Err, ⊤, count_of_both, EditorLine, Item, SessionFault, Trace, Stand}
 use Rattle.std.proofs.lemmas.Option.{same_Some}
 use Rattle.sporc_base.specs.FirstFault.{first_of}
@@ -59,12 +59,12 @@ line_rose c log start number mine (line ∷ lines) faults.ChanceFault is = absur
 line_rose c log start number mine (line ∷ lines) fault is = tt
 
 editors_rose : (c : CountsAround) (log : List Item) (start number : ℕ) (scripts : List (List EditorLine)) (ends : List (Option SessionFault)) (fault : SessionFault)
-    → EditorsDid log start number scripts ends → length ends ≡ length scripts → first_of ends ≡ Some fault → RoseFor c fault
-editors_rose c log start number scripts [] fault did all is = absurd cc
-editors_rose c log start number [] (end ∷ ends) fault did all is = absurd (omega (arith, all))
-editors_rose c log start number (script ∷ scripts) (Some f ∷ ends) fault did all is =
+    → EditorsDid log start number scripts ends → first_of ends ≡ Some fault → RoseFor c fault
+editors_rose c log start number scripts [] fault did is = absurd cc
+editors_rose c log start number [] (end ∷ ends) fault did is = absurd (omega (arith, ap length did))
+editors_rose c log start number (script ∷ scripts) (Some f ∷ ends) fault did is =
     subst (RoseFor c) (same_Some _ _ is) (line_rose c log start number _ (drop did.0.count script) f did.0.end)
-editors_rose c log start number (script ∷ scripts) (None ∷ ends) fault did all is = editors_rose c log start (number + 1) scripts ends fault did.1 (omega (arith, all)) is
+editors_rose c log start number (script ∷ scripts) (None ∷ ends) fault did is = editors_rose c log start (number + 1) scripts ends fault did.1 is
 
 -- why the session ended
 second_rose : (m b : Stand) (rounds until : ℕ) (result : Result ⊤ SessionFault) → SecondPhase m b rounds until result → RoseIfFailed (counts m b) result
@@ -85,8 +85,7 @@ module _ (a b : Stand) (rounds until : ℕ) (scripts : List (List EditorLine)) (
   by_editors : (ends : Option SessionFault) → first_of s.editors ≡ ends → s.receiver ≡ None → SessionEnds s.middle b rounds until ends result → RoseIfFailed (counts a b) result
   by_editors None is none e = wider a s.middle b (first_kept a s.middle rounds s.receiver s.first) result (second_rose s.middle b rounds until result e)
   by_editors (Some f) is none e =
-      ended_by f (⊎_elim (λ all. editors_rose (counts a s.middle) b.known.seen a.known.start 1 scripts s.editors f s.edited all is)
-      (λ memory. absurd cc) s.started) e
+      ended_by f (editors_rose (counts a s.middle) b.known.seen a.known.start 1 scripts s.editors f s.edited is) e
 
   by_receiver : (receiver : Option SessionFault) → s.receiver ≡ receiver → FirstPhase a s.middle rounds receiver → SessionEnds s.middle b rounds until (first_of (receiver ∷ s.editors)) result
       → RoseIfFailed (counts a b) result

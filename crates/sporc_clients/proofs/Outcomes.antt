@@ -1,46 +1,33 @@
 -- What the command did, at each of its ends.
 use Rattle.std.proofs.Common.{◌≡◌, ℕ, ◌≤◌, List, ◌∷◌, length, Option, option_map, Result, Ok, Err, ap, subst, arith, ◌∙◌}
-use Rattle.sporc_clients.proofs.Common.{⊤, Device, NamedFile, ChanceTold, NetTold, Use, DiskTold, Words, Fault, History, Leaf, FileNames, file_name, Genesis, RingFile, Past, SessionFault, IsAttended}
-use Rattle.sporc_clients.proofs.Common.{NotAttended, begin_with, Wanted, IsMemberFault, SayMember, ClientOutcome, ClientUse, names_of, IsLendFault, SaveOutcome, LmsPrivate, IsDiskOf}
+use Rattle.sporc_clients.proofs.Common.{⊤, Device, NamedFile, ChanceTold, FolderTold, NetTold, Use, DiskTold, Words, Fault, History, Leaf, FileNames, file_name, Genesis, RingFile, Past, SessionFault, IsAttended}
+use Rattle.sporc_clients.proofs.Common.{NotAttended, begin_with, Wanted, IsMemberFault, SayMember, ClientOutcome, ClientUse, names_of, File, SaveOutcome, LmsPrivate, IsDiskOf}
+use Rattle.sporc_outside.specs.Files.{ChangesFile, with_file}
 use Rattle.sporc_files.specs.declared.fault.Fault.TheVariants as faults
 use Rattle.sporc_files.specs.Reading.{IsFileFault, SaysFileIfThere, any_bytes}
+use Rattle.sporc_clients.specs.Concluding.{history_bytes}
 use Rattle.sporc_clients.specs.declared.member_files.MemberFiles.{MemberFiles}
 
--- the disk was not lent by a folder whose count of faults had risen before
-lend_later : (told : Option (List NamedFile)) (low mid high : ℕ) (names : FileNames) (device : Device) (fault : Fault) → low ≤ mid
-    → IsLendFault told mid high names device fault → IsLendFault told low high names device fault
-lend_later told low mid high names device faults.Memory more any = tt
-lend_later told low mid high names device (faults.Missing f) more why = why
-lend_later told low mid high names device (faults.TooLong f) more why = why
-lend_later told low mid high names device faults.Outside more rose = omega (arith, rose, more)
-lend_later told low mid high names device fault more never = absurd never
-
 -- with other words for its names, its files, and the count of the member's editors
-module _ (told now : Option (List NamedFile)) (names : FileNames) (words : Words) (same : now ≡ told) (named : names ≡ names_of words) where
-  pub lend_fault : (low mid high : ℕ) (fault : Fault) → low ≤ mid → IsLendFault now mid high names words.device fault → IsLendFault told low high (names_of words) words.device fault
-  lend_fault low mid high fault more why =
-      lend_later told low mid high (names_of words) words.device fault more
-      (subst (λ (n : FileNames). IsLendFault told mid high n words.device fault) named
-      (subst (λ (o : Option (List NamedFile)). IsLendFault o mid high names words.device fault) same why))
-
-  pub disk_of : (stored : Option (List ℕ)) → IsDiskOf now (file_name names (Leaf words.device)) stored → IsDiskOf told (file_name (names_of words) (Leaf words.device)) stored
-  disk_of stored is =
+module _ (names : FileNames) (words : Words) (named : names ≡ names_of words) where
+  pub disk_of : (told now : Option (List NamedFile)) (stored : Option (List ℕ)) → now ≡ told → IsDiskOf now (file_name names (Leaf words.device)) stored
+      → IsDiskOf told (file_name (names_of words) (Leaf words.device)) stored
+  disk_of told now stored same is =
       subst (λ (n : FileNames). IsDiskOf told (file_name n (Leaf words.device)) stored) named
       (subst (λ (o : Option (List NamedFile)). IsDiskOf o (file_name names (Leaf words.device)) stored) same is)
 
-module _ (told : Option (List NamedFile)) (names : FileNames) (words : Words) (named : names ≡ names_of words) where
-  pub member_fault : (low high : ℕ) (fault : Fault) → IsMemberFault told low high names words.device fault → IsMemberFault told low high (names_of words) words.device fault
-  member_fault low high fault why = subst (λ (n : FileNames). IsMemberFault told low high n words.device fault) named why
+  pub member_fault : (folder : Use FolderTold) (fault : Fault) → IsMemberFault folder names words.device fault → IsMemberFault folder (names_of words) words.device fault
+  member_fault folder fault why = subst (λ (n : FileNames). IsMemberFault folder n words.device fault) named why
 
+  pub file_fault : (file : File) (folder : Use FolderTold) (fault : Fault) → IsFileFault any_bytes folder names file fault → IsFileFault any_bytes folder (names_of words) file fault
+  file_fault file folder fault why = subst (λ (n : FileNames). IsFileFault any_bytes folder n file fault) named why
+
+module _ (told : Option (List NamedFile)) (names : FileNames) (words : Words) (named : names ≡ names_of words) where
   pub member_says : (count : ℕ) (m : MemberFiles) → count ≡ length words.scripts → SayMember told names words.device count m
       → SayMember told (names_of words) words.device (length words.scripts) m
   member_says count m all say =
       subst (λ (n : ℕ). SayMember told (names_of words) words.device n m) all
       (subst (λ (n : FileNames). SayMember told n words.device count m) named say)
-
-  pub history_fault : (low high : ℕ) (fault : Fault) → IsFileFault any_bytes told low high names (History words.device) fault
-      → IsFileFault any_bytes told low high (names_of words) (History words.device) fault
-  history_fault low high fault why = subst (λ (n : FileNames). IsFileFault any_bytes told low high n (History words.device) fault) named why
 
   pub history_says : (history : Option (List ℕ)) → SaysFileIfThere any_bytes told (file_name names (History words.device)) history
       → SaysFileIfThere any_bytes told (file_name (names_of words) (History words.device)) history
@@ -73,21 +60,18 @@ module _ (genesis : Genesis) (device : Device) (ring : RingFile) (address told :
   pub not_attended_at : (fault : Fault) → NotAttended (begin_with genesis device ring told) history net fault → NotAttended (begin_with genesis device ring address) history net fault
   not_attended_at fault why = subst (λ (a : List ℕ). NotAttended (begin_with genesis device ring a) history net fault) same why
 
--- what was saved by a folder whose count of faults had risen before
-saved_later : (past : Past) (name : List ℕ) (told new : Option (List NamedFile)) (low mid high : ℕ) (result : Result ⊤ Fault) → low ≤ mid
-    → SaveOutcome past name (record { before = told; after = new; faults_before = mid; faults_after = high }) result
-    → SaveOutcome past name (record { before = told; after = new; faults_before = low; faults_after = high }) result
-saved_later past name told new low mid high (Err faults.Outside) more (rose, changes) = (omega (arith, rose, more), changes)
-saved_later past name told new low mid high (Ok done) more is = is
-saved_later past name told new low mid high (Err faults.FullFile) more is = is
-saved_later past name told new low mid high (Err faults.Memory) more is = is
-saved_later past name told new low mid high (Err fault) more never = absurd never
+-- what was saved in a part of a use of the folder, which went on to its end
+saved_within : (past : Past) (name : List ℕ) (whole : Use FolderTold) (mid : FolderTold) (result : Result ⊤ Fault) → mid.files ≡ whole.before.files → whole.before.faults ≤ mid.faults
+    → SaveOutcome past name (record { before = mid; after = whole.after }) result → SaveOutcome past name whole result
+saved_within past name whole mid (Err faults.Outside) same more (rose, changes) =
+    (omega (arith, rose, more), subst (λ (o : Option (List NamedFile)). ChangesFile o whole.after.files name) same changes)
+saved_within past name whole mid (Ok done) same more is = is ∙ ap (option_map (λ old. with_file old name (history_bytes past))) same
+saved_within past name whole mid (Err faults.FullFile) same more (long, is) = (long, is ∙ same)
+saved_within past name whole mid (Err faults.Memory) same more is = is ∙ same
+saved_within past name whole mid (Err fault) same more never = absurd never
 
--- with other words for its name and its files
-pub saved_as : (past : Past) (name shown : List ℕ) (told now new : Option (List NamedFile)) (low mid high : ℕ) (result : Result ⊤ Fault) → shown ≡ name → now ≡ told → low ≤ mid
-    → SaveOutcome past shown (record { before = now; after = new; faults_before = mid; faults_after = high }) result
-    → SaveOutcome past name (record { before = told; after = new; faults_before = low; faults_after = high }) result
-saved_as past name shown told now new low mid high result called same more is =
-    saved_later past name told new low mid high result more
-    (subst (λ (n : List ℕ). SaveOutcome past n (record { before = told; after = new; faults_before = mid; faults_after = high }) result) called
-    (subst (λ (o : Option (List NamedFile)). SaveOutcome past shown (record { before = o; after = new; faults_before = mid; faults_after = high }) result) same is))
+-- with other words for its name
+pub saved_as : (past : Past) (name shown : List ℕ) (whole : Use FolderTold) (mid : FolderTold) (result : Result ⊤ Fault) → shown ≡ name → mid.files ≡ whole.before.files → whole.before.faults ≤ mid.faults
+    → SaveOutcome past shown (record { before = mid; after = whole.after }) result → SaveOutcome past name whole result
+saved_as past name shown whole mid result called same more is =
+    subst (λ (n : List ℕ). SaveOutcome past n whole result) called (saved_within past shown whole mid result same more is)

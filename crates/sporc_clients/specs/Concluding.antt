@@ -1,5 +1,5 @@
 -- What is saved and printed once a session has ended, and what stands of the leaf file.
-use Rattle.std.specs.Prelude.{◌≡◌, ◌+◌, ◌<◌, ◌≤◌, ℕ, List, length, Option, option_map, Result, Ok}
+use Rattle.std.specs.Prelude.{◌≡◌, ◌+◌, ◌<◌, ◌≤◌, ℕ, List, length, option_map, Result, Ok}
 use Rattle.std.specs.Prelude.{Err, ⊤}
 use Rattle.std.specs.Io.KnownBytes.{Appends}
 use Rattle.lms_leaf.specs.LeafFile.{ArePassed, AreTaken}
@@ -10,28 +10,12 @@ use Rattle.sporc_outside.specs.Files.{ChangesFile, with_file}
 use Rattle.sporc_outside.specs.Uses.{Use}
 use Rattle.sporc_outside.specs.Writing.{AppendsPrefix}
 use Rattle.sporc_outside.specs.declared.file_fault.TheConstants.{MAX_FILE}
-use Rattle.sporc_outside.specs.declared.named_file.NamedFile.{NamedFile}
 use Rattle.sporc_outside.specs.Streams.{IsUnwritten, StreamTold}
 use Rattle.sporc_shared.specs.Items.{Past, client_of}
 use Rattle.sporc_store.specs.SavedFile.{saved_bytes}
 use Rattle.sporc_files.specs.declared.fault.Fault.{Fault}
 use Rattle.sporc_files.specs.declared.fault.Fault.TheVariants as faults
 use Rattle.sporc_clients.specs.Report.{report_of}
-
--- a folder's files, where it tells them, and its count of faults, before and after
-pub record FilesUse : Type 0 where
-  pub before : Option (List NamedFile)
-  pub after : Option (List NamedFile)
-  pub faults_before : ℕ
-  pub faults_after : ℕ
-
-abbrev pub files_use : Use FolderTold → FilesUse
-files_use folder = record {
-  before = folder.before.files;
-  after = folder.after.files;
-  faults_before = folder.before.faults;
-  faults_after = folder.after.faults;
-}
 
 -- the file of a client's history
 abbrev pub history_bytes : Past → List ℕ
@@ -40,15 +24,15 @@ history_bytes past = saved_bytes past.opening.genesis.document (client_of past).
 -- What was saved of a client, whatever its session came to: all its entries, as the file with this
 -- name, and nothing else. Or a call of the folder failed, and anything may stand there; or nothing
 -- was written, since the file would be too long, or since memory ran out as its bytes were made
-abbrev pub SaveOutcome : Past → List ℕ → FilesUse → Result ⊤ Fault → Type 0
-SaveOutcome past name files (Ok done) =
-    files.after ≡ option_map (λ old. with_file old name (history_bytes past)) files.before
-SaveOutcome past name files (Err faults.Outside) =
-    Rose files.faults_before files.faults_after × ChangesFile files.before files.after name
-SaveOutcome past name files (Err faults.FullFile) =
-    (MAX_FILE < length (history_bytes past)) × (files.after ≡ files.before)
-SaveOutcome past name files (Err faults.Memory) = files.after ≡ files.before
-SaveOutcome past name files (Err fault) = ⊥
+abbrev pub SaveOutcome : Past → List ℕ → Use FolderTold → Result ⊤ Fault → Type 0
+SaveOutcome past name folder (Ok done) = folder.after.files
+    ≡ option_map (λ old. with_file old name (history_bytes past)) folder.before.files
+SaveOutcome past name folder (Err faults.Outside) = Rose folder.before.faults folder.after.faults
+    × ChangesFile folder.before.files folder.after.files name
+SaveOutcome past name folder (Err faults.FullFile) =
+    (MAX_FILE < length (history_bytes past)) × (folder.after.files ≡ folder.before.files)
+SaveOutcome past name folder (Err faults.Memory) = folder.after.files ≡ folder.before.files
+SaveOutcome past name folder (Err fault) = ⊥
 
 -- What was printed of a client, whatever its session and its saving came to: journal and report,
 -- and nothing else. Or a call of the sink failed behind a prefix of them; or memory ran out as they

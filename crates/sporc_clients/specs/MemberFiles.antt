@@ -1,6 +1,8 @@
 -- What the files of a member's device say before a session.
 use Rattle.std.specs.Prelude.{◌≡◌, ◌≤◌, ℕ, ◌+◌, List, [], ◌∷◌, length, map, Option, ⊤}
 use Rattle.sporc_outside.specs.Files.{HasFile}
+use Rattle.sporc_outside.specs.Folders.{FolderTold}
+use Rattle.sporc_outside.specs.Uses.{Use}
 use Rattle.sporc_outside.specs.declared.file_fault.TheConstants.{MAX_FILE}
 use Rattle.sporc_outside.specs.declared.named_file.NamedFile.{NamedFile}
 use Rattle.lms_tree.specs.LmsPrivate.{LmsPrivate}
@@ -39,14 +41,15 @@ SayScripts files names editor (script ∷ scripts) =
     × SayScripts files names (editor + 1) scripts
 
 -- why the script of an editor was not read: as any file, or a line is the first outside the grammar
-pub data IsScriptFault (files : Option (List NamedFile)) (before after : ℕ) (names : FileNames)
-    (editor : ℕ) (fault : Fault) : Type 0 where
-  unread : IsFileFault any_bytes files before after names (Script editor) fault
-      → IsScriptFault files before after names editor fault
+pub data IsScriptFault (folder : Use FolderTold) (names : FileNames) (editor : ℕ)
+    (fault : Fault) : Type 0 where
+  unread : IsFileFault any_bytes folder names (Script editor) fault
+      → IsScriptFault folder names editor fault
   no_script : (text : List ℕ) (line : ℕ) → length text ≤ MAX_FILE
-      → HasFile files (file_name names (Script editor)) text → IsEditorFault text line
-      → fault ≡ faults.EditorLine editor line → IsScriptFault files before after names editor fault
-  out_of_memory : fault ≡ faults.Memory → IsScriptFault files before after names editor fault
+      → HasFile folder.before.files (file_name names (Script editor)) text
+      → IsEditorFault text line → fault ≡ faults.EditorLine editor line
+      → IsScriptFault folder names editor fault
+  out_of_memory : fault ≡ faults.Memory → IsScriptFault folder names editor fault
 
 -- those of so many editors
 pub record SayAllScripts (files : Option (List NamedFile)) (names : FileNames) (count : ℕ)
@@ -55,11 +58,11 @@ pub record SayAllScripts (files : Option (List NamedFile)) (names : FileNames) (
   pub each : SayScripts files names 1 scripts
 
 -- the first that was not read, with those before it
-pub record IsFirstScriptFault (files : Option (List NamedFile)) (before after : ℕ)
-    (names : FileNames) (fault : Fault) : Type 0 where
+pub record IsFirstScriptFault (folder : Use FolderTold) (names : FileNames)
+    (fault : Fault) : Type 0 where
   pub read : List (List EditorLine)
-  pub each : SayScripts files names 1 read
-  pub fault_is : IsScriptFault files before after names (length read + 1) fault
+  pub each : SayScripts folder.before.files names 1 read
+  pub fault_is : IsScriptFault folder names (length read + 1) fault
 
 -- ---- the files of a device
 
@@ -85,19 +88,20 @@ pub record SayGenesisAndKey (files : Option (List NamedFile)) (names : FileNames
       (file_name names (Key device)) key
 
 -- the first file that was not read, behind those before it
-pub data IsMemberFault (files : Option (List NamedFile)) (before after : ℕ) (names : FileNames)
-    (device : Device) (fault : Fault) : Type 0 where
-  no_genesis : IsFileFault genesis_file files before after names GenesisFile fault
-      → IsMemberFault files before after names device fault
-  no_key : {genesis : Genesis} → SaysFile genesis_file files (file_name names GenesisFile) genesis
-      → IsFileFault (own_key_file genesis.founders device) files before after names
-      (Key device) fault → IsMemberFault files before after names device fault
-  no_ring : {genesis : Genesis} {key : LmsPrivate} → SayGenesisAndKey files names device genesis key
-      → IsFileFault (ring_file_of_member device.member) files before after names
-      (Ring device.member) fault → IsMemberFault files before after names device fault
+pub data IsMemberFault (folder : Use FolderTold) (names : FileNames) (device : Device)
+    (fault : Fault) : Type 0 where
+  no_genesis : IsFileFault genesis_file folder names GenesisFile fault
+      → IsMemberFault folder names device fault
+  no_key : {genesis : Genesis}
+      → SaysFile genesis_file folder.before.files (file_name names GenesisFile) genesis
+      → IsFileFault (own_key_file genesis.founders device) folder names (Key device) fault
+      → IsMemberFault folder names device fault
+  no_ring : {genesis : Genesis} {key : LmsPrivate}
+      → SayGenesisAndKey folder.before.files names device genesis key
+      → IsFileFault (ring_file_of_member device.member) folder names (Ring device.member) fault
+      → IsMemberFault folder names device fault
   no_scripts : {genesis : Genesis} {key : LmsPrivate} {ring : RingFile}
-      → SayGenesisAndKey files names device genesis key
-      → SaysFile (ring_file_of_member device.member) files
+      → SayGenesisAndKey folder.before.files names device genesis key
+      → SaysFile (ring_file_of_member device.member) folder.before.files
       (file_name names (Ring device.member)) ring
-      → IsFirstScriptFault files before after names fault
-      → IsMemberFault files before after names device fault
+      → IsFirstScriptFault folder names fault → IsMemberFault folder names device fault

@@ -6,7 +6,7 @@ use Rattle.lms_tree.specs.LmsType.{height_of}
 use Rattle.sporc_member.specs.declared.device.Device.{Device}
 use Rattle.sporc_outside.specs.Counts.{count_of_both}
 use Rattle.sporc_outside.specs.Files.{IsDiskOf, TakesBack}
-use Rattle.sporc_outside.specs.Uses.{Use}
+use Rattle.sporc_outside.specs.Uses.{Use, use_of}
 use Rattle.sporc_outside.specs.Streams.{IsUnwritten, StreamTold}
 use Rattle.sporc_outside.specs.Folders.{FolderTold}
 use Rattle.sporc_outside.specs.Chances.{ChanceTold}
@@ -22,13 +22,12 @@ use Rattle.sporc_files.specs.Names.{FileNames, file_name}
 use Rattle.sporc_files.specs.Reading.{IsFileFault, SaysFileIfThere, any_bytes}
 use Rattle.sporc_clients.specs.Attending.{IsAttended, NotAttended, Signs}
 use Rattle.sporc_clients.specs.Counts.{CountedIfFailed, CountsAround, RoseIfFailed, counts_around}
-use Rattle.sporc_clients.specs.Concluding.{FilesUse, LeavesAreTaken, PrintOutcome, SaveOutcome}
-use Rattle.sporc_clients.specs.Concluding.{files_use}
+use Rattle.sporc_clients.specs.Concluding.{LeavesAreTaken, PrintOutcome, SaveOutcome}
 use Rattle.sporc_clients.specs.Opening.{Begin, begin_with}
 use Rattle.sporc_clients.specs.declared.session.Wanted.{Wanted}
 use Rattle.sporc_clients.specs.declared.member_files.MemberFiles.{MemberFiles}
 use Rattle.sporc_clients.specs.Causes.{ended}
-use Rattle.sporc_clients.specs.LeafFile.{IsLeafFileFault, IsLendFault, IsOpened, KeepsPassed}
+use Rattle.sporc_clients.specs.LeafFile.{IsLeafFileFault, IsOpened, KeepsPassed}
 use Rattle.sporc_clients.specs.MemberFiles.{IsMemberFault, SayMember, own_files}
 
 -- ---- what a call found and left
@@ -53,10 +52,6 @@ pub record IsUntouched (did : ClientUse) : Type 0 where
 -- the counts of its links and of its chance
 abbrev pub counts_of : ClientUse → CountsAround
 counts_of did = counts_around did.net.before.link_faults did.net.after.link_faults did.chance
-
--- its files
-abbrev pub files_of : ClientUse → FilesUse
-files_of did = files_use did.folder
 
 -- ---- what it was asked for
 
@@ -107,7 +102,7 @@ module _ {D : Type 0} (disks : D → DiskTold) (words : Words) (m : MemberFiles)
     pub disk : CountedIfFailed (disks last).faults session
     pub saved : Result ⊤ Fault
     pub saves : SaveOutcome past (file_name (names_of words) (History words.device))
-        (files_of did) saved
+        did.folder saved
     pub printed : Result ⊤ Fault
     pub prints : PrintOutcome past did.out printed
     pub taken : LeavesAreTaken (disk_images (disks last)) past
@@ -116,13 +111,12 @@ module _ {D : Type 0} (disks : D → DiskTold) (words : Words) (m : MemberFiles)
   -- why no session began: the leaf file is none of the key's; behind its opening, the saved history
   -- was not read; or the client could not go on with it
   pub data NotWorked (first last : D) (fault : Fault) : Type 0 where
-    no_leaves : IsLeafFileFault (disks first).stored (disks first).faults
-        (disks last).faults words.device (height_of m.tree.lms) fault
+    no_leaves : IsLeafFileFault
+        (use_of disks first last) words.device (height_of m.tree.lms) fault
         → did.net.after ≡ did.net.before → NotWorked first last fault
     no_history : {leaves : LeavesModel D}
         → IsOpened (disks first).stored (disks leaves.disk).stored leaves
-        → IsFileFault any_bytes did.folder.before.files did.folder.before.faults
-        did.folder.after.faults (names_of words) (History words.device) fault
+        → IsFileFault any_bytes did.folder (names_of words) (History words.device) fault
         → did.net.after ≡ did.net.before → NotWorked first last fault
     no_session : {leaves : LeavesModel D} {history : Option (List ℕ)} → IsReady first leaves history
         → NotAttended (begin_of words m) history did.net fault → NotWorked first last fault
@@ -164,12 +158,10 @@ module _ {D : Type 0} (disks : D → DiskTold) (words : Words) (did : ClientUse)
   -- disk of its leaf file was not lent, or the member worked over that disk
   pub data ClientOutcome : Result ⊤ Fault → Type 0 where
     no_member : {fault : Fault}
-        → IsMemberFault did.folder.before.files did.folder.before.faults did.folder.after.faults
-        (names_of words) words.device fault
+        → IsMemberFault did.folder (names_of words) words.device fault
         → did.net.after ≡ did.net.before → IsUntouched did → ClientOutcome (Err fault)
     no_disk : {fault : Fault} (m : MemberFiles) → Say m
-        → IsLendFault did.folder.before.files did.folder.before.faults did.folder.after.faults
-        (names_of words) words.device fault
+        → IsFileFault any_bytes did.folder (names_of words) (Leaf words.device) fault
         → did.net.after ≡ did.net.before → IsUntouched did → ClientOutcome (Err fault)
     over_disk : {answer : Result ⊤ Fault} (m : MemberFiles) (first last : D)
         (during : Use FolderTold) → Say m → LendsDisk disks

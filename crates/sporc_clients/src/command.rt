@@ -11,7 +11,7 @@ ghost use Rattle.sporc_script.specs.declared.limits.TheConstants.{MAX_EDITORS};
 ghost use Rattle.sporc_files.specs.declared.file.File.{File};
 ghost use Rattle.sporc_files.specs.Names.{file_name};
 ghost use Rattle.sporc_files.specs.Reading.{IsFileFault, SaysFileIfThere, any_bytes};
-ghost use Rattle.sporc_files.specs.Uses.{AsksAtMost, AsksOnly};
+ghost use Rattle.sporc_files.specs.Uses.{AsksAtMost, AsksOnly, OnlyReads};
 ghost use Rattle.sporc_clients.specs.Opening.{links_for_hints};
 ghost use Rattle.sporc_clients.specs.Outcome.{ClientOutcome, DiskOutcome, client_files, names_of};
 ghost use Rattle.sporc_clients.specs.Outcome.{uses};
@@ -19,12 +19,12 @@ ghost use Rattle.sporc_clients.specs.Outcome.{uses};
 use crate::attending::{Member, attend};
 use crate::causes::end;
 use crate::concluding::{Concluded, conclude};
-use crate::leaf_file::{lend_disk, open_signer};
+use crate::leaf_file::open_signer;
 use crate::member_files::{MemberFiles, read_member};
 use crate::platform::Platform;
 use crate::session::Wanted;
 use lms_sign::Signer;
-use sporc_files::{Fault, File, Names, read_if_there};
+use sporc_files::{Fault, File, Names, lend_disk, read_if_there};
 use sporc_member::Device;
 use sporc_outside::{Chance, Counted, Dial, Folder, Gate, LeafDisk, Sink};
 use sporc_words::Client as Words;
@@ -80,10 +80,11 @@ where
     let names = names_of(words);
     let editors = words.scripts.as_slice().len() as u32;
     let member = read_member(platform.rt, alloc, files, &names, words.device, editors)?;
-    let disk = lend_disk(alloc, files, &names, words.device)?;
+    let disk = lend_disk(alloc, files, &names, File::Leaf(words.device))?;
     let own = OwnFiles { says: member, disk };
     let (result, disk) = with_disk(platform, words, own, out, files, net, chance);
-    // No call: that the count of the folder can be told here is what `files_kept` rests on.
+    // Not called for its answer: that the folder's count can be told here is what `files_kept`
+    // rests on.
     let _faults = files.faults();
     files.take_back(disk);
     result
@@ -137,18 +138,17 @@ where
         editors,
     } = says;
     let alloc = platform.alloc;
-    let device = words.device;
-    let signer = match open_signer(alloc, disk, tree, device) {
+    let signer = match open_signer(alloc, disk, tree, words.device) {
         Ok(signer) => signer,
         Err((fault, disk)) => return (Err(fault), disk),
     };
-    let (saved, name) = match history_of(alloc, files, &names_of(words), device) {
+    let (saved, name) = match history_of(alloc, files, &names_of(words), words.device) {
         Ok(both) => both,
         Err(fault) => return (Err(fault), signer.close()),
     };
     let member = Member {
         genesis,
-        device,
+        device: words.device,
         ring,
         saved,
     };
@@ -190,13 +190,10 @@ fn history_of<F: Folder>(
         (file_name names.now (File.History device)) (option_map (λ bytes. bytes.items) both.0)) }
     ensures name { IfOk result
         (λ both. string_bytes both.1 ≡ file_name names.now (File.History device)) }
-    ensures err { IfErr result (IsFileFault any_bytes (F.told files.old).files
-        (F.told files.old).faults (F.told files.new).faults names.now (File.History device)) }
-    ensures files { (F.told files.new).files ≡ (F.told files.old).files }
-    ensures lent { (F.told files.new).lent ≡ (F.told files.old).lent }
-    ensures may_ask { AsksOnly (file_name names.now (File.History device) ∷ [])
-        (F.told files.old).asked (F.told files.new).asked }
-    ensures kept { (F.told files.old).faults ≤ (F.told files.new).faults }
+    ensures err { IfErr result (IsFileFault any_bytes
+        (use_of F.told files.old files.new) names.now (File.History device)) }
+    ensures reads { OnlyReads names.now (File.History device ∷ [])
+        (use_of F.told files.old files.new) }
 {
     let file = File::History(device);
     let saved = read_if_there(alloc, files, names, file)?;

@@ -7,7 +7,6 @@ ghost use Rattle.sporc_outside.specs.Uses.{use_of};
 ghost use Rattle.sporc_outside.specs.LeafDisk.{disk_images};
 ghost use Rattle.sporc_shared.specs.Items.{past_of};
 ghost use Rattle.sporc_clients.specs.Concluding.{LeavesAreTaken, PrintOutcome, SaveOutcome};
-ghost use Rattle.sporc_clients.specs.Concluding.{files_use};
 
 use crate::reporting::report;
 use crate::session::Ended;
@@ -45,7 +44,7 @@ pub(crate) fn conclude<D: LeafDisk, O: Sink, F: Folder>(
         (leaves_of ended.client.log) }
     ensures session { result.session ≡ ended.result }
     ensures saved { SaveOutcome (past_of ended.client) name.now
-        (files_use (use_of F.told files.old files.new)) result.saved }
+        (use_of F.told files.old files.new) result.saved }
     ensures printed { PrintOutcome (past_of ended.client)
         (use_of O.told out.old out.new) result.printed }
     ensures disk { result.disk ≡ ended.client.leaves.disk }
@@ -75,12 +74,12 @@ fn save_history<D: LeafDisk, F: Folder>(
     name: &str,
 ) -> Result<(), Fault>
     ensures saved { SaveOutcome (past_of client.now) name.now
-        (files_use (use_of F.told files.old files.new)) result }
+        (use_of F.told files.old files.new) result }
     ensures lent { (F.told files.new).lent ≡ (F.told files.old).lent }
     ensures may_ask { MayAppend (F.told files.old).asked (F.told files.new).asked name.now }
     ensures kept { (F.told files.old).faults ≤ (F.told files.new).faults }
 {
-    // No call for its answer: that a client has few entries is what the saving of them asks for.
+    // Not called for its answer: that a client has few entries is what the saving of them asks for.
     let _few = client.heads().len();
     let bytes = save(alloc, client.document(), client.entries())?;
     files.write_file(name, bytes.as_slice())?;

@@ -34,7 +34,8 @@ pub(crate) fn fetch_entries<R: Wait, N: Dial>(
     ensures kept { (N.told net.old).faults ≤ (N.told net.new).faults }
     ensures links_kept { (N.told net.old).link_faults ≤ (N.told net.new).link_faults }
 {
-    // No call for its answer: that the links' count can be told here is what `links_kept` rests on.
+    // Not called for its answer: that the links' count can be told here is what `links_kept` rests
+    // on.
     let _faults = net.link_faults();
     let Ok(mut link) = net.connect(rt, address) else {
         return Err(Fault::Outside);

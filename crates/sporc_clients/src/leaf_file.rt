@@ -1,53 +1,19 @@
 //! The leaf file of a device.
 
-ghost use Rattle.std.specs.Prelude.{◌≡◌, ◌≤◌, [], ◌∷◌, IfErr, IfOk, OnErr, OnOk, option_map};
+ghost use Rattle.std.specs.Prelude.{◌≡◌, IfErr, IfOk};
 ghost use Rattle.lms_leaf.specs.LeafFile.{IsLeafHeight};
 ghost use Rattle.lms_tree.specs.LmsType.{height_of};
-ghost use Rattle.sporc_outside.specs.Files.{IsDiskOf};
 ghost use Rattle.sporc_outside.specs.LeafDisk.{disk_images};
-ghost use Rattle.sporc_files.specs.declared.file.File.{File};
-ghost use Rattle.sporc_files.specs.Names.{file_name};
-ghost use Rattle.sporc_files.specs.Uses.{AsksOnly};
-ghost use Rattle.sporc_clients.specs.LeafFile.{IsLeafFileFault, IsLendFault, IsOpened, KeepsPassed};
+ghost use Rattle.sporc_outside.specs.Uses.{use_of};
+ghost use Rattle.sporc_clients.specs.LeafFile.{IsLeafFileFault, IsOpened, KeepsPassed};
 
 use lms_leaf::{LeafOpenFault, Leaves};
 use lms_sign::Signer;
 use lms_tree::Tree;
-use sporc_files::{Fault, File, Names};
+use sporc_files::{Fault, File};
 use sporc_member::Device;
-use sporc_outside::{FileFault, Folder, LeafDisk};
+use sporc_outside::LeafDisk;
 use std::alloc::Global;
-
-/// The disk of a device's leaf file.
-pub(crate) fn lend_disk<F: Folder>(
-    alloc: Global,
-    files: &mut F,
-    names: &Names<'_>,
-    device: Device,
-) -> Result<F::Disk, Fault>
-    ensures ok { IfOk result (λ disk. IsDiskOf (F.told files.old).files
-        (file_name names.now (File.Leaf device)) (F.Disk.told disk).stored) }
-    ensures fresh { IfOk result (λ disk. (F.Disk.told disk).faults ≡ 0) }
-    ensures err { IfErr result (IsLendFault (F.told files.old).files (F.told files.old).faults
-        (F.told files.new).faults names.now device) }
-    ensures files { (F.told files.new).files ≡ (F.told files.old).files }
-    ensures lent { OnOk result ((F.told files.new).lent ≡ option_map
-        (λ lent. file_name names.now (File.Leaf device) ∷ lent) (F.told files.old).lent) }
-    ensures lent_unchanged { OnErr result ((F.told files.new).lent ≡ (F.told files.old).lent) }
-    ensures may_ask { AsksOnly (file_name names.now (File.Leaf device) ∷ [])
-        (F.told files.old).asked (F.told files.new).asked }
-    ensures kept { (F.told files.old).faults ≤ (F.told files.new).faults }
-{
-    let file = File::Leaf(device);
-    let name = file.name(alloc, names)?;
-    match files.leaf_disk(name.as_str()) {
-        Ok(disk) => Ok(disk),
-        Err(FileFault::Missing) => Err(Fault::Missing(file)),
-        Err(FileFault::Failed) => Err(Fault::Outside),
-        Err(FileFault::TooLong(_)) => Err(Fault::TooLong(file)),
-        Err(FileFault::Exists | FileFault::Memory) => unreachable!(),
-    }
-}
 
 /// The signer of a device over the disk of its leaf file. A disk of another length is malformed at
 /// its length.
@@ -64,8 +30,8 @@ pub(crate) fn open_signer<D: LeafDisk>(
     ensures key { IfOk result (λ signer. signer.key ≡ tree) }
     ensures passed { IfOk result (λ signer. KeepsPassed (disk_images (D.told disk))
         (disk_images (D.told signer.leaves.disk))) }
-    ensures err { IfErr result (λ e. IsLeafFileFault (D.told disk).stored (D.told disk).faults
-        (D.told e.1).faults device (height_of tree.lms) e.0) }
+    ensures err { IfErr result (λ e. IsLeafFileFault
+        (use_of D.told disk e.1) device (height_of tree.lms) e.0) }
     ensures unwritten { IfErr result (λ e. (D.told e.1).stored ≡ (D.told disk).stored) }
     ensures kept_back { IfErr result
         (λ e. KeepsPassed (disk_images (D.told disk)) (disk_images (D.told e.1))) }

@@ -1,12 +1,13 @@
 //! The files that say who a member's device is and what its editors do.
 
-ghost use Rattle.std.specs.Prelude.{◌≡◌, ◌≤◌, [], ◌∷◌, map, IfErr, IfOk};
+ghost use Rattle.std.specs.Prelude.{[], ◌∷◌, IfErr, IfOk};
 ghost use Rattle.lms_leaf.specs.LeafFile.{IsLeafHeight};
 ghost use Rattle.lms_tree.specs.LmsType.{height_of};
+ghost use Rattle.sporc_outside.specs.Uses.{use_of};
 ghost use Rattle.sporc_entry.specs.Genesis.{IsGenesis};
 ghost use Rattle.sporc_files.specs.declared.file.File.{File};
 ghost use Rattle.sporc_files.specs.Names.{file_name};
-ghost use Rattle.sporc_files.specs.Uses.{AsksOnly};
+ghost use Rattle.sporc_files.specs.Uses.{OnlyReads};
 ghost use Rattle.sporc_clients.specs.MemberFiles.{IsFirstScriptFault, IsMemberFault, IsScriptFault};
 ghost use Rattle.sporc_clients.specs.MemberFiles.{SayAllScripts, SayMember, SaysScript, own_files};
 ghost use Rattle.sporc_clients.specs.MemberFiles.{script_files};
@@ -47,13 +48,10 @@ pub fn read_member<R: Threads + Sync, F: Folder>(
     ensures ok { IfOk result (SayMember (F.told files.old).files names.now device editors) }
     ensures genesis { IfOk result (λ m. IsGenesis m.genesis) }
     ensures height { IfOk result (λ m. IsLeafHeight (height_of m.tree.lms)) }
-    ensures err { IfErr result (IsMemberFault (F.told files.old).files (F.told files.old).faults
-        (F.told files.new).faults names.now device) }
-    ensures files { (F.told files.new).files ≡ (F.told files.old).files }
-    ensures lent { (F.told files.new).lent ≡ (F.told files.old).lent }
-    ensures may_ask { AsksOnly (map (file_name names.now) (own_files device editors))
-        (F.told files.old).asked (F.told files.new).asked }
-    ensures kept { (F.told files.old).faults ≤ (F.told files.new).faults }
+    ensures err { IfErr result
+        (IsMemberFault (use_of F.told files.old files.new) names.now device) }
+    ensures reads { OnlyReads names.now (own_files device editors)
+        (use_of F.told files.old files.new) }
 {
     let genesis = read_genesis_file(alloc, files, names)?;
     let tree = read_own_key(rt, alloc, files, names, device, &genesis)?;
@@ -76,13 +74,9 @@ fn read_scripts<F: Folder>(
 ) -> Result<Vec<EditorScript>, Fault>
     ensures ok { IfOk result
         (λ scripts. SayAllScripts (F.told files.old).files names.now editors scripts.items) }
-    ensures err { IfErr result (IsFirstScriptFault (F.told files.old).files
-        (F.told files.old).faults (F.told files.new).faults names.now) }
-    ensures files { (F.told files.new).files ≡ (F.told files.old).files }
-    ensures lent { (F.told files.new).lent ≡ (F.told files.old).lent }
-    ensures may_ask { AsksOnly (map (file_name names.now) (script_files editors))
-        (F.told files.old).asked (F.told files.new).asked }
-    ensures kept { (F.told files.old).faults ≤ (F.told files.new).faults }
+    ensures err { IfErr result
+        (IsFirstScriptFault (use_of F.told files.old files.new) names.now) }
+    ensures reads { OnlyReads names.now (script_files editors) (use_of F.told files.old files.new) }
 {
     let mut scripts = Vec::new(alloc);
     for read in 0..editors {
@@ -101,13 +95,10 @@ fn read_script<F: Folder>(
 ) -> Result<EditorScript, Fault>
     ensures ok { IfOk result
         (SaysScript (F.told files.old).files (file_name names.now (File.Script editor))) }
-    ensures err { IfErr result (IsScriptFault (F.told files.old).files (F.told files.old).faults
-        (F.told files.new).faults names.now editor) }
-    ensures files { (F.told files.new).files ≡ (F.told files.old).files }
-    ensures lent { (F.told files.new).lent ≡ (F.told files.old).lent }
-    ensures may_ask { AsksOnly (file_name names.now (File.Script editor) ∷ [])
-        (F.told files.old).asked (F.told files.new).asked }
-    ensures kept { (F.told files.old).faults ≤ (F.told files.new).faults }
+    ensures err { IfErr result
+        (IsScriptFault (use_of F.told files.old files.new) names.now editor) }
+    ensures reads { OnlyReads names.now (File.Script editor ∷ [])
+        (use_of F.told files.old files.new) }
 {
     let text = read_bytes(alloc, files, names, File::Script(editor))?;
     match read_editor(alloc, text.as_slice()) {

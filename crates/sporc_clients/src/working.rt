@@ -57,7 +57,8 @@ where
     ensures net_kept { (N.told net.old).faults ≤ (N.told net.new).faults }
     ensures links_kept { (N.told net.old).link_faults ≤ (N.told net.new).link_faults }
 {
-    // No call for its answer: that the links' count can be told here is what `links_kept` rests on.
+    // Not called for its answer: that the links' count can be told here is what `links_kept` rests
+    // on.
     let _faults = net.link_faults();
     let Ok(mut link) = net.connect(platform.rt, address) else {
         return Err((Fault::Outside, client));

@@ -12,7 +12,7 @@ use Rattle.sporc_commands.proofs.MayFound.{members_of, same_numbers}
 -- ---- one of many
 
 module _ (names : FileNames) where
-  key_among : (ps : List Participant) (i : ℕ) (d : Participant) → i < length ps → (name : List ℕ)
+  pub key_among : (ps : List Participant) (i : ℕ) (d : Participant) → i < length ps → (name : List ℕ)
       → Contains (map (file_name names) (key_read (get_or ps i d).member (get_or ps i d).standing)) name → Contains (map (file_name names) (keys_read ps)) name
   key_among [] i d within name is = absurd (omega (arith, within))
   key_among (p ∷ ps) zero d within name is =
@@ -22,13 +22,6 @@ module _ (names : FileNames) where
       subst (λ (all : List (List ℕ)). Contains all name) (sym (map-append (file_name names) (key_read p.member p.standing) (keys_read ps)))
       (Contains-append_right (map (file_name names) (key_read p.member p.standing)) (map (file_name names) (keys_read ps)) name
       (key_among ps i d (omega (arith, within)) name is))
-
-  -- a key file more
-  pub asks_key : (ps : List Participant) (i : ℕ) (d : Participant) (a b c : Option (List (List ℕ))) → i < length ps → AsksOnly (map (file_name names) (keys_read ps)) a b
-      → AsksOnly (map (file_name names) (key_read (get_or ps i d).member (get_or ps i d).standing)) b c → AsksOnly (map (file_name names) (keys_read ps)) a c
-  asks_key ps i d a b c within asked then =
-      AsksOnly-trans (map (file_name names) (keys_read ps)) a b c asked
-      (AsksOnly-among (map (file_name names) (key_read (get_or ps i d).member (get_or ps i d).standing)) (map (file_name names) (keys_read ps)) b c (key_among ps i d within) then)
 
   ring_among : (rings : List RingFile) (i : ℕ) (d : RingFile) → i < length rings → (name : List ℕ)
       → Contains (file_name names (files.Ring (get_or rings i d).member) ∷ []) name → Contains (names_in (map (ring_of_founding names) rings)) name

@@ -1,7 +1,7 @@
 -- The names of this crate and of those below that many of its proofs cite, passed on from one place.
-pub use Rattle.sporc_files.proofs.Answering.{fails_first, tells_alone, tells_behind, tells_later}
+pub use Rattle.sporc_files.proofs.Answering.{fails_first, tells_alone, tells_behind}
 pub use Rattle.sporc_files.proofs.Asking.{AsksOnly-among, AsksOnly-none, AsksOnly-trans, asks_first, asks_then}
-pub use Rattle.sporc_files.proofs.FaultCases.{WriteCase, WriteFailed, WriteMemory, file_later, if_err, write_case}
+pub use Rattle.sporc_files.proofs.FaultCases.{IsPart, WriteCase, WriteFailed, WriteMemory, file_within, if_err, says_now, write_case}
 pub use Rattle.sporc_files.specs.Faults.{AnswersUnlessOutside, IsOutsideFault, whole}
 pub use Rattle.sporc_files.specs.Names.{FileNames, file_name, names_of_document}
 pub use Rattle.sporc_files.specs.Reading.{IsFileFault, SaysFile, any_bytes, genesis_file, key_file, own_key_file}

@@ -5,7 +5,8 @@ use Rattle.sporc_commands.proofs.Common.{checked_line, line_in, Examines, fails_
 use Rattle.std.specs.Io.KnownBytes.{Appends}
 use Rattle.sporc_outside.specs.Writing.{AppendsPrefix}
 use Rattle.sporc_files.specs.declared.fault.Fault.TheVariants as faults
-use Rattle.sporc_commands.specs.Uses.{OnlyReads, WritesLine}
+use Rattle.sporc_files.specs.Uses.{OnlyReads}
+use Rattle.sporc_commands.specs.Lines.{WritesLine}
 
 module _ {Y : Type 0} (Says : Y → List ℕ → Type 0) (folder : Use FolderTold) (out : Use StreamTold) (found : Result Y Fault) where
   -- nothing was found
@@ -58,7 +59,7 @@ module _ {Y : Type 0} (Says : Y → List ℕ → Type 0) (folder : Use FolderTol
 module _ {Y : Type 0} (Says : Y → List ℕ → Type 0) (made : CheckedLine → Result Y Fault) (names given : FileNames) (same : given ≡ names) (device : Device)
     (folder : Use FolderTold) (out : Use StreamTold) where
   abbrev pub Found : Result LineModel Fault → Type 0
-  Found result = FindsLine folder.before.files given device folder.before.faults folder.after.faults result
+  Found result = FindsLine folder given device result
 
   abbrev pub Does : Result (Unit {0}) Fault → Type 0
   Does r = Examines Says (λ content. line_in device content >>= made) names device folder out r

@@ -1,6 +1,6 @@
 -- Those who are named, one after another.
-use Rattle.std.proofs.Common.{◌≡◌, ℕ, suc, ◌+◌, ◌<◌, ◌≤◌, List, [], ◌∷◌, ◌++◌, length, take, drop, get_or, Option, sym, ap, ◌∙◌, subst, add-one}
-use Rattle.sporc_commands.proofs.Common.{take-append-drop, NamedFile, first_device, Named, Participant, Fault, FileNames, IsFileFault, key_file, file_later, AreNamed, FirstBadKey, IsNamed, Joiner}
+use Rattle.std.proofs.Common.{◌≡◌, ℕ, suc, ◌+◌, ◌<◌, List, [], ◌∷◌, ◌++◌, length, take, drop, get_or, Option, sym, ap, ◌∙◌, subst, add-one}
+use Rattle.sporc_commands.proofs.Common.{take-append-drop, NamedFile, Use, FolderTold, first_device, Named, Participant, Fault, FileNames, IsFileFault, IsPart, key_file, file_within, AreNamed, FirstBadKey, IsNamed, Joiner}
 use Rattle.std.proofs.Math.Seq.{drop-cons, take-suc}
 use Rattle.sporc_files.specs.declared.fault.Fault.TheVariants as faults
 use Rattle.sporc_files.specs.declared.file.File.TheVariants as files
@@ -18,10 +18,10 @@ one_more told names ps ns p n all one = absurd all
 pub around : {X : Type 0} (xs : List X) (i : ℕ) (d : X) → i < length xs → xs ≡ take i xs ++ (get_or xs i d ∷ drop (suc i) xs)
 around xs i d within = sym (ap (λ ys. take i xs ++ ys) (sym (drop-cons xs i d within)) ∙ take-append-drop i xs)
 
-pub first_bad : (told now : Option (List NamedFile)) (low mid high : ℕ) (names : FileNames) (all : List Participant) (i : ℕ) (d : Participant) (ns : List Named) (fault : Fault)
-    → i < length all → now ≡ told → low ≤ mid → AreNamed told names (take i all) ns
-    → IsFileFault (key_file (first_device (get_or all i d).member)) now mid high names (files.Key (first_device (get_or all i d).member)) fault → FirstBadKey told low high names all fault
-first_bad told now low mid high names all i d ns fault within same more read cause =
+pub first_bad : (whole part : Use FolderTold) (names : FileNames) (all : List Participant) (i : ℕ) (d : Participant) (ns : List Named) (fault : Fault) → i < length all
+    → AreNamed whole.before.files names (take i all) ns
+    → IsFileFault (key_file (first_device (get_or all i d).member)) part names (files.Key (first_device (get_or all i d).member)) fault → IsPart whole part → FirstBadKey whole names all fault
+first_bad whole part names all i d ns fault within read cause is_part =
     record {
       before = take i all;
       one = get_or all i d;
@@ -29,13 +29,13 @@ first_bad told now low mid high names all i d ns fault within same more read cau
       split = around all i d within;
       named = ns;
       read = read;
-      cause = file_later (key_file (first_device (get_or all i d).member)) told now low mid high names (files.Key (first_device (get_or all i d).member)) fault same more cause;
+      cause = file_within (key_file (first_device (get_or all i d).member)) whole part names (files.Key (first_device (get_or all i d).member)) fault cause is_part;
     }
 
 -- memory ran out after one was read
-pub no_memory : (told : Option (List NamedFile)) (low high : ℕ) (names : FileNames) (all : List Participant) (i : ℕ) (ns : List Named) → i < length all
-    → AreNamed told names (take i all) ns → FirstBadKey told low high names all faults.Memory
-no_memory told low high names all i ns within read =
+pub no_memory : (folder : Use FolderTold) (names : FileNames) (all : List Participant) (i : ℕ) (ns : List Named) → i < length all → AreNamed folder.before.files names (take i all) ns
+    → FirstBadKey folder names all faults.Memory
+no_memory folder names all i ns within read =
     let d : Participant = record { member = 0; standing = Joiner } in
     record { before = take i all; one = get_or all i d; behind = drop (suc i) all; split = around all i d within; named = ns; read = read; cause = tt }
 

@@ -4,6 +4,8 @@ use Rattle.std.specs.Prelude.{Result, Ok}
 use Rattle.std.specs.Fmt.{decimal}
 use Rattle.sporc_bytes.specs.Fields.{◌>>=◌}
 use Rattle.sporc_outside.specs.Counts.{Rose}
+use Rattle.sporc_outside.specs.Folders.{FolderTold}
+use Rattle.sporc_outside.specs.Uses.{Use}
 use Rattle.sporc_outside.specs.declared.named_file.NamedFile.{NamedFile}
 use Rattle.sporc_entry.specs.declared.genesis.Genesis.{Genesis}
 use Rattle.sporc_keys.specs.RingFile.{ring_file_of_member}
@@ -87,12 +89,12 @@ line_in device content = do
   history ← bytes_in (files.History device) content.history
   examined genesis device ring history
 
--- it was found in the files of a folder whose count of faults went from `before` to `after`
-abbrev pub FindsLine : Option (List NamedFile) → FileNames → Device → ℕ → ℕ
-    → Result LineModel Fault → Type 0
-FindsLine told names device before after result =
-    (content : CheckedFiles) × AreCheckedFiles told names device content
-    × AnswersUnlessOutside checked_line (Rose before after) result (line_in device content)
+-- it was found in the files of a folder
+abbrev pub FindsLine : Use FolderTold → FileNames → Device → Result LineModel Fault → Type 0
+FindsLine folder names device result =
+    (content : CheckedFiles) × AreCheckedFiles folder.before.files names device content
+    × AnswersUnlessOutside checked_line (Rose folder.before.faults folder.after.faults) result
+    (line_in device content)
 
 -- ---- `check`
 

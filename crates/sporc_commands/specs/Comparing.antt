@@ -3,6 +3,8 @@ use Rattle.std.specs.Prelude.{◌≡◌, ◌<◌, ℕ, List, length, slice_get, 
 use Rattle.std.specs.Global.{Vec}
 use Rattle.sporc_bytes.specs.Fields.{◌>>=◌}
 use Rattle.sporc_outside.specs.Counts.{Rose}
+use Rattle.sporc_outside.specs.Folders.{FolderTold}
+use Rattle.sporc_outside.specs.Uses.{Use}
 use Rattle.sporc_outside.specs.declared.named_file.NamedFile.{NamedFile}
 use Rattle.sporc_hash.specs.Chain.{chain}
 use Rattle.sporc_hash.specs.declared.verdict.Verdict.{Verdict}
@@ -56,13 +58,13 @@ pub record AreComparedFiles (told : Option (List NamedFile)) (names : FileNames)
 abbrev pub both_chains : Vec (List ℕ) × Vec (List ℕ) → Chains
 both_chains chains = record { first = values_of chains.0; second = values_of chains.1 }
 
--- the chains were found in the files of a folder whose count of faults went from `before` to
--- `after`
-abbrev pub FindsChains : Option (List NamedFile) → FileNames → Device → Device → ℕ → ℕ
+-- the chains were found in the files of a folder
+abbrev pub FindsChains : Use FolderTold → FileNames → Device → Device
     → Result (Vec (List ℕ) × Vec (List ℕ)) Fault → Type 0
-FindsChains told names m n before after result =
-    (content : ComparedFiles) × AreComparedFiles told names m n content
-    × AnswersUnlessOutside both_chains (Rose before after) result (chains_in m n content)
+FindsChains folder names m n result =
+    (content : ComparedFiles) × AreComparedFiles folder.before.files names m n content
+    × AnswersUnlessOutside both_chains (Rose folder.before.faults folder.after.faults) result
+    (chains_in m n content)
 
 -- two chains begin with one value
 pub record AreOfOneGenesis (a b : List (List ℕ)) : Type 0 where

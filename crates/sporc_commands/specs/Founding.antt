@@ -52,15 +52,15 @@ AreNamed told names [] (n ∷ ns) = ⊥
 AreNamed told names (p ∷ ps) [] = ⊥
 
 -- the key file of a founder is the first that does not say a key, for this fault
-pub record FirstBadKey (told : Option (List NamedFile)) (low high : ℕ) (names : FileNames)
-    (all : List Participant) (fault : Fault) : Type 0 where
+pub record FirstBadKey (folder : Use FolderTold) (names : FileNames) (all : List Participant)
+    (fault : Fault) : Type 0 where
   pub before : List Participant
   pub one : Participant
   pub behind : List Participant
   pub split : all ≡ before ++ one ∷ behind
   pub named : List Named
-  pub read : AreNamed told names before named
-  pub cause : IsFileFault (key_file (first_device one.member)) told low high names
+  pub read : AreNamed folder.before.files names before named
+  pub cause : IsFileFault (key_file (first_device one.member)) folder names
       (files.Key (first_device one.member)) fault
 
 -- ---- files
@@ -97,12 +97,11 @@ found_files participants = keys_read participants ++ (files.Genesis ∷ rings_wr
 
 -- why not all files were written, and what stands: only if a call failed may anything stand of the
 -- file that it was to write
-abbrev pub IsStoreFault : List NamedFile → Option (List NamedFile) → Option (List NamedFile) → ℕ → ℕ
-    → Fault → Type 0
-IsStoreFault new before after low high faults.Memory = StoresFirst new before after
-IsStoreFault new before after low high faults.Outside =
-    Rose low high × StoresPrefix new before after
-IsStoreFault new before after low high fault = ⊥
+abbrev pub IsStoreFault : List NamedFile → Use FolderTold → Fault → Type 0
+IsStoreFault new folder faults.Memory = StoresFirst new folder.before.files folder.after.files
+IsStoreFault new folder faults.Outside = Rose folder.before.faults folder.after.faults
+    × StoresPrefix new folder.before.files folder.after.files
+IsStoreFault new folder fault = ⊥
 
 -- ---- the command
 
@@ -125,8 +124,7 @@ pub record FailsAtChance (asked : Found) (files : Use FolderTold) (chance : Use 
 
 -- a founder's key file is bad
 pub record FailsAtKeys (asked : Found) (files : Use FolderTold) (fault : Fault) : Type 0 where
-  pub cause : FirstBadKey files.before.files files.before.faults files.after.faults
-      (names_of_document asked.name) asked.participants fault
+  pub cause : FirstBadKey files (names_of_document asked.name) asked.participants fault
   pub stand : files.after.files ≡ files.before.files
 
 -- the document was made, and why not all of its files were written
@@ -136,8 +134,7 @@ pub record FailsAtWriting (asked : Found) (files : Use FolderTold) (chance : Use
   pub read : AreNamed files.before.files (names_of_document asked.name) asked.participants named
   pub founding : Founding
   pub made : IsFounding chance.before.given chance.after.given (in_order named) founding
-  pub cause : IsStoreFault (founding_files (names_of_document asked.name) founding)
-      files.before.files files.after.files files.before.faults files.after.faults fault
+  pub cause : IsStoreFault (founding_files (names_of_document asked.name) founding) files fault
 
 -- what `found` did, by its answer
 abbrev pub FoundOutcome : {T : Type 0} → Found → Use FolderTold → Use ChanceTold

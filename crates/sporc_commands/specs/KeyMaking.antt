@@ -75,17 +75,16 @@ StoresInPart names key before after =
     ⊎ ((between : Option (List NamedFile)) × StoresKeyFile names key before between
     × ChangesFile between after (file_name names (files.Leaf key.file.device)))
 
--- why not both files were written, where the folder's count of faults went from `low` to `high`,
--- and what stands: if memory ran out, what stood before, or the key file too
-abbrev pub IsFilesFault : FileNames → NewKey → Option (List NamedFile) → Option (List NamedFile) → ℕ
-    → ℕ → Fault → Type 0
-IsFilesFault names key before after low high faults.Memory =
-    (after ≡ before) ⊎ StoresKeyFile names key before after
-IsFilesFault names key before after low high faults.Outside =
-    Rose low high × StoresInPart names key before after
-IsFilesFault names key before after low high (faults.Exists file) =
-    IsThere names key before after file
-IsFilesFault names key before after low high fault = ⊥
+-- why not both files were written, and what stands: if memory ran out, what stood before, or the
+-- key file too
+abbrev pub IsFilesFault : FileNames → NewKey → Use FolderTold → Fault → Type 0
+IsFilesFault names key folder faults.Memory = (folder.after.files ≡ folder.before.files)
+    ⊎ StoresKeyFile names key folder.before.files folder.after.files
+IsFilesFault names key folder faults.Outside = Rose folder.before.faults folder.after.faults
+    × StoresInPart names key folder.before.files folder.after.files
+IsFilesFault names key folder (faults.Exists file) =
+    IsThere names key folder.before.files folder.after.files file
+IsFilesFault names key folder fault = ⊥
 
 -- ---- the command
 
@@ -104,8 +103,7 @@ pub record FailsAtFiles (asked : Keygen) (files : Use FolderTold) (chance : Use 
     (out : Use StreamTold) (fault : Fault) : Type 0 where
   pub key : NewKey
   pub makes : Makes asked chance key
-  pub cause : IsFilesFault (names_of_document asked.name) key files.before.files files.after.files
-      files.before.faults files.after.faults fault
+  pub cause : IsFilesFault (names_of_document asked.name) key files fault
   pub unwritten : out.after.written ≡ out.before.written
 
 -- both files were written, and the sink failed

@@ -45,8 +45,8 @@ pub record ShowsLine (asked : Public) (told : Option (List NamedFile))
 -- the key file says nothing, or memory ran out, and nothing was printed
 pub record FailsAtKey (asked : Public) (folder : Use FolderTold) (out : Use StreamTold)
     (fault : Fault) : Type 0 where
-  pub cause : IsFileFault (key_file asked.device) folder.before.files folder.before.faults
-      folder.after.faults (names_of_document asked.name) (files.Key asked.device) fault
+  pub cause : IsFileFault (key_file asked.device) folder (names_of_document asked.name)
+      (files.Key asked.device) fault
   pub unwritten : IsUnwritten out
 
 -- the sink failed, and a prefix of the line was printed

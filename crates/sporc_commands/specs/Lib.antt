@@ -4,5 +4,5 @@ pub mod KeyShowing
 pub mod Checking
 pub mod Telling
 pub mod Comparing
-pub mod Uses
+pub mod Lines
 pub mod Outcomes

@@ -7,12 +7,13 @@ use Rattle.sporc_member.specs.declared.device.Device.{Device}
 use Rattle.sporc_files.specs.declared.fault.Fault.{Fault}
 use Rattle.sporc_files.specs.declared.file.File.TheVariants as files
 use Rattle.sporc_files.specs.Names.{FileNames}
+use Rattle.sporc_files.specs.Uses.{OnlyReads}
 use Rattle.sporc_commands.specs.Checking.{AreCheckedFiles, CheckedFiles, IsCheckedLine}
 use Rattle.sporc_commands.specs.Checking.{checked_files, checked_in}
 use Rattle.sporc_commands.specs.Comparing.{AreComparedFiles, ComparedFiles, IsVerdictLine}
 use Rattle.sporc_commands.specs.Comparing.{chains_in}
 use Rattle.sporc_commands.specs.Telling.{IsJust, lines_in, text_in}
-use Rattle.sporc_commands.specs.Uses.{OnlyReads, WritesLine}
+use Rattle.sporc_commands.specs.Lines.{WritesLine}
 
 -- ---- check, text and entries
 

@@ -1,10 +1,11 @@
 //! The chains of saved histories.
 
-ghost use Rattle.std.specs.Prelude.{◌≡◌, ◌≤◌, [], ◌∷◌, IfOk, map};
+ghost use Rattle.std.specs.Prelude.{◌≡◌, [], ◌∷◌, IfOk, map};
+ghost use Rattle.sporc_outside.specs.Uses.{use_of};
 ghost use Rattle.sporc_hash.specs.Chain.{chain};
 ghost use Rattle.sporc_entry.specs.Genesis.{IsGenesis, genesis_bytes};
 ghost use Rattle.sporc_files.specs.Names.{file_name};
-ghost use Rattle.sporc_files.specs.Uses.{AsksOnly};
+ghost use Rattle.sporc_files.specs.Uses.{OnlyReads};
 ghost use Rattle.sporc_files.specs.Contents.{AnswersOfFile};
 ghost use Rattle.sporc_commands.specs.Comparing.{chain_in, values_of};
 
@@ -25,13 +26,9 @@ pub(crate) fn read_chain<F: Folder>(
     genesis: &Genesis,
 ) -> Result<Vec<Digest32>, Fault>
     requires { IsGenesis genesis.now }
-    ensures found { AnswersOfFile values_of (F.told files.old).files (file_name names.now file)
-        (F.told files.old).faults (F.told files.new).faults result (chain_in genesis.now file) }
-    ensures files { (F.told files.new).files ≡ (F.told files.old).files }
-    ensures lent { (F.told files.new).lent ≡ (F.told files.old).lent }
-    ensures may_ask { AsksOnly (file_name names.now file ∷ []) (F.told files.old).asked
-        (F.told files.new).asked }
-    ensures kept { (F.told files.old).faults ≤ (F.told files.new).faults }
+    ensures found { AnswersOfFile values_of (use_of F.told files.old files.new)
+        (file_name names.now file) result (chain_in genesis.now file) }
+    ensures reads { OnlyReads names.now (file ∷ []) (use_of F.told files.old files.new) }
 {
     let entries = read_entries(alloc, files, names, file, &genesis.document)?;
     let chain = chain_of(alloc, genesis, entries.as_slice())?;

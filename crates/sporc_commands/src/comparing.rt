@@ -2,8 +2,8 @@
 
 ghost use Rattle.std.specs.Prelude.{◌≡◌, ◌≤◌, [], ◌∷◌, IfOk, string_bytes};
 ghost use Rattle.sporc_outside.specs.Uses.{use_of};
-ghost use Rattle.sporc_files.specs.Names.{file_name, names_of_document};
-ghost use Rattle.sporc_files.specs.Uses.{AsksOnly};
+ghost use Rattle.sporc_files.specs.Names.{names_of_document};
+ghost use Rattle.sporc_files.specs.Uses.{OnlyReads};
 ghost use Rattle.sporc_commands.specs.Comparing.{AreOfOneGenesis, FindsChains, IsVerdictLine};
 ghost use Rattle.sporc_commands.specs.Outcomes.{CompareOutcome};
 
@@ -54,15 +54,12 @@ fn read_chains<F: Folder>(
     first: Device,
     second: Device,
 ) -> Result<(Vec<Digest32>, Vec<Digest32>), Fault>
-    ensures found { FindsChains (F.told files.old).files names.now first second
-        (F.told files.old).faults (F.told files.new).faults result }
+    ensures found { FindsChains
+        (use_of F.told files.old files.new) names.now first second result }
     ensures one_genesis { IfOk result (λ chains. AreOfOneGenesis chains.0.items chains.1.items) }
-    ensures files { (F.told files.new).files ≡ (F.told files.old).files }
-    ensures lent { (F.told files.new).lent ≡ (F.told files.old).lent }
-    ensures may_ask { AsksOnly (file_name names.now File.Genesis
-        ∷ file_name names.now (File.History first) ∷ file_name names.now (File.History second) ∷ [])
-        (F.told files.old).asked (F.told files.new).asked }
-    ensures kept { (F.told files.old).faults ≤ (F.told files.new).faults }
+    ensures reads { OnlyReads names.now
+        (File.Genesis ∷ File.History first ∷ File.History second ∷ [])
+        (use_of F.told files.old files.new) }
 {
     let genesis = read_genesis_file(alloc, files, names)?;
     let one = read_chain(alloc, files, names, File::History(first), &genesis)?;

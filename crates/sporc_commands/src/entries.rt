@@ -1,9 +1,10 @@
 //! The entries of saved histories, read unchecked.
 
-ghost use Rattle.std.specs.Prelude.{◌≡◌, ◌≤◌, [], ◌∷◌};
+ghost use Rattle.std.specs.Prelude.{[], ◌∷◌};
+ghost use Rattle.sporc_outside.specs.Uses.{use_of};
 ghost use Rattle.sporc_store.specs.SavedFile.{saved_in};
 ghost use Rattle.sporc_files.specs.Names.{file_name};
-ghost use Rattle.sporc_files.specs.Uses.{AsksOnly};
+ghost use Rattle.sporc_files.specs.Uses.{OnlyReads};
 ghost use Rattle.sporc_files.specs.Faults.{AnswersUnlessOutside, whole};
 ghost use Rattle.sporc_files.specs.Contents.{AnswersOfFile, entries_in, entries_of};
 
@@ -20,13 +21,9 @@ pub(crate) fn read_entries<F: Folder>(
     file: File,
     document: &[u8; 16],
 ) -> Result<Vec<Vec<u8>>, Fault>
-    ensures found { AnswersOfFile entries_of (F.told files.old).files (file_name names.now file)
-        (F.told files.old).faults (F.told files.new).faults result (entries_in file document.now) }
-    ensures files { (F.told files.new).files ≡ (F.told files.old).files }
-    ensures lent { (F.told files.new).lent ≡ (F.told files.old).lent }
-    ensures may_ask { AsksOnly (file_name names.now file ∷ []) (F.told files.old).asked
-        (F.told files.new).asked }
-    ensures kept { (F.told files.old).faults ≤ (F.told files.new).faults }
+    ensures found { AnswersOfFile entries_of (use_of F.told files.old files.new)
+        (file_name names.now file) result (entries_in file document.now) }
+    ensures reads { OnlyReads names.now (file ∷ []) (use_of F.told files.old files.new) }
 {
     let bytes = read_bytes(alloc, files, names, file)?;
     whole_entries(alloc, file, document, bytes.as_slice())

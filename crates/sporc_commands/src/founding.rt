@@ -11,7 +11,7 @@ ghost use Rattle.sporc_files.specs.declared.fault.Fault.TheVariants as faults;
 ghost use Rattle.sporc_files.specs.declared.file.File.TheVariants as kinds;
 ghost use Rattle.sporc_files.specs.Names.{file_name, names_of_document};
 ghost use Rattle.sporc_files.specs.Reading.{IsFileFault, key_file};
-ghost use Rattle.sporc_files.specs.Uses.{AsksOnly};
+ghost use Rattle.sporc_files.specs.Uses.{AsksOnly, OnlyReads};
 ghost use Rattle.sporc_files.specs.Writing.{Stores};
 ghost use Rattle.sporc_commands.specs.Founding.{AreNamed, FirstBadKey, FoundOutcome, IsNamed};
 ghost use Rattle.sporc_commands.specs.Founding.{IsStoreFault, MayFound, found_files};
@@ -66,13 +66,10 @@ fn read_founders<R: Threads + Sync, F: Folder>(
 ) -> Result<Vec<Named>, Fault>
     ensures ok { IfOk result
         (λ named. AreNamed (F.told files.old).files names.now participants.now named.items) }
-    ensures err { IfErr result (FirstBadKey (F.told files.old).files (F.told files.old).faults
-        (F.told files.new).faults names.now participants.now) }
-    ensures may_ask { AsksOnly (map (file_name names.now) (keys_read participants.now))
-        (F.told files.old).asked (F.told files.new).asked }
-    ensures files { (F.told files.new).files ≡ (F.told files.old).files }
-    ensures lent { (F.told files.new).lent ≡ (F.told files.old).lent }
-    ensures kept { (F.told files.old).faults ≤ (F.told files.new).faults }
+    ensures err { IfErr result
+        (FirstBadKey (use_of F.told files.old files.new) names.now participants.now) }
+    ensures reads { OnlyReads names.now (keys_read participants.now)
+        (use_of F.told files.old files.new) }
 {
     let mut named = Vec::new(alloc);
     for participant in participants {
@@ -93,14 +90,10 @@ fn read_named<R: Threads + Sync, F: Folder>(
     ensures ok { IfOk result (IsNamed
         (F.told files.old).files names.now participant.now.member participant.now.standing) }
     ensures err { IfErr result (IsFileFault (key_file (first_device participant.now.member))
-        (F.told files.old).files (F.told files.old).faults (F.told files.new).faults names.now
+        (use_of F.told files.old files.new) names.now
         (kinds.Key (first_device participant.now.member))) }
-    ensures may_ask { AsksOnly
-        (map (file_name names.now) (key_read participant.now.member participant.now.standing))
-        (F.told files.old).asked (F.told files.new).asked }
-    ensures files { (F.told files.new).files ≡ (F.told files.old).files }
-    ensures lent { (F.told files.new).lent ≡ (F.told files.old).lent }
-    ensures kept { (F.told files.old).faults ≤ (F.told files.new).faults }
+    ensures reads { OnlyReads names.now (key_read participant.now.member participant.now.standing)
+        (use_of F.told files.old files.new) }
 {
     let member = participant.member;
     match participant.standing {
@@ -145,9 +138,8 @@ fn write_founding<F: Folder>(
     requires rings { AllByRecursion IsRingFile founding.now.rings }
     ensures ok { OnOk result (Stores (founding_files names.now founding.now)
         (F.told files.old).files (F.told files.new).files) }
-    ensures err { IfErr result
-        (IsStoreFault (founding_files names.now founding.now) (F.told files.old).files
-        (F.told files.new).files (F.told files.old).faults (F.told files.new).faults) }
+    ensures err { IfErr result (IsStoreFault (founding_files names.now founding.now)
+        (use_of F.told files.old files.new)) }
     ensures may_ask { AsksOnly (names_in (founding_files names.now founding.now))
         (F.told files.old).asked (F.told files.new).asked }
     ensures lent { (F.told files.new).lent ≡ (F.told files.old).lent }
@@ -168,9 +160,8 @@ fn write_rings<F: Folder>(
     requires { AllByRecursion IsRingFile rings.now }
     ensures ok { OnOk result (Stores (map (ring_of_founding names.now) rings.now)
         (F.told files.old).files (F.told files.new).files) }
-    ensures err { IfErr result
-        (IsStoreFault (map (ring_of_founding names.now) rings.now) (F.told files.old).files
-        (F.told files.new).files (F.told files.old).faults (F.told files.new).faults) }
+    ensures err { IfErr result (IsStoreFault (map (ring_of_founding names.now) rings.now)
+        (use_of F.told files.old files.new)) }
     ensures may_ask { AsksOnly (names_in (map (ring_of_founding names.now) rings.now))
         (F.told files.old).asked (F.told files.new).asked }
     ensures lent { (F.told files.new).lent ≡ (F.told files.old).lent }

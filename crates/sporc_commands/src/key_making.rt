@@ -94,8 +94,8 @@ fn write_files<F: Folder>(
     requires { IsKeyFile key.now.file }
     ensures ok { OnOk result
         (StoresKey names.now key.now (F.told files.old).files (F.told files.new).files) }
-    ensures err { IfErr result (IsFilesFault names.now key.now (F.told files.old).files
-        (F.told files.new).files (F.told files.old).faults (F.told files.new).faults) }
+    ensures err { IfErr result
+        (IsFilesFault names.now key.now (use_of F.told files.old files.new)) }
     ensures may_ask { AsksOnly (key_names names.now key.now.file.device) (F.told files.old).asked
         (F.told files.new).asked }
     ensures lent { (F.told files.new).lent ≡ (F.told files.old).lent }

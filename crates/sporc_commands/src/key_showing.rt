@@ -5,7 +5,7 @@ ghost use Rattle.sporc_outside.specs.Uses.{use_of};
 ghost use Rattle.sporc_files.specs.declared.file.File.TheVariants as kinds;
 ghost use Rattle.sporc_files.specs.Names.{file_name, names_of_document};
 ghost use Rattle.sporc_files.specs.Reading.{IsFileFault, key_file};
-ghost use Rattle.sporc_files.specs.Uses.{AsksOnly};
+ghost use Rattle.sporc_files.specs.Uses.{AsksOnly, OnlyReads};
 ghost use Rattle.sporc_commands.specs.KeyShowing.{IsLineOf, PublicOutcome};
 
 use crate::key_making::key_line;
@@ -48,14 +48,10 @@ fn read_line<R: Threads + Sync, F: Folder>(
     ensures ok { IfOk result
         (λ line. IsLineOf asked.now (F.told files.old).files (string_bytes line)) }
     ensures err { IfErr result
-        (IsFileFault (key_file asked.now.device) (F.told files.old).files (F.told files.old).faults
-        (F.told files.new).faults (names_of_document asked.now.name) (kinds.Key asked.now.device)) }
-    ensures may_ask { AsksOnly
-        (file_name (names_of_document asked.now.name) (kinds.Key asked.now.device) ∷ [])
-        (F.told files.old).asked (F.told files.new).asked }
-    ensures files { (F.told files.new).files ≡ (F.told files.old).files }
-    ensures lent { (F.told files.new).lent ≡ (F.told files.old).lent }
-    ensures kept { (F.told files.old).faults ≤ (F.told files.new).faults }
+        (IsFileFault (key_file asked.now.device) (use_of F.told files.old files.new)
+        (names_of_document asked.now.name) (kinds.Key asked.now.device)) }
+    ensures reads { OnlyReads (names_of_document asked.now.name)
+        (kinds.Key asked.now.device ∷ []) (use_of F.told files.old files.new) }
 {
     let names = Names::of_document(asked.name.as_str());
     let tree = read_key_file(rt, alloc, files, &names, asked.device)?;

@@ -1,8 +1,7 @@
 //! The saved history of a device, read and examined.
 
-ghost use Rattle.std.specs.Prelude.{◌≡◌, ◌≤◌, map};
-ghost use Rattle.sporc_files.specs.Names.{file_name};
-ghost use Rattle.sporc_files.specs.Uses.{AsksOnly};
+ghost use Rattle.sporc_outside.specs.Uses.{use_of};
+ghost use Rattle.sporc_files.specs.Uses.{OnlyReads};
 ghost use Rattle.sporc_commands.specs.Checking.{FindsLine, checked_files};
 
 use crate::examining::examine;
@@ -25,13 +24,8 @@ pub(crate) fn read_line<R: Threads + Wait + Sync, F: Folder, G: Gate + Sync>(
     device: Device,
     gate: &G,
 ) -> Result<Line, Fault>
-    ensures found { FindsLine (F.told files.old).files names.now device (F.told files.old).faults
-        (F.told files.new).faults result }
-    ensures files { (F.told files.new).files ≡ (F.told files.old).files }
-    ensures lent { (F.told files.new).lent ≡ (F.told files.old).lent }
-    ensures may_ask { AsksOnly (map (file_name names.now) (checked_files device))
-        (F.told files.old).asked (F.told files.new).asked }
-    ensures kept { (F.told files.old).faults ≤ (F.told files.new).faults }
+    ensures found { FindsLine (use_of F.told files.old files.new) names.now device result }
+    ensures reads { OnlyReads names.now (checked_files device) (use_of F.told files.old files.new) }
 {
     let genesis = read_genesis_file(alloc, files, names)?;
     read_own_key(rt, alloc, files, names, device, &genesis)?;

@@ -11,34 +11,28 @@ use Rattle.sporc_serve.proofs.Turning.{starts_log}
 
 -- ---- number 0
 
--- how many passes there are
-abbrev pub somes : List (Option (Pass Item)) → ℕ
-somes [] = 0
-somes (None ∷ qs) = somes qs
-somes (Some q ∷ qs) = suc (somes qs)
-
 -- what number 0 keeps as passes are split from it
 pub splits_keep : (k : Known Item) (c : List (Option (Pass Item))) (k' : Known Item) → Splits k c k'
-    → (k'.number ≡ k.number) × (k'.mine ≡ k.mine) × (k'.start ≡ k.start) × (k'.seen ≡ k.seen) × (k'.joined ≡ k.joined) × (k'.splits ≡ k.splits + somes c)
+    → (k'.number ≡ k.number) × (k'.mine ≡ k.mine) × (k'.start ≡ k.start) × (k'.seen ≡ k.seen) × (k'.joined ≡ k.joined) × (k'.splits ≡ k.splits + length c)
 splits_keep k [] k' is = rw is (refl, refl, refl, refl, refl, omega arith)
-splits_keep k (None ∷ qs) k' h = splits_keep k qs k' h
+splits_keep k (None ∷ qs) k' h = absurd h
 splits_keep k (Some q ∷ qs) k' h =
     let more = splits_keep (splitting k) qs k' h.1 in
-    let splits : k'.splits ≡ k.splits + 1 + somes qs = more.5 in
+    let splits : k'.splits ≡ k.splits + 1 + length qs = more.5 in
     (more.0, more.1, more.2, more.3, more.4, omega (arith, splits))
 
 -- what it keeps as they are joined back
 pub joins_keep : (p : Pass Item) (c : List (Option (Pass Item))) (p' : Pass Item) → Joins p c p'
     → ((known_of p').number ≡ (known_of p).number) × ((known_of p').mine ≡ (known_of p).mine) × ((known_of p').start ≡ (known_of p).start)
-    × ((known_of p').splits ≡ (known_of p).splits) × (length (known_of p').joined ≡ length (known_of p).joined + somes c)
+    × ((known_of p').splits ≡ (known_of p).splits) × (length (known_of p').joined ≡ length (known_of p).joined + length c)
     × StartsWith (known_of p').seen (known_of p).seen × (read_of p ≤ read_of p')
 joins_keep p [] p' is = rw is (refl, refl, refl, refl, omega arith, starts_same (known_of p).seen, omega arith)
-joins_keep p (None ∷ qs) p' h = joins_keep p qs p' h
+joins_keep p (None ∷ qs) p' h = absurd h
 joins_keep p (Some q ∷ qs) p' h =
     let one = h.1 in
     let rest = joins_keep h.0 qs p' h.2 in
     let more = rw one.known_is at rest in
-    let total : length (known_of p').joined ≡ suc (length (known_of p).joined) + somes qs = more.4 in
+    let total : length (known_of p').joined ≡ suc (length (known_of p).joined) + length qs = more.4 in
     let begins = starts_then (known_of p).seen (known_of h.0).seen (known_of p').seen one.first rest.5 in
     let read = one.read_is in
     let read' = rest.6 in
@@ -48,7 +42,7 @@ joins_keep p (Some q ∷ qs) p' h =
 joined_before : (P : Joined Item → Type 0) (p : Pass Item) (c : List (Option (Pass Item))) (p' : Pass Item) → Joins p c p' → All P (known_of p').joined
     → All P (known_of p).joined
 joined_before P p [] p' is all = subst (λ (x : Pass Item). All P (known_of x).joined) is all
-joined_before P p (None ∷ qs) p' h all = joined_before P p qs p' h all
+joined_before P p (None ∷ qs) p' h all = absurd h
 joined_before P p (Some q ∷ qs) p' h all =
     All-tail P (record { number = (known_of q).number; items = (known_of q).mine }) (known_of p).joined
     (subst (λ (k : Known Item). All P k.joined) h.1.known_is (joined_before P h.0 qs p' h.2 all))
@@ -64,13 +58,13 @@ module _ (start log : List Item) where
 
   abbrev pub AreIn : List (Option (Pass Item)) → Type 0
   AreIn [] = Unit {0}
-  AreIn (None ∷ qs) = AreIn qs
+  AreIn (None ∷ qs) = ⊥
   AreIn (Some q ∷ qs) = IsIn q × AreIn qs
 
   pub joined_in : (p : Pass Item) (c : List (Option (Pass Item))) (p' : Pass Item) → Joins p c p' → log ≡ (known_of p').seen
       → All (λ (j : Joined Item). own by_of j.number (length start) log ≡ j.items) (known_of p').joined → AreIn c
   joined_in p [] p' is seen owns = tt
-  joined_in p (None ∷ qs) p' h seen owns = joined_in p qs p' h seen owns
+  joined_in p (None ∷ qs) p' h seen owns = absurd h
   joined_in p (Some q ∷ qs) p' h seen owns =
       let P : Joined Item → Type 0 = λ j. own by_of j.number (length start) log ≡ j.items in
       let here = subst (λ (k : Known Item). All P k.joined) h.1.known_is (joined_before P h.0 qs p' h.2 owns) in
@@ -89,7 +83,7 @@ module _ (start log : List Item) where
   -- a pass that was never used has no item in the log
   pub idle : (c : List (Option (Pass Item))) (k k' : Known Item) → Splits k c k' → AreIn c → (n : ℕ) → k.splits < n → n ≤ k'.splits → own by_of n (length start) log ≡ []
   idle [] k k' is are n low high = let same = ap (λ (x : Known Item). x.splits) is in absurd (omega (arith, same, low, high))
-  idle (None ∷ qs) k k' h are n low high = idle qs k k' h are n low high
+  idle (None ∷ qs) k k' h are n low high = absurd h
   idle (Some q ∷ qs) k k' h are n low high = elim (cases_eq n (k.splits + 1)) [
     | inl here ↦
         let number : (known_of q).number ≡ n = ap (λ (x : Known Item). x.number) h.0 ∙ sym here in
@@ -119,10 +113,10 @@ module _ (i : ℕ) where
   AllServe (s ∷ ss) (Some p ∷ c) (Some p' ∷ c') = Serves s.visit s.place i p p' × AllServe ss c c'
   AllServe (s ∷ ss) _ _ = ⊥
 
-  pub serve_somes : (ss : List Seat) (c c' : List (Option (Pass Item))) → AllServe ss c c' → somes c' ≡ somes c
-  serve_somes [] c c' is = ap somes is
-  serve_somes (s ∷ ss) (Some p ∷ c) (Some p' ∷ c') h = ap suc (serve_somes ss c c' h.1)
-  serve_somes (s ∷ ss) c c' h = absurd h
+  pub serve_length : (ss : List Seat) (c c' : List (Option (Pass Item))) → AllServe ss c c' → length c' ≡ length c
+  serve_length [] c c' is = ap (λ (l : List (Option (Pass Item))). length l) is
+  serve_length (s ∷ ss) (Some p ∷ c) (Some p' ∷ c') h = ap suc (serve_length ss c c' h.1)
+  serve_length (s ∷ ss) c c' h = absurd h
 
   module _ (documents : List (List ℕ)) (o : OrderModel) (there : slice_get documents i ≡ Some o.genesis.document)
       (apart : (j : ℕ) → slice_get documents j ≡ Some o.genesis.document → j ≡ i) (log : List Item) where
@@ -196,7 +190,7 @@ module _ (i : ℕ) where
         let j = joins_keep p1 c' p2 joins in
         let none : length (known_of p1).joined ≡ 0 = ap (λ (l : List (Joined Item)). length l) k.4 ∙ ap (λ (x : Known Item). length x.joined) first in
         let some : (known_of p0).splits ≡ 0 = ap (λ (x : Known Item). x.splits) first in
-        let same = serve_somes ss c c' serves in
+        let same = serve_length ss c c' serves in
         let split = k.5 in
         let kept = j.3 in
         let joined = j.4 in

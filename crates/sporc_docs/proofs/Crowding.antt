@@ -1,12 +1,10 @@
 -- Sessions of many documents beside one another.
-use Rattle.std.proofs.Common.{◌≡◌, ◌∙◌, ℕ, suc, ◌≤◌, false, List, [], ◌∷◌, length, Option, Some, None, Result, Ok, Err, slice_get, refl, sym, subst, arith, bytes_eq}
-use Rattle.sporc_docs.proofs.Common.{NetTold, StreamTold, Pass, Turn, known_of, stream_of, ToServer, Hello, Ghosts, Desk, SessionEnd, ServeFault, Item, stand_at, Inlet, inlet_at, IsFirst, visit, came}
-use Rattle.sporc_docs.proofs.Common.{handed_back, AreFrom, AreBehind, TellsOf, with_end, Hand, IsCrowd, AllHands, Both, IsOther, HavePasses, LogsBegin, MayHave, pass_at, named_by, IsUnboundEnd, Sits}
-use Rattle.sporc_docs.proofs.Common.{IsLastTicket, last_ticket, tells_more, kept_more, from_more, from_none, behind_more, behind_none}
-use Rattle.sporc_outside.specs.Counts.{Rose}
+use Rattle.std.proofs.Common.{◌≡◌, ℕ, suc, ◌≤◌, false, List, [], ◌∷◌, length, Option, Some, None, Result, Ok, Err, slice_get, refl, sym, subst, arith, bytes_eq}
+use Rattle.sporc_docs.proofs.Common.{NetTold, StreamTold, Pass, Turn, known_of, stream_of, ToServer, Hello, Ghosts, Desk, SessionEnd, ServeFault, Item, stand_at, Inlet, inlet_at, IsFirst, visit}
+use Rattle.sporc_docs.proofs.Common.{TellsOf, with_end, Hand, IsCrowd, IsOther, HavePasses, LogsBegin, pass_at, named_by, IsUnboundEnd, Sits}
+use Rattle.sporc_docs.proofs.Common.{IsLastTicket, last_ticket, links_more, links_none}
 use Rattle.sporc_outside.specs.Told.{AppendsItem, TakesItem, IsFalseIfTold}
 use Rattle.sporc_serve.specs.declared.end.SessionEnd.TheVariants.{Worn}
-use Rattle.sporc_serve.specs.declared.fault.ServeFault.TheVariants as faults
 use Rattle.sporc_docs.proofs.Places.{position_found}
 use Rattle.sporc_docs.proofs.Ending.{same_place, both_at}
 
@@ -50,24 +48,10 @@ module _ {T : Type 0} {gs : Ghosts T} (turns : List (Turn (Desk T gs) Item)) (do
       (stand_at (known_of p'.0) session.0 (stream_of []) false) end session.1.ends
 
   -- no session
-  pub crowd_none : (hs : List Hand) (old : NetTold) → length hs ≡ 0 → IsCrowd turns documents hs hs old old (Ok tt)
-  crowd_none hs old none =
-      ([], record { sit = refl; came_open = tt; coming = from_none old.coming; returned = behind_none old.returned; result_is = (sym none, tt); kept = λ told. tt })
-
-  -- no link came
-  pub crowd_failed : (hs hs' : List Hand) (old new : NetTold) → hs' ≡ hs → new.coming ≡ old.coming → new.returned ≡ old.returned → Rose old.faults new.faults
-      → IsCrowd turns documents hs hs' old new (Err faults.ListenFault)
-  crowd_failed hs hs' old new same coming returned rose = (
-    [],
-    record {
-      sit = same;
-      came_open = tt;
-      coming = subst (λ (c : Option (List StreamTold)). AreFrom old.coming c []) (sym coming) (from_none old.coming);
-      returned = subst (λ (c : Option (List StreamTold)). AreBehind old.returned c []) (sym returned) (behind_none old.returned);
-      result_is = rose;
-      kept = λ told. tt;
-    },
-  )
+  pub crowd_none : (hs hs' : List Hand) (old new : NetTold) (result : Result (Unit {0}) ServeFault) → hs' ≡ hs → new.coming ≡ old.coming → new.returned ≡ old.returned
+      → TellsOf (length hs) old.faults new.faults [] result → IsCrowd turns documents hs hs' old new result
+  crowd_none hs hs' old new result same coming returned tells =
+      ([], record { sit = same; links = links_none old new (length hs) result coming returned tells })
 
   -- a link came and was served beside the others
   pub crowd_more : (h h' : Hand) (hs hs' : List Hand) (b a : StreamTold) (end : SessionEnd) (old mid low new : NetTold)
@@ -78,31 +62,11 @@ module _ {T : Type 0} {gs : Ghosts T} (turns : List (Turn (Desk T gs) Item)) (do
       → result' ≡ with_end result end → IsCrowd turns documents (h ∷ hs) (h' ∷ hs') old new result'
   crowd_more h h' hs hs' b a end old mid low new result result' have have' size logs sits crowd took is_open back le coming returned count ended =
       let vs = crowd.0 in
-      let c = crowd.1 in (
+      let c = crowd.1 in
+      let last = sits_last h.passes.items h'.passes.items b a end have have' size logs sits in (
         visit b a end ∷ vs,
         record {
           sit = (have, have', sits, c.sit);
-          came_open = (is_open, c.came_open);
-          coming = from_more old.coming mid.coming new.coming b (came vs) took (subst (λ (x : Option (List StreamTold)). AreFrom mid.coming x (came vs)) (sym coming) c.coming);
-          returned = behind_more old.returned low.returned new.returned a (handed_back vs) (subst (λ (x : Option (List StreamTold)). AreBehind x low.returned (handed_back vs)) back c.returned) returned;
-          result_is = subst (λ (z : ℕ × Result (Unit {0}) ServeFault). TellsOf (suc (length hs)) old.faults z.0 (visit b a end ∷ vs) z.1) (λ i. (sym count i, sym ended i))
-              (tells_more (length hs) old.faults mid.faults low.faults b a end vs result le c.result_is
-              (sits_last h.passes.items h'.passes.items b a end have have' size logs sits));
-          kept = λ told. kept_more b a end vs result c.kept (λ is. told (ended ∙ is));
+          links = links_more old mid low new (length hs) (suc (length hs)) b a end vs result result' c.links last took is_open back le coming returned count refl ended;
         },
       )
-
-  -- memory ran out before the first link was taken
-  pub crowd_memory : (hs : List Hand) (old : NetTold) → IsCrowd turns documents hs hs old old (Err faults.Memory)
-  crowd_memory hs old = ([], record { sit = refl; came_open = tt; coming = from_none old.coming; returned = behind_none old.returned; result_is = tt; kept = λ told. tt })
-
--- hands with passes may have them
-pub may_have : {T : Type 0} {gs : Ghosts T} (ts : List (Turn (Desk T gs) Item)) (ps : List (Option (Pass Item))) → HavePasses ts ps → Both MayHave ts ps
-may_have [] [] h = tt
-may_have (t ∷ ts) (None ∷ ps) h = absurd h.0
-may_have (t ∷ ts) (Some p ∷ ps) h = (h.0, may_have ts ps h.1)
-may_have ts ps h = absurd h
-
-pub all_may_have : {T : Type 0} {gs : Ghosts T} (ts : List (Turn (Desk T gs) Item)) (hs : List Hand) → AllHands (HavePasses ts) hs → AllHands (Both MayHave ts) hs
-all_may_have ts [] h = tt
-all_may_have ts (x ∷ hs) h = (may_have ts x.passes.items h.0, all_may_have ts hs h.1)

@@ -1,9 +1,8 @@
 -- The sessions of many documents, once their passes were joined back.
-use Rattle.std.proofs.Common.{option_map, ◌≡◌, ◌≢◌, ◌∙◌, ℕ, zero, suc, List, [], ◌∷◌, length, map, reverse, Option, Some, None, Result, Err, slice_get, refl, ap, sym, subst, arith}
-use Rattle.sporc_docs.proofs.Common.{length-map, NetTold, Known, Pass, Turn, splitting, known_of, OrderModel, Ghosts, Desk, Item, log_at_first, ServeFault, Visit, CameOpen, came, handed_back, AreFrom}
-use Rattle.sporc_docs.proofs.Common.{AreBehind, NoneUnkept, TellsOf, Hand, AllSit, IsCrowd, Both, AllHands, HasFirst, IsOther, MayHave, LogsBegin, Splits, SplitsAt, JoinsAt, column, pass_at, AreApart}
+use Rattle.std.proofs.Common.{option_map, ◌≡◌, ◌∙◌, ℕ, zero, suc, List, [], ◌∷◌, length, map, reverse, Option, Some, None, Result, slice_get, refl, ap, sym, subst, subst₂, arith}
+use Rattle.sporc_docs.proofs.Common.{length-map, NetTold, Known, Pass, Turn, splitting, known_of, OrderModel, Ghosts, Desk, Item, log_at_first, ServeFault, Visit, TookLinks}
+use Rattle.sporc_docs.proofs.Common.{Hand, AllSit, IsCrowd, AllZip, AllHands, HasFirst, HavePasses, IsOther, LogsBegin, Splits, SplitsAt, JoinsAt, column, pass_at, AreApart}
 use Rattle.sporc_docs.proofs.Common.{AreBack, IsBack, KnowsFirst, Ends, AreEnding, AreBound, visits_of, Serves, same_Some, slice_get-map}
-use Rattle.sporc_serve.specs.declared.fault.ServeFault.TheVariants as faults'
 use Rattle.sporc_docs.proofs.Binding.{bound_to, documents_of, apart_reverse, one_place}
 use Rattle.sporc_docs.proofs.Columns.{Seat, session_of, AllServe, back, ends}
 use Rattle.sporc_docs.proofs.Opening.{both_length}
@@ -20,25 +19,25 @@ pub document_there : (os : List OrderModel) (i : ℕ) (o : OrderModel) → slice
 document_there os i o at = slice_get-map (λ (x : OrderModel). x.genesis.document) os i ∙ ap (option_map (λ (x : OrderModel). x.genesis.document)) at
 
 module _ {A : Type 0} (R : A → Option (Pass Item) → Type 0) where
-  pub both_at : (xs : List A) (ps : List (Option (Pass Item))) → Both R xs ps → (i : ℕ) (x : A) → slice_get xs i ≡ Some x → R x (pass_at i ps)
+  pub both_at : (xs : List A) (ps : List (Option (Pass Item))) → AllZip R xs ps → (i : ℕ) (x : A) → slice_get xs i ≡ Some x → R x (pass_at i ps)
   both_at [] ps h i x at = absurd cc
   both_at (x' ∷ xs) [] h i x at = absurd h
   both_at (x' ∷ xs) (p ∷ ps) h zero x at = subst (λ (y : A). R y p) (same_Some x' x at) h.0
   both_at (x' ∷ xs) (p ∷ ps) h (suc i) x at = both_at xs ps h.1 i x at
 
-  pub both_of : (xs : List A) (ps : List (Option (Pass Item))) → length xs ≡ length ps → ((i : ℕ) (x : A) → slice_get xs i ≡ Some x → R x (pass_at i ps)) → Both R xs ps
+  pub both_of : (xs : List A) (ps : List (Option (Pass Item))) → length xs ≡ length ps → ((i : ℕ) (x : A) → slice_get xs i ≡ Some x → R x (pass_at i ps)) → AllZip R xs ps
   both_of [] [] size h = tt
   both_of (x ∷ xs) (p ∷ ps) size h = (h 0 x refl, both_of xs ps (omega (arith, size)) (λ i y at. h (suc i) y at))
   both_of xs ps size h = absurd (omega (arith, size))
 
   -- a pass that is there stands at a place of both
-  pub place_of_pass : (xs : List A) (ps : List (Option (Pass Item))) → Both R xs ps → (i : ℕ) (p : Pass Item) → pass_at i ps ≡ Some p → (x : A) × (slice_get xs i ≡ Some x)
+  pub place_of_pass : (xs : List A) (ps : List (Option (Pass Item))) → AllZip R xs ps → (i : ℕ) (p : Pass Item) → pass_at i ps ≡ Some p → (x : A) × (slice_get xs i ≡ Some x)
   place_of_pass [] [] h i p at = absurd cc
   place_of_pass (x ∷ xs) (q ∷ qs) h zero p at = (x, refl)
   place_of_pass (x ∷ xs) (q ∷ qs) h (suc i) p at = place_of_pass xs qs h.1 i p at
   place_of_pass xs ps h i p at = absurd h
 
-pub all_back : (os : List OrderModel) (ps : List (Option (Pass Item))) → Both (λ o p. IsBack p) os ps → AreBack ps
+pub all_back : (os : List OrderModel) (ps : List (Option (Pass Item))) → AllZip (λ o p. IsBack p) os ps → AreBack ps
 all_back [] [] h = tt
 all_back (o ∷ os) (p ∷ ps) h = (h.0, all_back os ps h.1)
 all_back os ps h = absurd h
@@ -47,12 +46,12 @@ all_back os ps h = absurd h
 
 abbrev AllSeen : List Item → List (Option (Pass Item)) → Type 0
 AllSeen log [] = Unit {0}
-AllSeen log (None ∷ qs) = AllSeen log qs
+AllSeen log (None ∷ qs) = ⊥
 AllSeen log (Some q ∷ qs) = ((known_of q).seen ≡ log) × AllSeen log qs
 
 all_seen : (log : List Item) (k : Known Item) (c : List (Option (Pass Item))) (k' : Known Item) → Splits k c k' → k.seen ≡ log → AllSeen log c
 all_seen log k [] k' h seen = tt
-all_seen log k (None ∷ qs) k' h seen = all_seen log k qs k' h seen
+all_seen log k (None ∷ qs) k' h seen = absurd h
 all_seen log k (Some q ∷ qs) k' h seen = (ap (λ (x : Known Item). x.seen) h.0 ∙ seen, all_seen log (splitting k) qs k' h.1 seen)
 
 pub seen_first : (o : OrderModel) (f0 f1 : Option (Pass Item)) (c : List (Option (Pass Item))) → KnowsFirst o f0 → SplitsAt f0 c f1 → AllSeen (log_at_first o) c
@@ -65,15 +64,15 @@ seen_here log None qs p h is = absurd cc
 seen_here log (Some q) qs p h is = let same : q ≡ p = cc in ap (λ (x : Pass Item). (known_of x).seen) (sym same) ∙ h.0
 
 seen_later : (log : List Item) (q : Option (Pass Item)) (qs : List (Option (Pass Item))) → AllSeen log (q ∷ qs) → AllSeen log qs
-seen_later log None qs h = h
+seen_later log None qs h = absurd h
 seen_later log (Some q) qs h = h.1
 
-pub logs_begin : {T : Type 0} {gs : Ghosts T} (os : List OrderModel) (ts : List (Turn (Desk T gs) Item)) → length ts ≡ length os → (hs : List Hand) → AllHands (Both MayHave ts) hs
+pub logs_begin : {T : Type 0} {gs : Ghosts T} (os : List OrderModel) (ts : List (Turn (Desk T gs) Item)) → length ts ≡ length os → (hs : List Hand) → AllHands (HavePasses ts) hs
     → ((i : ℕ) (o : OrderModel) → slice_get os i ≡ Some o → AllSeen (log_at_first o) (column i hs)) → AllHands LogsBegin hs
 logs_begin os ts size [] have seen = tt
 logs_begin os ts size (x ∷ hs) have seen = (
   λ i p at.
-      (let t = place_of_pass MayHave ts x.passes.items have.0 i p at in
+      (let t = place_of_pass IsOther ts x.passes.items have.0 i p at in
       let o = same_place ts os i t.0 size t.1 in
       let is = seen_here (log_at_first o.0) (pass_at i x.passes.items) (column i hs) p (seen i o.0 o.1) at in
       (o.0.genesis, (_, is))),
@@ -144,9 +143,9 @@ module _ (os : List OrderModel) (apart : AreApart os) (i : ℕ) (o : OrderModel)
 -- number 0 at all places
 pub places_end : (os : List OrderModel) → AreApart os → (ss : List Seat)
     (hs hs' : List Hand) → ((i : ℕ) (o : OrderModel) → slice_get os i ≡ Some o → AllServe i ss (column i hs) (column i hs'))
-    → (fs0 fs1 fs2 : List (Option (Pass Item))) → Both KnowsFirst os fs0 → ((i : ℕ) → SplitsAt (pass_at i fs0) (column i hs) (pass_at i fs1))
+    → (fs0 fs1 fs2 : List (Option (Pass Item))) → AllZip KnowsFirst os fs0 → ((i : ℕ) → SplitsAt (pass_at i fs0) (column i hs) (pass_at i fs1))
     → ((i : ℕ) → JoinsAt (pass_at i fs1) (column i hs') (pass_at i fs2)) → length os ≡ length fs2
-    → AreBack fs2 × Both (Ends (map (session_of (documents_of os)) ss)) os fs2
+    → AreBack fs2 × AllZip (Ends (map (session_of (documents_of os)) ss)) os fs2
 places_end os apart ss hs hs' serves fs0 fs1 fs2 known splits joins size =
     let at : (i : ℕ) (o : OrderModel) → slice_get os i ≡ Some o
     → IsBack (pass_at i fs2) × Ends (map (session_of (documents_of os)) ss) o (pass_at i fs2) =
@@ -159,7 +158,7 @@ places_end os apart ss hs hs' serves fs0 fs1 fs2 known splits joins size =
 -- the sessions of locks, once their passes were joined back
 pub ending : {T : Type 0} {gs : Ghosts T} (turns : List (Turn (Desk T gs) Item)) (documents : List (List ℕ))
     (orders : List OrderModel) → AreApart orders → documents ≡ documents_of (reverse orders) → length documents ≡ length turns → (hs hs' : List Hand)
-    (fs0 fs1 fs2 : List (Option (Pass Item))) → Both KnowsFirst (reverse orders) fs0 → AllHands (Both MayHave turns) hs → Both HasFirst turns fs2
+    (fs0 fs1 fs2 : List (Option (Pass Item))) → AllZip KnowsFirst (reverse orders) fs0 → AllHands (HavePasses turns) hs → AllZip HasFirst turns fs2
     → ((i : ℕ) → SplitsAt (pass_at i fs0) (column i hs) (pass_at i fs1)) → ((i : ℕ) → JoinsAt (pass_at i fs1) (column i hs') (pass_at i fs2)) → (old new : NetTold) (n : ℕ)
     (result : Result (Unit {0}) ServeFault) → n ≡ length hs → (AllHands LogsBegin hs → IsCrowd turns documents hs hs' old new result)
     → AreEnding orders fs2 old new n result
@@ -184,11 +183,6 @@ ending turns documents orders apart documents_are size hs hs' fs0 fs1 fs2 known 
         bound = all_bound turns orders vs hs hs' c.sit;
         back = end.0;
         ends = end.1;
-        came_open = subst (λ (x : List Visit). CameOpen x) visits c.came_open;
-        coming = subst (λ (x : List Visit). AreFrom old.coming new.coming (came x)) visits c.coming;
-        returned = subst (λ (x : List Visit). AreBehind old.returned new.returned (handed_back x)) visits c.returned;
-        result_is = subst (λ (x : List Visit). TellsOf n old.faults new.faults x result) visits
-            (subst (λ (m : ℕ). TellsOf m old.faults new.faults vs result) (sym count) c.result_is);
-        kept = subst (λ (x : List Visit). result ≢ Err faults'.Unkept → NoneUnkept x) visits c.kept;
+        links = subst₂ (λ (m : ℕ) (x : List Visit). TookLinks old new m result x) (sym count) visits c.links;
       },
     )

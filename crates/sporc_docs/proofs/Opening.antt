@@ -1,46 +1,46 @@
 -- Locks, and lists with one item more or less at their ends.
 use Rattle.std.proofs.Common.{◌≡◌, ◌∙◌, ℕ, List, [], ◌∷◌, ◌++◌, length, reverse, replicate, suc, Option, Some, None, refl, ap, sym, subst, subst₂, append_assoc, arith}
-use Rattle.sporc_docs.proofs.Common.{reverse-append, map-append, Pass, Turn, Known, first_known, known_of, IsPassOf, OrderModel, Ghosts, Desk, Item, log_at_first, Hand, Both, AllHands, IsEmpty}
+use Rattle.sporc_docs.proofs.Common.{reverse-append, map-append, Pass, Turn, Known, first_known, known_of, IsPassOf, OrderModel, Ghosts, Desk, Item, log_at_first, Hand, AllZip, AllHands, IsEmpty}
 use Rattle.sporc_docs.proofs.Common.{HasFirst, KnowsFirst, AreOpen, AreBack, IsBack, AreKept, Locks}
 use Rattle.std.specs.Prelude.{IsSome}
 
 module _ {A B : Type 0} (R : A → B → Type 0) where
-  pub both_more : (xs : List A) (ys : List B) (x : A) (y : B) → Both R xs ys → R x y → Both R (xs ++ x ∷ []) (ys ++ y ∷ [])
+  pub both_more : (xs : List A) (ys : List B) (x : A) (y : B) → AllZip R xs ys → R x y → AllZip R (xs ++ x ∷ []) (ys ++ y ∷ [])
   both_more [] [] x y h one = (one, tt)
   both_more (x' ∷ xs) (y' ∷ ys) x y h one = (h.0, both_more xs ys x y h.1 one)
   both_more xs ys x y h one = absurd h
 
-  no_end : (ys : List B) (y : B) → Both R [] (ys ++ y ∷ []) → ⊥
+  no_end : (ys : List B) (y : B) → AllZip R [] (ys ++ y ∷ []) → ⊥
   no_end [] y h = h
   no_end (y' ∷ ys) y h = h
 
-  no_end' : (xs : List A) (x : A) → Both R (xs ++ x ∷ []) [] → ⊥
+  no_end' : (xs : List A) (x : A) → AllZip R (xs ++ x ∷ []) [] → ⊥
   no_end' [] x h = h
   no_end' (x' ∷ xs) x h = h
 
-  pub both_less : (xs : List A) (ys : List B) (x : A) (y : B) → Both R (xs ++ x ∷ []) (ys ++ y ∷ []) → Both R xs ys × R x y
+  pub both_less : (xs : List A) (ys : List B) (x : A) (y : B) → AllZip R (xs ++ x ∷ []) (ys ++ y ∷ []) → AllZip R xs ys × R x y
   both_less [] [] x y h = (tt, h.0)
   both_less [] (y' ∷ ys) x y h = absurd (no_end ys y h.1)
   both_less (x' ∷ xs) [] x y h = absurd (no_end' xs x h.1)
   both_less (x' ∷ xs) (y' ∷ ys) x y h = let less = both_less xs ys x y h.1 in ((h.0, less.0), less.1)
 
   -- the last items of both
-  pub last_both : (xs less : List A) (ys less' : List B) (x : A) (y : B) → Both R xs ys → xs ≡ less ++ x ∷ [] → ys ≡ less' ++ y ∷ [] → Both R less less' × R x y
-  last_both xs less ys less' x y h xs_is ys_is = both_less less less' x y (subst₂ (λ (l : List A) (l' : List B). Both R l l') xs_is ys_is h)
+  pub last_both : (xs less : List A) (ys less' : List B) (x : A) (y : B) → AllZip R xs ys → xs ≡ less ++ x ∷ [] → ys ≡ less' ++ y ∷ [] → AllZip R less less' × R x y
+  last_both xs less ys less' x y h xs_is ys_is = both_less less less' x y (subst₂ (λ (l : List A) (l' : List B). AllZip R l l') xs_is ys_is h)
 
-  pub both_append : (xs xs' : List A) (ys ys' : List B) → Both R xs ys → Both R xs' ys' → Both R (xs ++ xs') (ys ++ ys')
+  pub both_append : (xs xs' : List A) (ys ys' : List B) → AllZip R xs ys → AllZip R xs' ys' → AllZip R (xs ++ xs') (ys ++ ys')
   both_append [] xs' [] ys' h more = more
   both_append (x ∷ xs) xs' (y ∷ ys) ys' h more = (h.0, both_append xs xs' ys ys' h.1 more)
   both_append xs xs' ys ys' h more = absurd h
 
-  pub both_reverse : (xs : List A) (ys : List B) → Both R xs ys → Both R (reverse xs) (reverse ys)
+  pub both_reverse : (xs : List A) (ys : List B) → AllZip R xs ys → AllZip R (reverse xs) (reverse ys)
   both_reverse [] [] h = tt
   both_reverse (x ∷ xs) (y ∷ ys) h =
-      subst (λ (l : List A). Both R l (reverse (y ∷ ys))) (sym (reverse-append (x ∷ []) xs))
-      (subst (λ (l : List B). Both R (reverse xs ++ x ∷ []) l) (sym (reverse-append (y ∷ []) ys)) (both_more (reverse xs) (reverse ys) x y (both_reverse xs ys h.1) h.0))
+      subst (λ (l : List A). AllZip R l (reverse (y ∷ ys))) (sym (reverse-append (x ∷ []) xs))
+      (subst (λ (l : List B). AllZip R (reverse xs ++ x ∷ []) l) (sym (reverse-append (y ∷ []) ys)) (both_more (reverse xs) (reverse ys) x y (both_reverse xs ys h.1) h.0))
   both_reverse xs ys h = absurd h
 
-  pub both_length : (xs : List A) (ys : List B) → Both R xs ys → length xs ≡ length ys
+  pub both_length : (xs : List A) (ys : List B) → AllZip R xs ys → length xs ≡ length ys
   both_length [] [] h = refl
   both_length (x ∷ xs) (y ∷ ys) h = ap suc (both_length xs ys h.1)
   both_length xs ys h = absurd h
@@ -86,13 +86,13 @@ pub open_more : {T : Type 0} {gs : Ghosts T} (os : List OrderModel) (o : OrderMo
     → locks'.firsts.items ≡ locks.firsts.items ++ Some p ∷ [] → IsPassOf t p → d ≡ o.genesis.document → known_of p ≡ first_known (log_at_first o)
     → AreOpen (os ++ o ∷ []) locks'
 open_more {T} {gs} os o locks locks' t d p are turns documents firsts pass document known =
-    let more : Both HasFirst (locks.turns.items ++ t ∷ []) (locks.firsts.items ++ Some p ∷ []) =
+    let more : AllZip HasFirst (locks.turns.items ++ t ∷ []) (locks.firsts.items ++ Some p ∷ []) =
     both_more HasFirst locks.turns.items locks.firsts.items t (Some p) are.firsts (pass, ap (λ (k : Known Item). k.number) known) in
     record {
-      firsts = subst (λ (l : List (Turn (Desk T gs) Item)). Both HasFirst l locks'.firsts.items) (sym turns)
-          (subst (λ (l : List (Option (Pass Item))). Both HasFirst (locks.turns.items ++ t ∷ []) l) (sym firsts) more);
+      firsts = subst (λ (l : List (Turn (Desk T gs) Item)). AllZip HasFirst l locks'.firsts.items) (sym turns)
+          (subst (λ (l : List (Option (Pass Item))). AllZip HasFirst (locks.turns.items ++ t ∷ []) l) (sym firsts) more);
       documents_are = documents ∙ (λ i. are.documents_are i ++ document i ∷ []) ∙ sym (map-append (λ (x : OrderModel). x.genesis.document) os (o ∷ []));
-      known = subst (λ (l : List (Option (Pass Item))). Both KnowsFirst (os ++ o ∷ []) l) (sym firsts)
+      known = subst (λ (l : List (Option (Pass Item))). AllZip KnowsFirst (os ++ o ∷ []) l) (sym firsts)
           (both_more KnowsFirst os locks.firsts.items o (Some p) are.known known);
     }
 
@@ -102,20 +102,16 @@ back_less [] p h = (tt, h.0)
 back_less (q ∷ qs) p h = let less = back_less qs p h.1 in ((h.0, less.0), less.1)
 
 -- hands without a pass
-empty_each : {T : Type 0} {gs : Ghosts T} (ts : List (Turn (Desk T gs) Item)) (ps : List (Option (Pass Item))) → ps ≡ replicate (length ts) None → Both IsEmpty ts ps
+empty_each : {T : Type 0} {gs : Ghosts T} (ts : List (Turn (Desk T gs) Item)) (ps : List (Option (Pass Item))) → ps ≡ replicate (length ts) None → AllZip IsEmpty ts ps
 empty_each [] [] is = tt
 empty_each (t ∷ ts) (p ∷ ps) is =
     let same : (p ∷ ps) ≡ None ∷ replicate (length ts) None = is in (cc, empty_each ts ps (cc))
 empty_each ts ps is = absurd cc
 
-pub empty_all : {T : Type 0} {gs : Ghosts T} (ts : List (Turn (Desk T gs) Item)) (n : ℕ) (hs : List Hand) → length ts ≡ n → AllHands (λ ps. ps ≡ replicate n None) hs → AllHands (Both IsEmpty ts) hs
+pub empty_all : {T : Type 0} {gs : Ghosts T} (ts : List (Turn (Desk T gs) Item)) (n : ℕ) (hs : List Hand) → length ts ≡ n → AllHands (λ ps. ps ≡ replicate n None) hs → AllHands (AllZip IsEmpty ts) hs
 empty_all ts n [] size h = tt
 empty_all ts n (x ∷ hs) size h =
     (empty_each ts x.passes.items (h.0 ∙ ap (λ (m : ℕ). replicate m None) (sym size)), empty_all ts n hs size h.1)
-
-pub hands_more : (holds : List (Option (Pass Item)) → Type 0) (hs : List Hand) (h : Hand) → AllHands holds hs → holds h.passes.items → AllHands holds (hs ++ h ∷ [])
-hands_more holds [] h all one = (one, tt)
-hands_more holds (x ∷ hs) h all one = (all.0, hands_more holds hs h all.1 one)
 
 pub last_back : (ps less : List (Option (Pass Item))) (p : Option (Pass Item)) → AreBack ps → ps ≡ less ++ p ∷ [] → AreBack less × IsBack p
 last_back ps less p h is = back_less less p (subst AreBack is h)

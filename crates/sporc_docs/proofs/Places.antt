@@ -1,11 +1,10 @@
 -- Places of documents, and lists with one more.
-use Rattle.std.proofs.Common.{slice_get, ◌≡◌, ◌∙◌, ℕ, ◌+◌, ◌<◌, Bool, true, false, List, [], ◌∷◌, ◌++◌, Option, Some, None, refl, ap, sym, subst, cond, find, drop, length, length-append, arith, inl, inr, slice_index_or, add-one, suc, is_ok, is_some, if◌then◌else◌, ◌≤◌, Result, Ok, Err}
+use Rattle.std.proofs.Common.{slice_get, ◌≡◌, ◌∙◌, ℕ, ◌+◌, ◌<◌, Bool, true, false, List, [], ◌∷◌, ◌++◌, Option, Some, None, refl, ap, sym, subst, cond, find, length, length-append, arith, inl, inr, suc, is_ok, is_some, if◌then◌else◌, ◌≤◌, Result, Ok, Err}
 use Rattle.sporc_docs.proofs.Common.{position_from, OrderModel, is_of, list_of, AreApart, same_Some}
 use Rattle.std.specs.Option.{option_or}
 use Rattle.std.proofs.lemmas.Bool.{cases_Bool}
 use Rattle.std.proofs.lemmas.Cmp.{nat_list_eq_equiv}
 use Rattle.std.proofs.lemmas.List.Folds.{find-append}
-use Rattle.std.proofs.Math.Seq.{drop-cons}
 
 -- what is found nowhere is not the first, nor any behind it
 pub none_parts : {A : Type 0} (b : Bool) (x : A) (rest : Option A) → cond b (Some x) rest ≡ None → (b ≡ false) × (rest ≡ None)
@@ -38,27 +37,6 @@ kept_apart (Ok x) os os' o n is room are none =
     (let size = length-append os (o ∷ []) in omega (arith, size, room), apart_more os o are (none_held o.genesis.document 0 os none))
 kept_apart (Err e) os os' o n is room are none =
     subst (λ (l : List OrderModel). (length l ≤ n) × AreApart l) (sym is) (omega (arith, room), are)
-
--- the item as it is read there is one that is looked for, or it isn't
-pub read_at_place : {A : Type 0} (is_one : A → Bool) (xs : List A) (i : ℕ) (d : A) → i < length xs → is_one (slice_index_or xs i d) ≡ true
-    → position_from is_one i (drop i xs) ≡ Some i
-read_at_place {A} is_one xs i d within is_here =
-    ap (position_from is_one i) (drop-cons xs i d within) ∙ ap (λ (b : Bool). cond b (Some i) (position_from is_one (i + 1) (drop (suc i) xs))) is_here
-
-pub not_read_at_place : {A : Type 0} (is_one : A → Bool) (xs : List A) (i : ℕ) (d : A) → i < length xs → is_one (slice_index_or xs i d) ≡ false
-    → position_from is_one i (drop i xs) ≡ position_from is_one (i + 1) (drop (i + 1) xs)
-not_read_at_place {A} is_one xs i d within is_not =
-    let last : position_from is_one (i + 1) (drop (suc i) xs) ≡ position_from is_one (i + 1) (drop (i + 1) xs) = rw add-one refl in
-    ap (position_from is_one i) (drop-cons xs i d within) ∙ ap (λ (b : Bool). cond b (Some i) (position_from is_one (i + 1) (drop (suc i) xs))) is_not ∙ last
-
--- and so it is of the item that it is
-pub at_place : {A : Type 0} (is_one : A → Bool) (xs : List A) (i : ℕ) (x : A) → i < length xs → x ≡ slice_index_or xs i x → is_one x ≡ true
-    → position_from is_one i (drop i xs) ≡ Some i
-at_place is_one xs i x within is is_here = read_at_place is_one xs i x within (ap is_one (sym is) ∙ is_here)
-
-pub not_at_place : {A : Type 0} (is_one : A → Bool) (xs : List A) (i : ℕ) (x : A) → i < length xs → x ≡ slice_index_or xs i x → is_one x ≡ false
-    → position_from is_one i (drop i xs) ≡ position_from is_one (i + 1) (drop (i + 1) xs)
-not_at_place is_one xs i x within is is_not = not_read_at_place is_one xs i x within (ap is_one (sym is) ∙ is_not)
 
 -- a place that is found has an item that is looked for
 pub position_found : {A : Type 0} (f : A → Bool) (i : ℕ) (xs : List A) (place : ℕ) → position_from f i xs ≡ Some place

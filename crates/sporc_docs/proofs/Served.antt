@@ -1,8 +1,8 @@
 -- Orders, before and after.
 use Rattle.std.proofs.Common.{◌≡◌, ◌∙◌, ℕ, ◌+◌, ◌<◌, ◌≤◌, ◌^◌, Bool, List, [], ◌∷◌, ◌++◌, length, reverse, replicate, cond, find, false, length-append, ◌-◌, is_err, Ok, Err, OnOk, All, Option, Some, None, Result, refl, ap, sym, subst, arith}
-use Rattle.sporc_docs.proofs.Common.{drop_all, reverse-reverse, length-reverse, length-map, NetTold, StreamTold, Known, Pass, known_of, OrderModel, Ghosts, ServeFault, Item, by_of, order_at, placed}
-use Rattle.sporc_docs.proofs.Common.{log_at_first, came, handed_back, AreFrom, AreBehind, TellsOf, Both, HasFirst, HaveRoom, list_of, is_of, AreApart, KnowsFirst, AreOpen, AreBack, Closes, Ends}
-use Rattle.sporc_docs.proofs.Common.{AreEnding, Session, visits_of, IsOneOf, IsServedDocument, AreServed, as_served, All-nil, starts_same, first_is, tells_before, from_none, behind_none, Locks}
+use Rattle.sporc_docs.proofs.Common.{drop_all, reverse-reverse, length-reverse, length-map, NetTold, Known, Pass, known_of, OrderModel, Ghosts, ServeFault, Item, by_of, order_at, placed}
+use Rattle.sporc_docs.proofs.Common.{log_at_first, TellsOf, AllZip, HasFirst, HaveRoom, list_of, is_of, AreApart, KnowsFirst, AreOpen, AreBack, Closes, Ends}
+use Rattle.sporc_docs.proofs.Common.{AreEnding, Session, visits_of, IsOneOf, IsServedDocument, AreServed, as_served, All-nil, starts_same, first_is, links_none, links_before, Locks}
 use Rattle.sporc_docs.specs.declared.fault.DocsServeFault.{DocsServeFault}
 use Rattle.sporc_docs.specs.declared.fault.DocsServeFault.TheVariants as faults'
 use Rattle.sporc_serve.specs.declared.fault.ServeFault.TheVariants as faults
@@ -10,7 +10,7 @@ use Rattle.sporc_docs.proofs.Places.{none_parts}
 use Rattle.sporc_docs.proofs.Opening.{both_append, both_reverse, both_length}
 
 both_join : {A B C : Type 0} (R : A → B → Type 0) (S : B → C → Type 0) (T : A → C → Type 0) → ((x : A) (y : B) (z : C) → R x y → S y z → T x z) → (xs : List A) (ys : List B) (zs : List C)
-    → Both R xs ys → Both S ys zs → Both T xs zs
+    → AllZip R xs ys → AllZip S ys zs → AllZip T xs zs
 both_join R S T then [] [] [] r s = tt
 both_join R S T then [] (y ∷ ys) zs r s = absurd r
 both_join R S T then (x ∷ xs) [] zs r s = absurd r
@@ -18,7 +18,7 @@ both_join R S T then (x ∷ xs) (y ∷ ys) (z ∷ zs) r s = (then x y z r.0 s.0,
 both_join R S T then xs ys zs r s = absurd s
 
 -- room for the splits of a lock that was opened
-pub room_first : (os : List OrderModel) (ps : List (Option (Pass Item))) (n : ℕ) → n < 2 ^ 32 → Both KnowsFirst os ps → HaveRoom n ps
+pub room_first : (os : List OrderModel) (ps : List (Option (Pass Item))) (n : ℕ) → n < 2 ^ 32 → AllZip KnowsFirst os ps → HaveRoom n ps
 room_first [] [] n few h = tt
 room_first (o ∷ os) (None ∷ ps) n few h = absurd h.0
 room_first (o ∷ os) (Some p ∷ ps) n few h =
@@ -45,7 +45,7 @@ unserved o = (
   },
 )
 
-all_unserved : (os : List OrderModel) → Both (IsServedDocument []) os os
+all_unserved : (os : List OrderModel) → AllZip (IsServedDocument []) os os
 all_unserved [] = tt
 all_unserved (o ∷ os) = (unserved o, all_unserved os)
 
@@ -59,18 +59,14 @@ closed_unserved o (Some p) o' known closes =
     subst (λ (x : OrderModel). IsServedDocument [] o x) (sym same) (unserved o)
 
 module _ (old new : NetTold) (n : ℕ) (result : Result (Unit {0}) ServeFault) where
-  none_served : (os os' : List OrderModel) → Both (IsServedDocument []) os os' → new.coming ≡ old.coming → new.returned ≡ old.returned
+  none_served : (os os' : List OrderModel) → AllZip (IsServedDocument []) os os' → new.coming ≡ old.coming → new.returned ≡ old.returned
       → TellsOf n old.faults new.faults [] result → AreServed os os' old new n result
   none_served os os' served coming returned tells = (
     [],
     record {
       bound = tt;
       served = served;
-      came_open = tt;
-      coming = subst (λ (c : Option (List StreamTold)). AreFrom old.coming c []) (sym coming) (from_none old.coming);
-      returned = subst (λ (c : Option (List StreamTold)). AreBehind old.returned c []) (sym returned) (behind_none old.returned);
-      result_is = tells;
-      kept = λ told. tt;
+      links = links_none old new n result coming returned tells;
     },
   )
 
@@ -81,33 +77,29 @@ module _ (old new : NetTold) (n : ℕ) (result : Result (Unit {0}) ServeFault) w
 
   -- some locks were opened, and closed again
   pub serves_opened : {T : Type 0} {gs : Ghosts T} (all all' rest opened back : List OrderModel) (locks : Locks T gs) → AreOpen opened locks → all ≡ rest ++ reverse opened → all' ≡ rest ++ reverse back
-      → Both Closes locks.firsts.items back → new.coming ≡ old.coming → new.returned ≡ old.returned → TellsOf n old.faults new.faults [] result
+      → AllZip Closes locks.firsts.items back → new.coming ≡ old.coming → new.returned ≡ old.returned → TellsOf n old.faults new.faults [] result
       → AreServed all all' old new n result
   serves_opened all all' rest opened back locks are is is' closes coming returned tells =
       let R = IsServedDocument [] in
       let each = both_join KnowsFirst Closes R (λ o p o' k c. closed_unserved o p o' k c) opened locks.firsts.items back are.known closes in
       none_served all all'
-      (subst (λ (z : List OrderModel × List OrderModel). Both R z.0 z.1) (λ i. (sym is i, sym is' i))
+      (subst (λ (z : List OrderModel × List OrderModel). AllZip R z.0 z.1) (λ i. (sym is i, sym is' i))
       (both_append R rest (reverse opened) rest (reverse back) (all_unserved rest) (both_reverse R opened back each))) coming returned tells
 
   -- all were opened, and served
   pub serves_all : (all all' back : List OrderModel) (firsts : List (Option (Pass Item))) → AreEnding all firsts old new n result
-      → all' ≡ reverse back → Both Closes firsts back → AreServed all all' old new n result
+      → all' ≡ reverse back → AllZip Closes firsts back → AreServed all all' old new n result
   serves_all all all' back firsts ending is closes =
       let ss = ending.0 in
       let e = ending.1 in
       let R = IsServedDocument ss in
       let each = both_join (Ends ss) Closes R (λ o p o' h c. h o' c) (reverse all) firsts back e.ends closes in
-      let turned = subst (λ (l : List OrderModel). Both R l (reverse back)) (reverse-reverse all) (both_reverse R (reverse all) back each) in (
+      let turned = subst (λ (l : List OrderModel). AllZip R l (reverse back)) (reverse-reverse all) (both_reverse R (reverse all) back each) in (
         ss,
         record {
           bound = e.bound;
-          served = subst (λ (l : List OrderModel). Both R all l) (sym is) turned;
-          came_open = e.came_open;
-          coming = e.coming;
-          returned = e.returned;
-          result_is = e.result_is;
-          kept = e.kept;
+          served = subst (λ (l : List OrderModel). AllZip R all l) (sym is) turned;
+          links = e.links;
         },
       )
 
@@ -117,23 +109,12 @@ pub serves_before : (old mid new : NetTold) (n : ℕ)
     → mid.returned ≡ old.returned → old.faults ≤ mid.faults → AreServed os os' old new n result
 serves_before old mid new n result os os' served coming returned le =
     let s = served.1 in
-    let vs = visits_of served.0 in (
-      served.0,
-      record {
-        bound = s.bound;
-        served = s.served;
-        came_open = s.came_open;
-        coming = subst (λ (x : Option (List StreamTold)). AreFrom x new.coming (came vs)) coming s.coming;
-        returned = subst (λ (x : Option (List StreamTold)). AreBehind x new.returned (handed_back vs)) returned s.returned;
-        result_is = tells_before n old.faults mid.faults new.faults vs result le s.result_is;
-        kept = s.kept;
-      },
-    )
+    (served.0, record { bound = s.bound; served = s.served; links = links_before old mid new n result (visits_of served.0) s.links coming returned le })
 
 -- ---- opening and closing
 
 -- no pass was split from a lock that was opened
-pub opened_back : (os : List OrderModel) (ps : List (Option (Pass Item))) → Both KnowsFirst os ps → AreBack ps
+pub opened_back : (os : List OrderModel) (ps : List (Option (Pass Item))) → AllZip KnowsFirst os ps → AreBack ps
 opened_back [] [] h = tt
 opened_back (o ∷ os) (None ∷ ps) h = absurd h.0
 opened_back (o ∷ os) (Some p ∷ ps) h =
@@ -163,14 +144,14 @@ ok_then (Err e) b A is fine h = absurd cc
 -- ---- the documents stay the same
 
 module _ (ss : List Session) where
-  none_kept : (os os' : List OrderModel) → Both (IsServedDocument ss) os os' → (d : List ℕ) → list_of os d ≡ None → list_of os' d ≡ None
+  none_kept : (os os' : List OrderModel) → AllZip (IsServedDocument ss) os os' → (d : List ℕ) → list_of os d ≡ None → list_of os' d ≡ None
   none_kept [] [] h d none = refl
   none_kept (o ∷ os) (o' ∷ os') h d none =
       let parts = none_parts (is_of d o) o (find (is_of d) os) none in
       ap (λ (b : Bool). cond b (Some o') (find (is_of d) os')) (ap (λ (x : OrderModel). is_of d x) h.0.1.order_is ∙ parts.0) ∙ none_kept os os' h.1 d parts.1
   none_kept os os' h d none = absurd h
 
-  pub apart_kept : (os os' : List OrderModel) → Both (IsServedDocument ss) os os' → AreApart os → AreApart os'
+  pub apart_kept : (os os' : List OrderModel) → AllZip (IsServedDocument ss) os os' → AreApart os → AreApart os'
   apart_kept [] [] h are = tt
   apart_kept (o ∷ os) (o' ∷ os') h are =
       let same : o'.genesis.document ≡ o.genesis.document = ap (λ (x : OrderModel). x.genesis.document) h.0.1.order_is in

@@ -1,6 +1,6 @@
 -- Sessions of many documents beside one another, for inner contracts.
-use Rattle.std.specs.Prelude.{◌≡◌, ◌≢◌, ◌≤◌, ℕ, List, [], ◌∷◌, length, Option, Result, Err}
-use Rattle.sporc_outside.specs.Nets.{AreShutBehind, NetTold}
+use Rattle.std.specs.Prelude.{◌≡◌, ℕ, List, [], ◌∷◌, length, Option, Result, Err}
+use Rattle.sporc_outside.specs.Nets.{NetTold}
 use Rattle.sporc_outside.specs.Told.{IsTrueIfTold}
 use Rattle.sporc_turn.specs.declared.pass.Pass.{Pass}
 use Rattle.sporc_turn.specs.declared.turn.Turn.{Turn}
@@ -10,8 +10,8 @@ use Rattle.sporc_serve.specs.declared.end.SessionEnd.TheVariants as ends
 use Rattle.sporc_serve.specs.declared.fault.ServeFault.{ServeFault}
 use Rattle.sporc_serve.specs.declared.fault.ServeFault.TheVariants.{Unkept}
 use Rattle.sporc_serve.specs.declared.item.Item.{Item}
-use Rattle.sporc_serve.specs.Visits.{Visit, CameOpen, came, handed_back, AreFrom, AreBehind}
-use Rattle.sporc_serve.specs.Visits.{NoneUnkept, TellsOf}
+use Rattle.sporc_serve.specs.Crowds.{LeavesNet}
+use Rattle.sporc_serve.specs.Visits.{Visit, TookLinks}
 use Rattle.sporc_docs.specs.declared.hands.Hand.{Hand}
 use Rattle.sporc_docs.specs.Hands.{AllHands, HavePasses, LogsBegin}
 use Rattle.sporc_docs.specs.Sessions.{Sits}
@@ -31,11 +31,7 @@ module _ {T : Type 0} {tail : Ghosts T} (turns : List (Turn (Desk T tail) Item))
   pub record Crowd (hands hands' : List Hand) (old new : NetTold)
       (result : Result (Unit {0}) ServeFault) (visits : List Visit) : Type 0 where
     pub sit : AllSit visits hands hands'
-    pub came_open : CameOpen visits
-    pub coming : AreFrom old.coming new.coming (came visits)
-    pub returned : AreBehind old.returned new.returned (handed_back visits)
-    pub result_is : TellsOf (length hands) old.faults new.faults visits result
-    pub kept : result ≢ Err Unkept → NoneUnkept visits
+    pub links : TookLinks old new (length hands) result visits
 
   abbrev pub IsCrowd : List Hand → List Hand → NetTold → NetTold
       → Result (Unit {0}) ServeFault → Type 0
@@ -43,14 +39,13 @@ module _ {T : Type 0} {tail : Ghosts T} (turns : List (Turn (Desk T tail) Item))
       (visits : List Visit) × Crowd hands hands' old new result visits
 
   -- the sessions of these hands were served at a net, if the log of each pass began with its
-  -- document: their links came back shut, and nothing else was asked of the net
+  -- document
   abbrev pub ServesOthers : List Hand → List Hand → NetTold → NetTold
       → Result (Unit {0}) ServeFault → Type 0
   ServesOthers hands hands' old new result =
       AllHands (HavePasses turns) hands'
       × (AllHands LogsBegin hands → IsCrowd hands hands' old new result)
-      × AreShutBehind old.returned new.returned × (new.asked ≡ old.asked) × (new.out ≡ old.out)
-      × (old.faults ≤ new.faults) × (result ≡ Err Unkept → tail.may_fail)
+      × LeavesNet old new × (result ≡ Err Unkept → tail.may_fail)
 
   -- one session was served with a hand of passes, and its link is shut
   abbrev pub ServesOne : Visit → List (Option (Pass Item)) → List (Option (Pass Item)) → Type 0

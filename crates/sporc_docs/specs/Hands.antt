@@ -1,6 +1,7 @@
 -- Hands of passes, one for each of many locks, and how they are joined back.
-use Rattle.std.specs.Prelude.{◌≡◌, ◌≢◌, ◌+◌, ◌^◌, ◌<◌, ◌∷◌, ℕ, zero, suc, max, List, [], map}
+use Rattle.std.specs.Prelude.{◌≡◌, ◌+◌, ◌^◌, ◌<◌, ◌∷◌, ℕ, zero, suc, max, List, [], map}
 use Rattle.std.specs.Prelude.{Option, Some, None}
+use Rattle.std.specs.List.{AllByRecursion, AllZip}
 use Rattle.sporc_turn.specs.declared.known.Known.{Known}
 use Rattle.sporc_turn.specs.declared.pass.Pass.{Pass}
 use Rattle.sporc_turn.specs.declared.turn.Turn.{Turn}
@@ -15,24 +16,11 @@ use Rattle.sporc_serve.specs.Crowds.{IsOther}
 use Rattle.sporc_serve.specs.Logs.{IsLogOf}
 use Rattle.sporc_docs.specs.declared.hands.Hand.{Hand}
 
--- lists of one length, whose items hold of one another at each place
-abbrev pub Both : {A B : Type 0} → (A → B → Type 0) → List A → List B → Type 0
-Both holds [] [] = Unit {0}
-Both holds [] (y ∷ ys) = ⊥
-Both holds (x ∷ xs) [] = ⊥
-Both holds (x ∷ xs) (y ∷ ys) = holds x y × Both holds xs ys
-
 -- the pass of this lock with number 0
 abbrev pub HasFirst : {T : Type 0} {tail : Ghosts T} → Turn (Desk T tail) Item
     → Option (Pass Item) → Type 0
 HasFirst turn None = ⊥
 HasFirst turn (Some p) = IsPassOf turn p × ((known_of p).number ≡ 0)
-
--- a pass of this lock with another number, or none
-abbrev pub MayHave : {T : Type 0} {tail : Ghosts T} → Turn (Desk T tail) Item
-    → Option (Pass Item) → Type 0
-MayHave turn None = Unit {0}
-MayHave turn (Some p) = IsPassOf turn p × ((known_of p).number ≢ 0)
 
 -- no pass of this lock
 abbrev pub IsEmpty : {T : Type 0} {tail : Ghosts T} → Turn (Desk T tail) Item
@@ -42,7 +30,7 @@ IsEmpty turn place = place ≡ None
 -- a pass with another number of each of these locks, in their order
 abbrev pub HavePasses : {T : Type 0} {tail : Ghosts T} → List (Turn (Desk T tail) Item)
     → List (Option (Pass Item)) → Type 0
-HavePasses turns hand = Both IsOther turns hand
+HavePasses turns hand = AllZip IsOther turns hand
 
 -- the pass of a hand at a place, if it has one
 abbrev pub pass_at : ℕ → List (Option (Pass Item)) → Option (Pass Item)
@@ -64,7 +52,7 @@ pub record JoinsPass (p q p' : Pass Item) : Type 0 where
 -- these were joined back to number 0, in their order
 abbrev pub Joins : Pass Item → List (Option (Pass Item)) → Pass Item → Type 0
 Joins p [] p' = p' ≡ p
-Joins p (None ∷ qs) p' = Joins p qs p'
+Joins p (None ∷ qs) p' = ⊥
 Joins p (Some q ∷ qs) p' = (mid : Pass Item) × JoinsPass p q mid × Joins mid qs p'
 
 -- what became of number 0
@@ -76,7 +64,7 @@ JoinsAt (Some p) qs (Some p') = Joins p qs p'
 -- these were split from number 0, in their order, which knew this before and knows that after
 abbrev pub Splits : Known Item → List (Option (Pass Item)) → Known Item → Type 0
 Splits k [] k' = k' ≡ k
-Splits k (None ∷ qs) k' = Splits k qs k'
+Splits k (None ∷ qs) k' = ⊥
 Splits k (Some q ∷ qs) k' = (known_of q ≡ copied k) × Splits (splitting k) qs k'
 
 -- what number 0 knows then
@@ -91,13 +79,11 @@ HasRoom n None = Unit {0}
 HasRoom n (Some p) = (known_of p).splits + n < 2 ^ 32
 
 abbrev pub HaveRoom : ℕ → List (Option (Pass Item)) → Type 0
-HaveRoom n [] = Unit {0}
-HaveRoom n (p ∷ ps) = HasRoom n p × HaveRoom n ps
+HaveRoom n ps = AllByRecursion (HasRoom n) ps
 
 -- what holds of each of these hands
 abbrev pub AllHands : (List (Option (Pass Item)) → Type 0) → List Hand → Type 0
-AllHands holds [] = Unit {0}
-AllHands holds (h ∷ hs) = holds h.passes.items × AllHands holds hs
+AllHands holds hs = AllByRecursion (λ (h : Hand). holds h.passes.items) hs
 
 -- the log that each pass of a hand knows begins with a document
 abbrev pub LogsBegin : List (Option (Pass Item)) → Type 0

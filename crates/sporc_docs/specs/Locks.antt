@@ -1,6 +1,6 @@
 -- Orders under locks of their own, for inner contracts.
-use Rattle.std.specs.Prelude.{◌≡◌, ◌≢◌, ℕ, List, [], ◌∷◌, map, reverse, Option, Some, None, Result}
-use Rattle.std.specs.Prelude.{Err}
+use Rattle.std.specs.Prelude.{◌≡◌, ℕ, List, map, reverse, Option, Some, None, Result}
+use Rattle.std.specs.List.{AllByRecursion, AllZip}
 use Rattle.sporc_outside.specs.Nets.{NetTold}
 use Rattle.sporc_turn.specs.Knowing.{first_known}
 use Rattle.sporc_turn.specs.Log.{Agrees}
@@ -12,12 +12,10 @@ use Rattle.sporc_order.specs.declared.tail.Tail.{Ghosts}
 use Rattle.sporc_serve.specs.declared.item.Item.{Item}
 use Rattle.sporc_serve.specs.Logs.{by_of, order_at, IsLogOf}
 use Rattle.sporc_serve.specs.Served.{log_at_first}
-use Rattle.sporc_serve.specs.Visits.{CameOpen, came, handed_back, AreFrom, AreBehind, NoneUnkept}
-use Rattle.sporc_serve.specs.Visits.{TellsOf}
+use Rattle.sporc_serve.specs.Visits.{TookLinks}
 use Rattle.sporc_serve.specs.declared.fault.ServeFault.{ServeFault}
-use Rattle.sporc_serve.specs.declared.fault.ServeFault.TheVariants.{Unkept}
 use Rattle.sporc_docs.specs.declared.locks.Locks.{Locks}
-use Rattle.sporc_docs.specs.Hands.{Both, HasFirst}
+use Rattle.sporc_docs.specs.Hands.{HasFirst}
 use Rattle.sporc_docs.specs.Lists.{AreApart}
 use Rattle.sporc_docs.specs.Served.{Session, visits_of, AreBound, IsServedDocument}
 
@@ -29,9 +27,9 @@ KnowsFirst o (Some p) = known_of p ≡ first_known (log_at_first o)
 -- locks round these orders, in their order
 pub record AreOpen {T : Type 0} {tail : Ghosts T} (orders : List OrderModel)
     (locks : Locks T tail) : Type 0 where
-  pub firsts : Both HasFirst locks.turns.items locks.firsts.items
+  pub firsts : AllZip HasFirst locks.turns.items locks.firsts.items
   pub documents_are : locks.documents.items ≡ map (λ o. o.genesis.document) orders
-  pub known : Both KnowsFirst orders locks.firsts.items
+  pub known : AllZip KnowsFirst orders locks.firsts.items
 
 -- each pass that was split from number 0 was joined back
 abbrev pub IsBack : Option (Pass Item) → Type 0
@@ -39,8 +37,7 @@ IsBack None = ⊥
 IsBack (Some p) = out_of p ≡ 0
 
 abbrev pub AreBack : List (Option (Pass Item)) → Type 0
-AreBack [] = Unit {0}
-AreBack (p ∷ ps) = IsBack p × AreBack ps
+AreBack ps = AllByRecursion IsBack ps
 
 -- the order under a lock that is closed with number 0: that of all that number 0 has seen
 abbrev pub Closes : Option (Pass Item) → OrderModel → Type 0
@@ -60,12 +57,8 @@ pub record Ending (orders : List OrderModel)
     (result : Result (Unit {0}) ServeFault) (sessions : List Session) : Type 0 where
   pub bound : AreBound orders sessions
   pub back : AreBack firsts
-  pub ends : Both (Ends sessions) (reverse orders) firsts
-  pub came_open : CameOpen (visits_of sessions)
-  pub coming : AreFrom old.coming new.coming (came (visits_of sessions))
-  pub returned : AreBehind old.returned new.returned (handed_back (visits_of sessions))
-  pub result_is : TellsOf count old.faults new.faults (visits_of sessions) result
-  pub kept : result ≢ Err Unkept → NoneUnkept (visits_of sessions)
+  pub ends : AllZip (Ends sessions) (reverse orders) firsts
+  pub links : TookLinks old new count result (visits_of sessions)
 
 abbrev pub AreEnding : List OrderModel → List (Option (Pass Item))
     → NetTold → NetTold → ℕ → Result (Unit {0}) ServeFault → Type 0
@@ -79,4 +72,4 @@ abbrev pub EndsAll : List (List ℕ) → List (Option (Pass Item)) → List (Opt
 EndsAll documents firsts firsts' old new count result =
     (orders : List OrderModel) → AreApart orders
     → documents ≡ map (λ o. o.genesis.document) (reverse orders)
-    → Both KnowsFirst (reverse orders) firsts → AreEnding orders firsts' old new count result
+    → AllZip KnowsFirst (reverse orders) firsts → AreEnding orders firsts' old new count result

@@ -1,8 +1,8 @@
 -- What a server of many documents did: for each document what a server of it alone does, with the
 -- sessions bound to it.
-use Rattle.std.specs.Prelude.{◌≡◌, ◌≢◌, ◌⊎◌, ◌+◌, ℕ, List, [], ◌∷◌, length, drop, map, Option, Some}
+use Rattle.std.specs.Prelude.{◌≡◌, ◌⊎◌, ◌+◌, ℕ, List, [], ◌∷◌, length, drop, map, Option, Some}
 use Rattle.std.specs.Prelude.{Result, Ok, Err}
-use Rattle.std.specs.List.{All}
+use Rattle.std.specs.List.{All, AllZip}
 use Rattle.sporc_outside.specs.Nets.{NetTold}
 use Rattle.sporc_turn.specs.declared.known.Known.{Known}
 use Rattle.sporc_turn.specs.Log.{StartsWith}
@@ -13,18 +13,16 @@ use Rattle.sporc_serve.specs.declared.fault.ServeFault.{ServeFault}
 use Rattle.sporc_serve.specs.declared.fault.ServeFault.TheVariants as faults
 use Rattle.sporc_serve.specs.declared.item.Item.{Item}
 use Rattle.sporc_serve.specs.Logs.{by_of, order_at}
-use Rattle.sporc_serve.specs.Visits.{Visit, CameOpen, came, handed_back, AreFrom, AreBehind}
-use Rattle.sporc_serve.specs.Visits.{NoneUnkept, TellsOf}
+use Rattle.sporc_serve.specs.Visits.{Visit, TookLinks}
 use Rattle.sporc_serve.specs.Served.{Attends, IsWornAt, log_at_first}
 use Rattle.sporc_docs.specs.declared.fault.DocsServeFault.{DocsServeFault}
 use Rattle.sporc_docs.specs.declared.fault.DocsServeFault.TheVariants as faults'
-use Rattle.sporc_docs.specs.Hands.{Both}
 use Rattle.sporc_docs.specs.Machine.{bound_by}
 use Rattle.sporc_docs.specs.Sessions.{IsBound}
 
 -- each of these tails keeps the entries of the order at its place
 abbrev pub AreKept : {T : Type 0} → (T → List (List ℕ) → Type 0) → List T → List OrderModel → Type 0
-AreKept keeps tails orders = Both (λ tail o. ∥ keeps tail o.entries ∥₁) tails orders
+AreKept keeps tails orders = AllZip (λ tail o. ∥ keeps tail o.entries ∥₁) tails orders
 
 -- what a server of many documents answers, as the server of one says it
 abbrev pub as_served : Result (Unit {0}) DocsServeFault → Result (Unit {0}) ServeFault
@@ -82,17 +80,12 @@ abbrev pub IsServedDocument : List Session → OrderModel → OrderModel → Typ
 IsServedDocument sessions before after =
     (log : List Item) × ServedDocument before after sessions log
 
--- so many sessions at a net, of which this is answered; unless it is that an entry was not kept, no
--- session ended so
+-- so many sessions at a net, of which this is answered
 pub record ServesDocuments (before after : List OrderModel) (old new : NetTold) (count : ℕ)
     (result : Result (Unit {0}) ServeFault) (sessions : List Session) : Type 0 where
   pub bound : AreBound before sessions
-  pub served : Both (IsServedDocument sessions) before after
-  pub came_open : CameOpen (visits_of sessions)
-  pub coming : AreFrom old.coming new.coming (came (visits_of sessions))
-  pub returned : AreBehind old.returned new.returned (handed_back (visits_of sessions))
-  pub result_is : TellsOf count old.faults new.faults (visits_of sessions) result
-  pub kept : result ≢ Err faults.Unkept → NoneUnkept (visits_of sessions)
+  pub served : AllZip (IsServedDocument sessions) before after
+  pub links : TookLinks old new count result (visits_of sessions)
 
 abbrev pub AreServed : List OrderModel → List OrderModel → NetTold → NetTold → ℕ
     → Result (Unit {0}) ServeFault → Type 0

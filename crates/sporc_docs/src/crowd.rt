@@ -1,16 +1,14 @@
 //! The sessions of a server of many documents, each in a thread of its own where one can be made.
 
-ghost use Rattle.std.specs.Prelude.{◌≡◌, ◌≤◌, Err, length, OnOk};
+ghost use Rattle.std.specs.Prelude.{◌≡◌, Err, length};
 ghost use Rattle.std.specs.Thread.{IsSync, IsSend};
-ghost use Rattle.sporc_outside.specs.Nets.{AreShutBehind};
+ghost use Rattle.sporc_serve.specs.Crowds.{LeavesNet};
 ghost use Rattle.sporc_serve.specs.Visits.{visit};
 ghost use Rattle.sporc_docs.specs.Crowds.{IsCrowd, ServesOne, ServesOthers};
-ghost use Rattle.sporc_docs.specs.Hands.{AllHands, Both, HavePasses, LogsBegin, MayHave};
+ghost use Rattle.sporc_docs.specs.Hands.{AllHands, HavePasses, LogsBegin};
 
 use crate::hands::Hand;
-use crate::locked_docs::LockedDocs;
 use crate::session::serve_hand;
-use sporc_base::Memory;
 use sporc_order::Tail;
 use sporc_outside::{Gate, Listen};
 use sporc_serve::{Desk, ServeFault, SessionEnd, with_end};
@@ -39,10 +37,7 @@ where
     ensures crowd { AllHands LogsBegin hands.old
         → IsCrowd turns.now documents.now hands.old hands.new (N.told net.old)
         (N.told net.new) result }
-    ensures shut { AreShutBehind (N.told net.old).returned (N.told net.new).returned }
-    ensures asked { (N.told net.new).asked ≡ (N.told net.old).asked }
-    ensures links_out { (N.told net.new).out ≡ (N.told net.old).out }
-    ensures kept { (N.told net.old).faults ≤ (N.told net.new).faults }
+    ensures net { LeavesNet (N.told net.old) (N.told net.new) }
     ensures unkept { result ≡ Err ServeFault.Unkept → T.may_fail }
 {
     let Some((hand, others)) = hands.split_first_mut() else {
@@ -71,36 +66,4 @@ where
     );
     net.take_back(link);
     with_end(rest, end)
-}
-
-// Serves links with these hands, unless memory ran out as the hands' passes were split.
-pub(crate) fn crowd_if<R: Threads + Wait + Sync, N: Listen, G: Gate + Sync, T: Tail + Send>(
-    rt: &R,
-    alloc: Global,
-    net: &mut N,
-    locked: &LockedDocs<'_, T>,
-    gate: &G,
-    split: Result<(), Memory>,
-    hands: &mut [Hand],
-) -> Result<(), ServeFault>
-where
-    N: Send,
-    N::Link: Send,
-    requires hands { AllHands (Both MayHave locked.now.turns.now) hands.old }
-    requires locks { OnOk split (AllHands (HavePasses locked.now.turns.now) hands.old) }
-    requires one_length { length locked.now.documents.now ≡ length locked.now.turns.now }
-    ensures hands { AllHands (Both MayHave locked.now.turns.now) hands.new }
-    ensures crowd { AllHands LogsBegin hands.old
-        → IsCrowd locked.now.turns.now locked.now.documents.now hands.old hands.new (N.told net.old)
-        (N.told net.new) result }
-    ensures shut { AreShutBehind (N.told net.old).returned (N.told net.new).returned }
-    ensures asked { (N.told net.new).asked ≡ (N.told net.old).asked }
-    ensures links_out { (N.told net.new).out ≡ (N.told net.old).out }
-    ensures kept { (N.told net.old).faults ≤ (N.told net.new).faults }
-    ensures unkept { result ≡ Err ServeFault.Unkept → T.may_fail }
-{
-    match split {
-        Ok(()) => crowd(rt, alloc, net, locked.turns, locked.documents, gate, hands),
-        Err(_) => Err(ServeFault::Memory),
-    }
 }

@@ -1,8 +1,8 @@
 //! The orders of many documents.
 
 ghost use Rattle.std.specs.Prelude.{◌≡◌, ◌≢◌, ◌≤◌, ◌<◌, ◌∷◌, ◌++◌, [], length, None, Err, IfErr};
-ghost use Rattle.std.specs.Prelude.{OnOk, OnErr};
-ghost use Rattle.sporc_docs.specs.Lists.{place_of, route_of, AreApart};
+ghost use Rattle.std.specs.Prelude.{IfSome, OnOk, OnErr};
+ghost use Rattle.sporc_docs.specs.Lists.{is_of, place_of, route_of, AreApart};
 ghost use Rattle.sporc_wire.specs.declared.limits.TheConstants.{MAX_DOCUMENTS};
 
 use crate::fault::DocsFault;
@@ -93,7 +93,7 @@ impl Docs {
         ensures value { result ≡ route_of self.now message.now }
     {
         match message {
-            ToServer::Hello { document, .. } => place_in(&self.orders, document),
+            ToServer::Hello { document, .. } => Some(place_in(&self.orders, document)? as u32),
             ToServer::Submit { .. } | ToServer::Pull { .. } => None,
         }
     }
@@ -115,15 +115,17 @@ impl Docs {
     }
 }
 
-// The place of a document's order.
-fn place_in(orders: &[Order], document: &[u8; 16]) -> Option<u32>
-    requires limit { length orders.now ≤ MAX_DOCUMENTS }
-    ensures value { result ≡ place_of orders.now document.now }
+// Whether an order is this document's.
+fn is_of(order: &Order, document: &[u8; 16]) -> bool
+    ensures { result ≡ is_of document.now order.now }
 {
-    for (place, order) in orders.iter().enumerate() {
-        if is_same(document, order.document()) {
-            return Some(place as u32);
-        }
-    }
-    None
+    is_same(document, order.document())
+}
+
+// The place of a document's order, from 0 on.
+fn place_in(orders: &[Order], document: &[u8; 16]) -> Option<usize>
+    ensures value { result ≡ place_of orders.now document.now }
+    ensures within { IfSome result (λ place. place < length orders.now) }
+{
+    orders.iter().position(|order| is_of(order, document))
 }

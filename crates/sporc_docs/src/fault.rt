@@ -1,7 +1,6 @@
 //! Why a document is not taken, and why a server stopped, or didn't begin.
 
 use sporc_serve::ServeFault;
-use std::alloc::AllocError;
 use thiserror::Error;
 
 /// Why an order is not added.
@@ -16,17 +15,6 @@ pub enum DocsFault {
     /// Out of memory.
     #[error("out of memory")]
     Memory,
-}
-
-impl From<AllocError> for DocsFault {
-    ghost use Rattle.std.specs.Prelude.{◌≡◌};
-    ghost use Rattle.sporc_docs.specs.declared.fault.DocsFault.TheVariants as faults;
-
-    ghost from_gives = { λ _ e. e ≡ faults.Memory };
-
-    fn from(_: AllocError) -> DocsFault {
-        DocsFault::Memory
-    }
 }
 
 /// What a server of many documents answers where not all went well.

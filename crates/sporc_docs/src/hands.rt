@@ -1,11 +1,11 @@
 //! Hands of passes: for each session one pass of each lock.
 
-ghost use Rattle.std.specs.Prelude.{◌≡◌, ◌∷◌, ℕ, [], None, length, replicate, IfOk, OnOk};
+ghost use Rattle.std.specs.Prelude.{◌≡◌, ◌∷◌, ℕ, [], None, length, replicate, IfOk};
+ghost use Rattle.std.specs.List.{AllZip};
 ghost use Rattle.sporc_turn.specs.declared.pass.Pass.{Pass};
 ghost use Rattle.sporc_serve.specs.Crowds.{IsOther};
-ghost use Rattle.sporc_docs.specs.Hands.{AllHands, Both, HasFirst, HasRoom, HavePasses};
-ghost use Rattle.sporc_docs.specs.Hands.{HaveRoom, IsEmpty, JoinsAt, MayHave, SplitsAt, column};
-ghost use Rattle.sporc_docs.specs.Hands.{pass_at};
+ghost use Rattle.sporc_docs.specs.Hands.{AllHands, HasFirst, HasRoom, HavePasses};
+ghost use Rattle.sporc_docs.specs.Hands.{HaveRoom, IsEmpty, JoinsAt, SplitsAt, column, pass_at};
 
 use sporc_base::Memory;
 use sporc_order::Tail;
@@ -13,7 +13,7 @@ use sporc_serve::{Desk, Item};
 use sporc_turn::{Pass, Turn};
 use std::alloc::Global;
 
-// For each lock a pass of it, where one was split.
+// For each lock a pass of it, or none before they are split.
 #[derive(Drop)]
 pub(crate) struct Hand {
     pub(crate) passes: Vec<Option<Pass<Item>>>,
@@ -31,29 +31,24 @@ impl Hand {
         Ok(Hand { passes })
     }
 
-    // Splits the passes, each from number 0 of its lock, as far as memory goes.
-    fn split<T: Tail>(
-        &mut self,
-        turns: &[Turn<Desk<T>>],
-        firsts: &mut [Option<Pass<Item>>],
-    ) -> Result<(), Memory>
-        requires firsts { Both HasFirst turns.now firsts.old }
+    // Splits the passes, each from number 0 of its lock.
+    fn split<T: Tail>(&mut self, turns: &[Turn<Desk<T>>], firsts: &mut [Option<Pass<Item>>])
+        requires firsts { AllZip HasFirst turns.now firsts.old }
         requires room { HaveRoom 1 firsts.old }
-        requires empty { Both IsEmpty turns.now self.old.passes.items }
-        ensures firsts { Both HasFirst turns.now firsts.new }
-        ensures hand { Both MayHave turns.now self.new.passes.items }
-        ensures ok { OnOk result (HavePasses turns.now self.new.passes.items) }
+        requires empty { AllZip IsEmpty turns.now self.old.passes.items }
+        ensures firsts { AllZip HasFirst turns.now firsts.new }
+        ensures hand { HavePasses turns.now self.new.passes.items }
         ensures splits { (i : ℕ) → SplitsAt (pass_at i firsts.old)
             (pass_at i self.new.passes.items ∷ []) (pass_at i firsts.new) }
     {
-        split_each(turns, firsts, &mut self.passes)
+        split_each(turns, firsts, &mut self.passes);
     }
 
     // Joins the passes back, each to number 0 of its lock.
     fn join<T: Tail>(&mut self, turns: &[Turn<Desk<T>>], firsts: &mut [Option<Pass<Item>>])
-        requires firsts { Both HasFirst turns.now firsts.old }
-        requires hand { Both MayHave turns.now self.old.passes.items }
-        ensures firsts { Both HasFirst turns.now firsts.new }
+        requires firsts { AllZip HasFirst turns.now firsts.old }
+        requires hand { HavePasses turns.now self.old.passes.items }
+        ensures firsts { AllZip HasFirst turns.now firsts.new }
         ensures joins { (i : ℕ) → JoinsAt (pass_at i firsts.old)
             (pass_at i self.old.passes.items ∷ []) (pass_at i firsts.new) }
     {
@@ -80,13 +75,12 @@ fn split_at<T: Tail>(
     turn: &Turn<Desk<T>>,
     first: &mut Option<Pass<Item>>,
     place: &mut Option<Pass<Item>>,
-) -> Result<(), Memory>
+)
     requires first { HasFirst turn.now first.old }
     requires room { HasRoom 1 first.old }
     requires empty { place.old ≡ None }
     ensures first { HasFirst turn.now first.new }
-    ensures place { MayHave turn.now place.new }
-    ensures ok { OnOk result (IsOther turn.now place.new) }
+    ensures place { IsOther turn.now place.new }
     ensures splits { SplitsAt first.old (place.new ∷ []) first.new }
 {
     let pass = first.take().unwrap();
@@ -94,81 +88,71 @@ fn split_at<T: Tail>(
         Ok((pass, other)) => {
             *first = Some(pass);
             *place = Some(other);
-            Ok(())
         }
-        Err((pass, memory)) => {
-            *first = Some(pass);
-            Err(memory)
-        }
+        Err(_) => unreachable!(),
     }
 }
 
-// Splits a pass from each number 0, as far as memory goes.
+// Splits a pass from each number 0.
 fn split_each<T: Tail>(
     turns: &[Turn<Desk<T>>],
     firsts: &mut [Option<Pass<Item>>],
     hand: &mut [Option<Pass<Item>>],
-) -> Result<(), Memory>
-    requires firsts { Both HasFirst turns.now firsts.old }
+)
+    requires firsts { AllZip HasFirst turns.now firsts.old }
     requires room { HaveRoom 1 firsts.old }
-    requires empty { Both IsEmpty turns.now hand.old }
-    ensures firsts { Both HasFirst turns.now firsts.new }
-    ensures hand { Both MayHave turns.now hand.new }
-    ensures ok { OnOk result (HavePasses turns.now hand.new) }
+    requires empty { AllZip IsEmpty turns.now hand.old }
+    ensures firsts { AllZip HasFirst turns.now firsts.new }
+    ensures hand { HavePasses turns.now hand.new }
     ensures splits { (i : ℕ)
         → SplitsAt (pass_at i firsts.old) (pass_at i hand.new ∷ []) (pass_at i firsts.new) }
 {
     let Some((turn, turns)) = turns.split_first() else {
-        return Ok(());
+        return;
     };
     let Some((first, firsts)) = firsts.split_first_mut() else {
-        return Ok(());
+        return;
     };
     let Some((place, hand)) = hand.split_first_mut() else {
-        return Ok(());
+        return;
     };
-    let here = split_at(turn, first, place);
-    let others = split_each(turns, firsts, hand);
-    here.and(others)
+    split_at(turn, first, place);
+    split_each(turns, firsts, hand);
 }
 
-// Splits the passes of these hands, as far as memory goes.
+// Splits the passes of these hands.
 pub(crate) fn split_hands<T: Tail>(
     turns: &[Turn<Desk<T>>],
     firsts: &mut [Option<Pass<Item>>],
     hands: &mut [Hand],
-) -> Result<(), Memory>
-    requires firsts { Both HasFirst turns.now firsts.old }
+)
+    requires firsts { AllZip HasFirst turns.now firsts.old }
     requires room { HaveRoom (length hands.old) firsts.old }
-    requires empty { AllHands (Both IsEmpty turns.now) hands.old }
-    ensures firsts { Both HasFirst turns.now firsts.new }
-    ensures hands { AllHands (Both MayHave turns.now) hands.new }
-    ensures ok { OnOk result (AllHands (HavePasses turns.now) hands.new) }
+    requires empty { AllHands (AllZip IsEmpty turns.now) hands.old }
+    ensures firsts { AllZip HasFirst turns.now firsts.new }
+    ensures hands { AllHands (HavePasses turns.now) hands.new }
     ensures splits { (i : ℕ)
         → SplitsAt (pass_at i firsts.old) (column i hands.new) (pass_at i firsts.new) }
 {
     let Some((hand, others)) = hands.split_first_mut() else {
-        return Ok(());
+        return;
     };
-    let here = hand.split(turns, firsts);
-    let later = split_hands(turns, firsts, others);
-    here.and(later)
+    hand.split(turns, firsts);
+    split_hands(turns, firsts, others);
 }
 
-// Joins a pass back to number 0, if it is there.
+// Joins a pass back to number 0.
 fn join_at<T: Tail>(
     turn: &Turn<Desk<T>>,
     first: &mut Option<Pass<Item>>,
     place: &mut Option<Pass<Item>>,
 )
     requires first { HasFirst turn.now first.old }
-    requires place { MayHave turn.now place.old }
+    requires place { IsOther turn.now place.old }
     ensures first { HasFirst turn.now first.new }
     ensures joins { JoinsAt first.old (place.old ∷ []) first.new }
 {
-    let Some(other) = place.take() else {
-        return;
-    };
+    let other = place.take().unwrap();
     let pass = first.take().unwrap();
     *first = Some(turn.join(pass, other));
 }
@@ -179,9 +163,9 @@ fn join_each<T: Tail>(
     firsts: &mut [Option<Pass<Item>>],
     hand: &mut [Option<Pass<Item>>],
 )
-    requires firsts { Both HasFirst turns.now firsts.old }
-    requires hand { Both MayHave turns.now hand.old }
-    ensures firsts { Both HasFirst turns.now firsts.new }
+    requires firsts { AllZip HasFirst turns.now firsts.old }
+    requires hand { HavePasses turns.now hand.old }
+    ensures firsts { AllZip HasFirst turns.now firsts.new }
     ensures joins { (i : ℕ)
         → JoinsAt (pass_at i firsts.old) (pass_at i hand.old ∷ []) (pass_at i firsts.new) }
 {
@@ -204,9 +188,9 @@ pub(crate) fn join_hands<T: Tail>(
     firsts: &mut [Option<Pass<Item>>],
     hands: &mut [Hand],
 )
-    requires firsts { Both HasFirst turns.now firsts.old }
-    requires hands { AllHands (Both MayHave turns.now) hands.old }
-    ensures firsts { Both HasFirst turns.now firsts.new }
+    requires firsts { AllZip HasFirst turns.now firsts.old }
+    requires hands { AllHands (HavePasses turns.now) hands.old }
+    ensures firsts { AllZip HasFirst turns.now firsts.new }
     ensures joins { (i : ℕ)
         → JoinsAt (pass_at i firsts.old) (column i hands.old) (pass_at i firsts.new) }
 {

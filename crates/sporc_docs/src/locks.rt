@@ -3,9 +3,10 @@
 ghost use Rattle.std.specs.Prelude.{◌≡◌, ◌≤◌, ◌<◌, ◌+◌, ◌∷◌, ◌++◌, List, [], Some, Err, length};
 ghost use Rattle.std.specs.Prelude.{reverse, IfOk, OnOk};
 ghost use Rattle.std.specs.Vec.{vec_len, vec_capacity};
-ghost use Rattle.sporc_outside.specs.Nets.{AreShutBehind};
+ghost use Rattle.std.specs.List.{AllZip};
 ghost use Rattle.sporc_order.specs.OrderModel.{OrderModel};
-ghost use Rattle.sporc_docs.specs.Hands.{AllHands, Both, HasFirst, HaveRoom, IsEmpty};
+ghost use Rattle.sporc_serve.specs.Crowds.{LeavesNet};
+ghost use Rattle.sporc_docs.specs.Hands.{AllHands, HasFirst, HaveRoom, IsEmpty};
 ghost use Rattle.sporc_docs.specs.Locks.{AreBack, AreOpen, Closes, EndsAll};
 ghost use Rattle.sporc_docs.specs.Served.{AreKept};
 
@@ -118,18 +119,15 @@ impl<T: Tail> Locks<T> {
         N: Send,
         N::Link: Send,
         T: Send,
-        requires firsts { Both HasFirst self.old.turns.items self.old.firsts.items }
+        requires firsts { AllZip HasFirst self.old.turns.items self.old.firsts.items }
         requires room { HaveRoom (length hands.old) self.old.firsts.items }
-        requires empty { AllHands (Both IsEmpty self.old.turns.items) hands.old }
+        requires empty { AllHands (AllZip IsEmpty self.old.turns.items) hands.old }
         requires one_length { length self.old.documents.items ≡ length self.old.turns.items }
         ensures turns { self.new.turns ≡ self.old.turns }
-        ensures firsts { Both HasFirst self.new.turns.items self.new.firsts.items }
+        ensures firsts { AllZip HasFirst self.new.turns.items self.new.firsts.items }
         ensures ending { EndsAll self.old.documents.items self.old.firsts.items
             self.new.firsts.items (N.told net.old) (N.told net.new) (length hands.old) result }
-        ensures shut { AreShutBehind (N.told net.old).returned (N.told net.new).returned }
-        ensures asked { (N.told net.new).asked ≡ (N.told net.old).asked }
-        ensures links_out { (N.told net.new).out ≡ (N.told net.old).out }
-        ensures kept { (N.told net.old).faults ≤ (N.told net.new).faults }
+        ensures net { LeavesNet (N.told net.old) (N.told net.new) }
         ensures unkept { result ≡ Err ServeFault.Unkept → T.may_fail }
     {
         let locked = LockedDocs {
@@ -141,14 +139,14 @@ impl<T: Tail> Locks<T> {
 
     // Takes the orders and their tails out of their locks, the last lock's first.
     pub(crate) fn close(self, orders: &mut Vec<Order>, tails: &mut Vec<T>)
-        requires firsts { Both HasFirst self.turns.items self.firsts.items }
+        requires firsts { AllZip HasFirst self.turns.items self.firsts.items }
         requires back { AreBack self.firsts.items }
         requires tails { AreKept T.keeps tails.old.items orders.old.items }
         requires room { vec_len orders.old + vec_len self.turns ≤ vec_capacity orders.old }
         requires tails_room { vec_len tails.old + vec_len self.turns ≤ vec_capacity tails.old }
         ensures closed { (os : List OrderModel)
             × (orders.new.items ≡ orders.old.items ++ reverse os)
-            × Both Closes self.firsts.items os }
+            × AllZip Closes self.firsts.items os }
         ensures tails { AreKept T.keeps tails.new.items orders.new.items }
     {
         let Locks {

@@ -4,6 +4,7 @@ ghost use Rattle.std.specs.Prelude.{◌≡◌, ◌≢◌, ◌≤◌, ℕ, List, 
 ghost use Rattle.sporc_outside.specs.Told.{AppendsItem, MayAppend};
 ghost use Rattle.sporc_outside.specs.Nets.{AreShutBehind};
 ghost use Rattle.sporc_order.specs.OrderModel.{OrderModel};
+ghost use Rattle.sporc_serve.specs.Crowds.{LeavesNet};
 ghost use Rattle.sporc_wire.specs.declared.limits.TheConstants.{MAX_SESSIONS};
 ghost use Rattle.sporc_docs.specs.Lists.{AreApart};
 ghost use Rattle.sporc_docs.specs.Served.{AreKept, AreServed, as_served};
@@ -40,10 +41,7 @@ where
         (N.told net.new) sessions result }
     ensures tails { AreKept T.keeps tails.new.items orders.new.items }
     ensures unkept { result ≡ Err ServeFault.Unkept → T.may_fail }
-    ensures shut { AreShutBehind (N.told net.old).returned (N.told net.new).returned }
-    ensures asked { (N.told net.new).asked ≡ (N.told net.old).asked }
-    ensures links_out { (N.told net.new).out ≡ (N.told net.old).out }
-    ensures kept { (N.told net.old).faults ≤ (N.told net.new).faults }
+    ensures net { LeavesNet (N.told net.old) (N.told net.new) }
 {
     let count = orders.len();
     let Ok(mut hands) = empty_hands(alloc, sessions, count) else {

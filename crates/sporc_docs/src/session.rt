@@ -66,12 +66,7 @@ fn place_among(documents: &[[u8; 16]], document: &[u8; 16]) -> Option<usize>
     ensures value { result ≡ position_from (bytes_eq document.now) 0 documents.now }
     ensures within { IfSome result (λ place. place < length documents.now) }
 {
-    for (place, held) in documents.iter().enumerate() {
-        if is_same(document, held) {
-            return Some(place);
-        }
-    }
-    None
+    documents.iter().position(|held| is_same(document, held))
 }
 
 // A session over a link. Its first message names its document, for good, and a first message that

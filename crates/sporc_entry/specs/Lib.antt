@@ -6,3 +6,4 @@ pub mod Genesis
 pub mod EntryView
 pub mod CommittedChanges
 pub mod Skimming
+pub mod Codes

@@ -1,4 +1,4 @@
-//! Limits of entries, lengths in bytes.
+//! Limits of entries: the highest number of a member, and lengths in bytes.
 
 /// The highest number of a member.
 pub const HIGHEST_MEMBER: u32 = 65_535;

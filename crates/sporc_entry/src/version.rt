@@ -10,7 +10,7 @@ use sporc_member::FIRST_DEVICE;
 /// author's first.
 pub const FIRST_VERSION: u8 = 1;
 
-/// The version of those after it: an entry names its author's device.
+/// The version of a document's entries behind its Upgrade: an entry names its author's device.
 pub const DEVICES_VERSION: u8 = 2;
 
 // The kinds of changes.

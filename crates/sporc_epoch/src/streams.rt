@@ -31,7 +31,7 @@ pub fn entry_stream(device: Device, leaf: u32) -> u64
         + u64::from(leaf)
 }
 
-/// That of the entry with this header.
+/// The number of the stream of the entry with this header.
 pub fn stream_of(header: &Header) -> u64
     ensures value { result ≡ stream_of header.now }
 {

@@ -12,7 +12,7 @@ fails_first one other Failed faults.Outside r k why = why
 fails_first one other Failed fault r k why = ap (λ s. s >>= k) why
 
 -- what may fail in more ways, or over a longer time, tells the same
-tells_as : {X Y : Type 0} (view : X → Y) (P Q : Type 0) (r : Result X Fault) (s : Result Y Fault) → (P → Q) → AnswersUnlessOutside view P r s → AnswersUnlessOutside view Q r s
+pub tells_as : {X Y : Type 0} (view : X → Y) (P Q : Type 0) (r : Result X Fault) (s : Result Y Fault) → (P → Q) → AnswersUnlessOutside view P r s → AnswersUnlessOutside view Q r s
 tells_as view P Q (Ok x) s then told = told
 tells_as view P Q (Err faults.Memory) s then told = tt
 tells_as view P Q (Err faults.Outside) s then told = then told

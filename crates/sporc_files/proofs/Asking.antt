@@ -1,11 +1,11 @@
 -- Names and addresses asked for, one call after another.
-use Rattle.std.proofs.Common.{◌≤◌, inl, inr, ℕ, ◌+◌, List, [], ◌∷◌, ◌++◌, Option, Some, None, sym, ap, ◌∙◌, append-nil, append_assoc, arith}
-use Rattle.sporc_files.proofs.Common.{Contains}
-use Rattle.std.proofs.lemmas.List.{replicate-append-replicate}
+use Rattle.std.proofs.Common.{◌≤◌, inl, inr, ℕ, ◌+◌, List, [], ◌∷◌, ◌++◌, map, Option, Some, None, refl, subst, sym, ap, ◌∙◌, append-nil, append_assoc, arith}
+use Rattle.sporc_files.proofs.Common.{Contains, File, FileNames, FolderTold, Use, file_name}
+use Rattle.std.proofs.lemmas.List.{map-append, replicate-append-replicate}
 use Rattle.std.specs.Prelude.{replicate}
 use Rattle.std.proofs.lemmas.List.Elements.{All-append, All-nil, All-weaker, Contains-append_left, Contains-append_right}
 use Rattle.sporc_outside.specs.Told.{MayAppend}
-use Rattle.sporc_files.specs.Uses.{AsksAtMost, AsksOnly}
+use Rattle.sporc_files.specs.Uses.{AsksAtMost, AsksOnly, OnlyReads}
 
 -- ---- names
 
@@ -37,6 +37,49 @@ asks_again first rest a b c all then =
 -- some of the first names, and then some of the others
 pub asks_then : (first rest : List (List ℕ)) (a b c : Option (List (List ℕ))) → AsksOnly first a b → AsksOnly rest b c → AsksOnly (first ++ rest) a c
 asks_then first rest a b c one then = asks_again first rest a b c (asks_first first rest a b one) then
+
+-- ---- files that are only read
+
+pub reads_nothing : (names : FileNames) (read : List File) (folder : FolderTold) → OnlyReads names read (record { before = folder; after = folder })
+reads_nothing names read folder = record { files = refl; lent = refl; may_ask = AsksOnly-none (map (file_name names) read) folder.asked; kept = omega arith }
+
+module _ (names : FileNames) where
+  -- the names of these files are among those of others
+  abbrev pub Among : List File → List File → Type 0
+  Among few all = (name : List ℕ) → Contains (map (file_name names) few) name → Contains (map (file_name names) all) name
+
+  pub reads_among : (few all : List File) (folder : Use FolderTold) → Among few all → OnlyReads names few folder → OnlyReads names all folder
+  reads_among few all folder among reads = record {
+    files = reads.files;
+    lent = reads.lent;
+    may_ask = AsksOnly-among (map (file_name names) few) (map (file_name names) all) folder.before.asked folder.after.asked among reads.may_ask;
+    kept = reads.kept;
+  }
+
+  -- all of them, and then some again
+  pub reads_again : (few all : List File) (first mid last : FolderTold) → Among few all → OnlyReads names all (record { before = first; after = mid })
+      → OnlyReads names few (record { before = mid; after = last }) → OnlyReads names all (record { before = first; after = last })
+  reads_again few all first mid last among reads then = record {
+    files = then.files ∙ reads.files;
+    lent = then.lent ∙ reads.lent;
+    may_ask = AsksOnly-trans (map (file_name names) all) first.asked mid.asked last.asked reads.may_ask
+        (AsksOnly-among (map (file_name names) few) (map (file_name names) all) mid.asked last.asked among then.may_ask);
+    kept = omega (arith, reads.kept, then.kept);
+  }
+
+  -- some of the first files are some of all
+  pub reads_first : (few rest : List File) (folder : Use FolderTold) → OnlyReads names few folder → OnlyReads names (few ++ rest) folder
+  reads_first few rest folder reads = reads_among few (few ++ rest) folder
+      (λ name is. subst (λ (all : List (List ℕ)). Contains all name) (sym (map-append (file_name names) few rest))
+      (Contains-append_left (map (file_name names) few) (map (file_name names) rest) name is)) reads
+
+  -- some of the first files, and then some of the others
+  pub reads_then : (few rest : List File) (first mid last : FolderTold) → OnlyReads names few (record { before = first; after = mid })
+      → OnlyReads names rest (record { before = mid; after = last }) → OnlyReads names (few ++ rest) (record { before = first; after = last })
+  reads_then few rest first mid last reads then = reads_again rest (few ++ rest) first mid last
+      (λ name is. subst (λ (all : List (List ℕ)). Contains all name) (sym (map-append (file_name names) few rest))
+      (Contains-append_right (map (file_name names) few) (map (file_name names) rest) name is))
+      (reads_first few rest (record { before = first; after = mid }) reads) then
 
 -- ---- an address, again and again
 

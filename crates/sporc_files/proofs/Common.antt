@@ -6,9 +6,11 @@ pub use Rattle.std.specs.List.{Contains, flat_map}
 pub use Rattle.std.specs.Result.{IfErr, OnErr, OnOk}
 pub use Rattle.sporc_outside.proofs.Prefixes.{AppendsPrefix-all, AppendsPrefix-first, AppendsPrefix-then}
 pub use Rattle.sporc_outside.specs.Counts.{CountsFaults, Rose}
-pub use Rattle.sporc_outside.specs.Files.{ChangesFile, HasFile, HasNoFile, IsAppendFault, IsReadFault, IsTooLong}
+pub use Rattle.sporc_outside.specs.Files.{ChangesFile, HasFile, HasNoFile, IsAppendFault, IsDiskFault, IsReadFault, IsTooLong}
 pub use Rattle.sporc_outside.specs.declared.file_fault.FileFault.{FileFault}
 pub use Rattle.sporc_outside.specs.declared.file_fault.FileFault.TheVariants.{Exists, Failed, Memory, Missing, TooLong}
+pub use Rattle.sporc_outside.specs.Folders.{FolderTold}
+pub use Rattle.sporc_outside.specs.Uses.{Use}
 pub use Rattle.sporc_outside.specs.declared.named_file.NamedFile.{NamedFile}
 pub use Rattle.sporc_member.specs.Device.{first_device}
 pub use Rattle.sporc_member.specs.declared.device.Device.{Device}

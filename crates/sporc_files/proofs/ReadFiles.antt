@@ -1,12 +1,13 @@
 -- What is read of files, and what follows of it.
-use Rattle.std.proofs.Common.{◌≡◌, ℕ, ◌≤◌, ◌<◌, List, length, Option, None, Some, Result, Ok, Err, refl, sym, ap, ◌∙◌, arith}
+use Rattle.std.proofs.Common.{◌≡◌, ℕ, ◌≤◌, ◌<◌, List, length, Option, None, Some, Result, Ok, Err, refl, sym, ap, ◌∙◌, subst, arith}
 use Rattle.std.proofs.lemmas.Bool.{le-ltb, lt-ltb}
-use Rattle.sporc_files.proofs.Common.{Rose, HasFile, HasNoFile, NamedFile, Fault, File, FileNames, file_name, IsFileFault, AnswersUnlessOutside}
+use Rattle.sporc_files.proofs.Common.{Rose, HasFile, HasNoFile, NamedFile, Use, FolderTold, Fault, File, FileNames, file_name, IsFileFault, AnswersUnlessOutside}
 use Rattle.sporc_bytes.specs.Fields.{◌>>=◌, fault_as}
 use Rattle.sporc_outside.specs.Files.{file_in}
 use Rattle.sporc_outside.specs.declared.file_fault.TheConstants.{MAX_FILE}
-use Rattle.sporc_files.proofs.Answering.{fails_first, tells_alone, tells_behind}
-use Rattle.sporc_files.specs.Contents.{IsFileAt, said}
+use Rattle.sporc_files.proofs.Answering.{fails_first, tells_alone, tells_as, tells_behind}
+use Rattle.sporc_files.proofs.FaultCases.{IsPart}
+use Rattle.sporc_files.specs.Contents.{AnswersOfFile, IsFileAt, said}
 use Rattle.sporc_files.specs.Reading.{SaysFile}
 use Rattle.sporc_files.specs.declared.fault.Fault.TheVariants as faults
 
@@ -42,35 +43,44 @@ module _ {A : Type 0} (parse : List ℕ → Result A ℕ) where
       → (content : Option (List ℕ)) × IsFileAt told name content × (said parse file content ≡ Ok a)
   says told name file a (bytes, short, has, is) = (Some bytes, has_at told name bytes has, said_short file bytes (Ok a) short is)
 
-  pub fails : {X : Type 0} (view : X → A) (told : Option (List NamedFile)) (before after : ℕ) (names : FileNames) (file : File) (fault : Fault)
-      → IsFileFault parse told before after names file fault
-      → (content : Option (List ℕ)) × IsFileAt told (file_name names file) content × AnswersUnlessOutside view (Rose before after) (Err fault) (said parse file content)
-  fails view told before after names file faults.Memory why = (there told (file_name names file), is_there told (file_name names file), tt)
-  fails view told before after names file faults.Outside why = (there told (file_name names file), is_there told (file_name names file), why)
-  fails view told before after names file (faults.Missing other) (same, none) =
-      (None, none_at told (file_name names file) none, ap (λ (f : File). Err (faults.Missing f)) (sym same))
-  fails view told before after names file (faults.TooLong other) (same, len, (above, bytes, is, has)) = (
+  pub fails : {X : Type 0} (view : X → A) (folder : Use FolderTold) (names : FileNames) (file : File) (fault : Fault) → IsFileFault parse folder names file fault
+      → AnswersOfFile view folder (file_name names file) (Err fault) (said parse file)
+  fails view folder names file faults.Memory why = (there folder.before.files (file_name names file), is_there folder.before.files (file_name names file), tt)
+  fails view folder names file faults.Outside why = (there folder.before.files (file_name names file), is_there folder.before.files (file_name names file), why)
+  fails view folder names file (faults.Missing other) (same, none) =
+      (None, none_at folder.before.files (file_name names file) none, ap (λ (f : File). Err (faults.Missing f)) (sym same))
+  fails view folder names file (faults.TooLong other) (same, len, (above, bytes, is, has)) = (
     Some bytes,
-    has_at told (file_name names file) bytes has,
+    has_at folder.before.files (file_name names file) bytes has,
     said_long file bytes (omega (arith, above, is)) ∙ ap (λ (f : File). Err (faults.TooLong f)) (sym same),
   )
-  fails view told before after names file (faults.Malformed other at) (same, bytes, short, has, is) = (
+  fails view folder names file (faults.Malformed other at) (same, bytes, short, has, is) = (
     Some bytes,
-    has_at told (file_name names file) bytes has,
+    has_at folder.before.files (file_name names file) bytes has,
     said_short file bytes (Err at) short is ∙ ap (λ (f : File). Err (faults.Malformed f at)) (sym same),
   )
-  fails view told before after names file fault why = absurd why
+  fails view folder names file fault why = absurd why
+
+-- in a part of a use of the folder
+pub answers_within : {X Y : Type 0} (view : X → Y) (whole part : Use FolderTold) (name : List ℕ) (r : Result X Fault) (says : Option (List ℕ) → Result Y Fault) → AnswersOfFile view part name r says
+    → IsPart whole part → AnswersOfFile view whole name r says
+answers_within view whole part name r says (content, at, tells) is_part = (
+  content,
+  subst (λ (o : Option (List NamedFile)). IsFileAt o name content) is_part.same at,
+  tells_as view (Rose part.before.faults part.after.faults) (Rose whole.before.faults whole.after.faults) r (says content) (λ rose. omega (arith, is_part.since, is_part.until, rose)) tells,
+)
 
 -- ---- a file that is read, and a value made of what it says
-module _ {A X Y : Type 0} (parse : List ℕ → Result A ℕ) (view : X → Y) (told : Option (List NamedFile)) (before after : ℕ) (names : FileNames) (file : File) (k : A → Result Y Fault) where
-  pub reads_none : (fault : Fault) (r : Result X Fault) → r ≡ Err fault → IsFileFault parse told before after names file fault
-      → (content : Option (List ℕ)) × IsFileAt told (file_name names file) content × AnswersUnlessOutside view (Rose before after) r (said parse file content >>= k)
+module _ {A X Y : Type 0} (parse : List ℕ → Result A ℕ) (view : X → Y) (folder : Use FolderTold) (names : FileNames) (file : File) (k : A → Result Y Fault) where
+  pub reads_none : (fault : Fault) (r : Result X Fault) → r ≡ Err fault → IsFileFault parse folder names file fault
+      → AnswersOfFile view folder (file_name names file) r (λ content. said parse file content >>= k)
   reads_none fault r is_fault why =
-      let (content, is, tells) = fails parse (λ (a : A). a) told before after names file fault why in
-      (content, is, rw is_fault (fails_first (λ (a : A). a) view (Rose before after) fault (said parse file content) k tells))
+      let (content, is, tells) = fails parse (λ (a : A). a) folder names file fault why in
+      (content, is, rw is_fault (fails_first (λ (a : A). a) view (Rose folder.before.faults folder.after.faults) fault (said parse file content) k tells))
 
-  pub reads_value : (a : A) (r : Result X Fault) → SaysFile parse told (file_name names file) a → AnswersUnlessOutside view ⊥ r (k a)
-      → (content : Option (List ℕ)) × IsFileAt told (file_name names file) content × AnswersUnlessOutside view (Rose before after) r (said parse file content >>= k)
+  pub reads_value : (a : A) (r : Result X Fault) → SaysFile parse folder.before.files (file_name names file) a → AnswersUnlessOutside view ⊥ r (k a)
+      → AnswersOfFile view folder (file_name names file) r (λ content. said parse file content >>= k)
   reads_value a r said_a tells =
-      let (content, is, value) = says parse told (file_name names file) file a said_a in
-      (content, is, tells_behind view (Rose before after) r (said parse file content) a k value (tells_alone view (Rose before after) r (k a) tells))
+      let (content, is, value) = says parse folder.before.files (file_name names file) file a said_a in
+      let Failed = Rose folder.before.faults folder.after.faults in
+      (content, is, tells_behind view Failed r (said parse file content) a k value (tells_alone view Failed r (k a) tells))

@@ -5,7 +5,9 @@ use Rattle.std.specs.Global.{Vec}
 use Rattle.sporc_bytes.specs.Fields.{◌>>=◌, fault_as}
 use Rattle.sporc_outside.specs.Counts.{Rose}
 use Rattle.sporc_outside.specs.Files.{file_in}
+use Rattle.sporc_outside.specs.Folders.{FolderTold}
 use Rattle.sporc_outside.specs.Told.{IfTold}
+use Rattle.sporc_outside.specs.Uses.{Use}
 use Rattle.sporc_outside.specs.declared.file_fault.TheConstants.{MAX_FILE}
 use Rattle.sporc_outside.specs.declared.named_file.NamedFile.{NamedFile}
 use Rattle.sporc_entry.specs.declared.genesis.Genesis.{Genesis}
@@ -23,13 +25,13 @@ use Rattle.sporc_files.specs.Reading.{any_bytes, genesis_file}
 abbrev pub IsFileAt : Option (List NamedFile) → List ℕ → Option (List ℕ) → Type 0
 IsFileAt told name content = IfTold told (λ files. file_in files name ≡ content)
 
--- an answer to what a told folder holds at a name, where its count of faults went from `before` to
--- `after`
-abbrev pub AnswersOfFile : {X Y : Type 0} → (X → Y) → Option (List NamedFile) → List ℕ → ℕ → ℕ
+-- an answer to what a folder held at a name before
+abbrev pub AnswersOfFile : {X Y : Type 0} → (X → Y) → Use FolderTold → List ℕ
     → Result X Fault → (Option (List ℕ) → Result Y Fault) → Type 0
-AnswersOfFile view told name before after answer says =
-    (content : Option (List ℕ)) × IsFileAt told name content
-    × AnswersUnlessOutside view (Rose before after) answer (says content)
+AnswersOfFile view folder name answer says =
+    (content : Option (List ℕ)) × IsFileAt folder.before.files name content
+    × AnswersUnlessOutside view (Rose folder.before.faults folder.after.faults) answer
+    (says content)
 
 -- ---- files
 

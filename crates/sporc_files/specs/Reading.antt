@@ -10,6 +10,8 @@ use Rattle.sporc_member.specs.declared.device.TheConstants.{FIRST_DEVICE}
 use Rattle.sporc_member.specs.declared.founder.Founder.{Founder}
 use Rattle.sporc_outside.specs.Counts.{Rose}
 use Rattle.sporc_outside.specs.Files.{HasFile, HasNoFile, IsTooLong}
+use Rattle.sporc_outside.specs.Folders.{FolderTold}
+use Rattle.sporc_outside.specs.Uses.{Use}
 use Rattle.sporc_outside.specs.declared.file_fault.TheConstants.{MAX_FILE}
 use Rattle.sporc_outside.specs.declared.named_file.NamedFile.{NamedFile}
 use Rattle.sporc_entry.specs.declared.fault.GenesisFault.{GenesisFault}
@@ -73,29 +75,29 @@ abbrev pub SaysFile : {A : Type 0} → (List ℕ → Result A ℕ) → Option (L
 SaysFile parse files name a =
     (bytes : List ℕ) × (length bytes ≤ MAX_FILE) × HasFile files name bytes × (parse bytes ≡ Ok a)
 
--- why a file says nothing, where the folder's count of faults went from `before` to `after`: memory
--- ran out, a call failed, or of this file it is not there, it is too long, or it is malformed at
--- this place
-abbrev pub IsFileFault : {A : Type 0} → (List ℕ → Result A ℕ) → Option (List NamedFile) → ℕ → ℕ
-    → FileNames → File → Fault → Type 0
-IsFileFault parse files before after names file faults.Memory = Unit {0}
-IsFileFault parse files before after names file faults.Outside = Rose before after
-IsFileFault parse files before after names file (faults.Missing other) =
-    (other ≡ file) × HasNoFile files (file_name names file)
-IsFileFault parse files before after names file (faults.TooLong other) =
-    (other ≡ file) × (len : ℕ) × IsTooLong files (file_name names file) len
-IsFileFault parse files before after names file (faults.Malformed other at) =
+-- why a file of a folder says nothing: memory ran out, a call failed, or of this file it is not
+-- there, it is too long, or it is malformed at this place
+abbrev pub IsFileFault : {A : Type 0} → (List ℕ → Result A ℕ) → Use FolderTold → FileNames → File
+    → Fault → Type 0
+IsFileFault parse folder names file faults.Memory = Unit {0}
+IsFileFault parse folder names file faults.Outside =
+    Rose folder.before.faults folder.after.faults
+IsFileFault parse folder names file (faults.Missing other) =
+    (other ≡ file) × HasNoFile folder.before.files (file_name names file)
+IsFileFault parse folder names file (faults.TooLong other) =
+    (other ≡ file) × (len : ℕ) × IsTooLong folder.before.files (file_name names file) len
+IsFileFault parse folder names file (faults.Malformed other at) =
     (other ≡ file) × (bytes : List ℕ) × (length bytes ≤ MAX_FILE)
-    × HasFile files (file_name names file) bytes × (parse bytes ≡ Err at)
-IsFileFault parse files before after names file fault = ⊥
+    × HasFile folder.before.files (file_name names file) bytes × (parse bytes ≡ Err at)
+IsFileFault parse folder names file fault = ⊥
 
 -- why a file is not handed out to be appended to: memory ran out, a call failed, or it is too long
-abbrev pub IsAppendingFault : Option (List NamedFile) → ℕ → ℕ → FileNames → File → Fault → Type 0
-IsAppendingFault files before after names file faults.Memory = Unit {0}
-IsAppendingFault files before after names file faults.Outside = Rose before after
-IsAppendingFault files before after names file (faults.TooLong other) =
-    (other ≡ file) × (len : ℕ) × IsTooLong files (file_name names file) len
-IsAppendingFault files before after names file fault = ⊥
+abbrev pub IsAppendingFault : Use FolderTold → FileNames → File → Fault → Type 0
+IsAppendingFault folder names file faults.Memory = Unit {0}
+IsAppendingFault folder names file faults.Outside = Rose folder.before.faults folder.after.faults
+IsAppendingFault folder names file (faults.TooLong other) =
+    (other ≡ file) × (len : ℕ) × IsTooLong folder.before.files (file_name names file) len
+IsAppendingFault folder names file fault = ⊥
 
 -- what a file that may be missing says: something, or it is not there
 abbrev pub SaysFileIfThere : {A : Type 0} → (List ℕ → Result A ℕ) → Option (List NamedFile) → List ℕ

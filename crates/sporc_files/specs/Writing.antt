@@ -2,6 +2,8 @@
 use Rattle.std.specs.Prelude.{◌≡◌, ◌⊎◌, ℕ, List, [], ◌∷◌, Option, option_map}
 use Rattle.sporc_outside.specs.Counts.{Rose}
 use Rattle.sporc_outside.specs.Files.{ChangesFile, HasSomeFile, with_file}
+use Rattle.sporc_outside.specs.Folders.{FolderTold}
+use Rattle.sporc_outside.specs.Uses.{Use}
 use Rattle.sporc_outside.specs.declared.named_file.NamedFile.{NamedFile}
 use Rattle.sporc_files.specs.declared.fault.Fault.{Fault}
 use Rattle.sporc_files.specs.declared.fault.Fault.TheVariants as faults
@@ -40,12 +42,12 @@ abbrev pub file_with : FileNames → File → List ℕ → NamedFile
 file_with names file bytes = record { name = file_name names file; bytes = bytes }
 
 -- why a file is not written as a new one
-abbrev pub IsNewFault : Option (List NamedFile) → ℕ → ℕ → FileNames → File → Fault → Type 0
-IsNewFault files before after names file faults.Memory = Unit {0}
-IsNewFault files before after names file faults.Outside = Rose before after
-IsNewFault files before after names file (faults.Exists other) =
-    (other ≡ file) × HasSomeFile files (file_name names file)
-IsNewFault files before after names file fault = ⊥
+abbrev pub IsNewFault : Use FolderTold → FileNames → File → Fault → Type 0
+IsNewFault folder names file faults.Memory = Unit {0}
+IsNewFault folder names file faults.Outside = Rose folder.before.faults folder.after.faults
+IsNewFault folder names file (faults.Exists other) =
+    (other ≡ file) × HasSomeFile folder.before.files (file_name names file)
+IsNewFault folder names file fault = ⊥
 
 -- what stands of a file that was not written: only if a call failed, anything
 abbrev pub LeavesFile : List ℕ → Option (List NamedFile) → Option (List NamedFile) → Fault → Type 0

@@ -24,14 +24,14 @@ use sporc_outside::{Failed, Sink, write_all};
 /// |---|---|---|
 /// | 1 | `Memory` | memory ran out |
 /// | 2 | `Words` | the words ask for nothing |
-/// | 3 | `Missing` to `LongScript`, `Ahead` | a file is missing, is there already or is too long, a file or a script is outside its grammar, or a position is above the history's length |
-/// | 4 | `Refused` to `Opening` | an entry failed a check, or a member's keys do not open the history |
-/// | 5 | `Unsettled` | the rounds of a session were not enough |
-/// | 6 | `LinkEnded`, `Outside` | a link ended within an answer, or something outside failed |
-/// | 7 | `Leaf` | a key has no leaf left |
-/// | 8 | `FullHistory` to `Worn` | a limit is reached |
-/// | 9 | `Message` | a server sent what is no message |
-/// | 10 | `Edit` | an editor's line was refused |
+/// | 3 | `Missing` to `LongScript`, `Ahead` | a file is missing, is there already, or is too long or malformed, two names are of one document, a script has a line that is not valid or is too long, or a history has fewer entries than the words ask for |
+/// | 4 | `Refused` to `Opening` | an entry was refused by a check or rejected by the server, or a member's keys do not open the document |
+/// | 5 | `Unsettled` | the rounds of a session are over, and edits wait or the history is shorter than was asked for |
+/// | 6 | `LinkEnded`, `Outside` | something outside failed, or a link ended before an answer was whole |
+/// | 7 | `Leaf` | the device's key has no leaf left |
+/// | 8 | `FullHistory` to `Worn` | a history, a journal or a file is full, or the tickets of a lock are used up |
+/// | 9 | `Message` | what the server sent is no message |
+/// | 10 | `Edit` | an edit of an editor's script was refused |
 #[derive(Clone, Copy, PartialEq, Eq)]
 pub enum Fault {
     /// Memory ran out.
@@ -110,8 +110,8 @@ impl Fault {
         }
     }
 
-    /// The fault of a document's genesis or log as that of one of several documents, counted from
-    /// 1.
+    /// The fault of a document's genesis, log or tail as that of one of several documents, counted
+    /// from 1.
     pub fn among(self, number: u32) -> Fault
         ensures value { result ≡ fault_among number self }
     {

@@ -5,7 +5,7 @@
 //! - [`read_genesis_file`], [`read_key_file`], [`read_own_key`], [`read_ring_file`]: what a file
 //!   says; [`read_bytes`] and [`read_if_there`]: its bytes. [`write_new_file`],
 //!   [`write_whole_file`]: files are written. [`append_to_file`]: one that is appended to, with its
-//!   name.
+//!   name; [`lend_disk`]: a disk over one.
 //! - [`Fault`]: why a command did not do all its work, with its exit status and its line.
 //!   [`stopped`]: that of a history's file that is not whole.
 //! - [`open_line`]: the line of a member's device, by what the member's ring file says, or by
@@ -40,7 +40,7 @@ mod reading;
 mod text;
 mod writing;
 
-pub use appending::{Appended, append_to_file};
+pub use appending::{Appended, append_to_file, lend_disk};
 pub use causes::{first_fault, stopped};
 pub use fault::Fault;
 pub use file::File;

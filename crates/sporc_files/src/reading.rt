@@ -1,9 +1,10 @@
 //! Files that are read.
 
-ghost use Rattle.std.specs.Prelude.{◌≡◌, ◌≢◌, ◌≤◌, [], ◌∷◌, Err, IfOk, IfErr, option_map};
+ghost use Rattle.std.specs.Prelude.{◌≡◌, ◌≢◌, [], ◌∷◌, Err, IfOk, IfErr, option_map};
 ghost use Rattle.lms_leaf.specs.LeafFile.{IsLeafHeight};
 ghost use Rattle.lms_tree.specs.LmsType.{height_of};
 ghost use Rattle.sporc_entry.specs.Genesis.{IsGenesis};
+ghost use Rattle.sporc_outside.specs.Uses.{use_of};
 ghost use Rattle.sporc_keys.specs.KeyFile.{IsKeyWidth};
 ghost use Rattle.sporc_keys.specs.RingFile.{IsRingFile, ring_file_of_member};
 ghost use Rattle.sporc_files.specs.declared.file.File.{File};
@@ -12,7 +13,7 @@ ghost use Rattle.sporc_files.specs.Names.{file_name};
 ghost use Rattle.sporc_files.specs.Reading.{IsFileFault, SaysFile, SaysFileIfThere, any_bytes};
 ghost use Rattle.sporc_files.specs.Reading.{founder_of, founder_with, genesis_file, is_key_of};
 ghost use Rattle.sporc_files.specs.Reading.{key_file, own_key_file};
-ghost use Rattle.sporc_files.specs.Uses.{AsksOnly};
+ghost use Rattle.sporc_files.specs.Uses.{OnlyReads};
 
 use crate::fault::Fault;
 use crate::file::File;
@@ -48,13 +49,9 @@ pub fn read_bytes<F: Folder>(
 ) -> Result<Vec<u8>, Fault>
     ensures ok { IfOk result (λ bytes. SaysFile any_bytes (F.told files.old).files
         (file_name names.now file) bytes.items) }
-    ensures err { IfErr result (IsFileFault any_bytes (F.told files.old).files
-        (F.told files.old).faults (F.told files.new).faults names.now file) }
-    ensures files { (F.told files.new).files ≡ (F.told files.old).files }
-    ensures lent { (F.told files.new).lent ≡ (F.told files.old).lent }
-    ensures may_ask { AsksOnly (file_name names.now file ∷ []) (F.told files.old).asked
-        (F.told files.new).asked }
-    ensures kept { (F.told files.old).faults ≤ (F.told files.new).faults }
+    ensures err { IfErr result
+        (IsFileFault any_bytes (use_of F.told files.old files.new) names.now file) }
+    ensures reads { OnlyReads names.now (file ∷ []) (use_of F.told files.old files.new) }
 {
     let name = file.name(alloc, names)?;
     match files.read_file(alloc, name.as_str()) {
@@ -72,14 +69,10 @@ pub fn read_if_there<F: Folder>(
 ) -> Result<Option<Vec<u8>>, Fault>
     ensures ok { IfOk result (λ found. SaysFileIfThere any_bytes (F.told files.old).files
         (file_name names.now file) (option_map (λ bytes. bytes.items) found)) }
-    ensures err { IfErr result (IsFileFault any_bytes (F.told files.old).files
-        (F.told files.old).faults (F.told files.new).faults names.now file) }
+    ensures err { IfErr result
+        (IsFileFault any_bytes (use_of F.told files.old files.new) names.now file) }
     ensures there { (other : File) → result ≢ Err (Fault.Missing other) }
-    ensures files { (F.told files.new).files ≡ (F.told files.old).files }
-    ensures lent { (F.told files.new).lent ≡ (F.told files.old).lent }
-    ensures may_ask { AsksOnly (file_name names.now file ∷ []) (F.told files.old).asked
-        (F.told files.new).asked }
-    ensures kept { (F.told files.old).faults ≤ (F.told files.new).faults }
+    ensures reads { OnlyReads names.now (file ∷ []) (use_of F.told files.old files.new) }
 {
     match read_bytes(alloc, files, names, file) {
         Ok(bytes) => Ok(Some(bytes)),
@@ -98,13 +91,9 @@ pub fn read_genesis_file<F: Folder>(
     ensures ok { IfOk result
         (SaysFile genesis_file (F.told files.old).files (file_name names.now File.Genesis)) }
     ensures genesis { IfOk result IsGenesis }
-    ensures err { IfErr result (IsFileFault genesis_file (F.told files.old).files
-        (F.told files.old).faults (F.told files.new).faults names.now File.Genesis) }
-    ensures files { (F.told files.new).files ≡ (F.told files.old).files }
-    ensures lent { (F.told files.new).lent ≡ (F.told files.old).lent }
-    ensures may_ask { AsksOnly (file_name names.now File.Genesis ∷ []) (F.told files.old).asked
-        (F.told files.new).asked }
-    ensures kept { (F.told files.old).faults ≤ (F.told files.new).faults }
+    ensures err { IfErr result
+        (IsFileFault genesis_file (use_of F.told files.old files.new) names.now File.Genesis) }
+    ensures reads { OnlyReads names.now (File.Genesis ∷ []) (use_of F.told files.old files.new) }
 {
     let bytes = read_bytes(alloc, files, names, File::Genesis)?;
     match read_genesis(alloc, bytes.as_slice()) {
@@ -130,13 +119,10 @@ pub fn read_key_file<R: Threads + Sync, F: Folder>(
         (file_name names.now (File.Key device))) }
     ensures height { IfOk result (λ key. IsLeafHeight (height_of key.lms)) }
     ensures width { IfOk result (λ key. IsKeyWidth key.ots) }
-    ensures err { IfErr result (IsFileFault (key_file device) (F.told files.old).files
-        (F.told files.old).faults (F.told files.new).faults names.now (File.Key device)) }
-    ensures files { (F.told files.new).files ≡ (F.told files.old).files }
-    ensures lent { (F.told files.new).lent ≡ (F.told files.old).lent }
-    ensures may_ask { AsksOnly (file_name names.now (File.Key device) ∷ []) (F.told files.old).asked
-        (F.told files.new).asked }
-    ensures kept { (F.told files.old).faults ≤ (F.told files.new).faults }
+    ensures err { IfErr result
+        (IsFileFault (key_file device) (use_of F.told files.old files.new)
+        names.now (File.Key device)) }
+    ensures reads { OnlyReads names.now (File.Key device ∷ []) (use_of F.told files.old files.new) }
 {
     let bytes = read_bytes(alloc, files, names, File::Key(device))?;
     match key_of_device(bytes.as_slice(), device) {
@@ -164,13 +150,9 @@ pub fn read_own_key<R: Threads + Sync, F: Folder>(
     ensures height { IfOk result (λ key. IsLeafHeight (height_of key.lms)) }
     ensures width { IfOk result (λ key. IsKeyWidth key.ots) }
     ensures err { IfErr result
-        (IsFileFault (own_key_file genesis.now.founders device) (F.told files.old).files
-        (F.told files.old).faults (F.told files.new).faults names.now (File.Key device)) }
-    ensures files { (F.told files.new).files ≡ (F.told files.old).files }
-    ensures lent { (F.told files.new).lent ≡ (F.told files.old).lent }
-    ensures may_ask { AsksOnly (file_name names.now (File.Key device) ∷ []) (F.told files.old).asked
-        (F.told files.new).asked }
-    ensures kept { (F.told files.old).faults ≤ (F.told files.new).faults }
+        (IsFileFault (own_key_file genesis.now.founders device)
+        (use_of F.told files.old files.new) names.now (File.Key device)) }
+    ensures reads { OnlyReads names.now (File.Key device ∷ []) (use_of F.told files.old files.new) }
 {
     let tree = read_key_file(rt, alloc, files, names, device)?;
     let founder = founder_of(genesis.founders.as_slice(), device);
@@ -218,13 +200,11 @@ pub fn read_ring_file<F: Folder>(
     ensures ok { IfOk result (SaysFile (ring_file_of_member member) (F.told files.old).files
         (file_name names.now (File.Ring member))) }
     ensures ring { IfOk result IsRingFile }
-    ensures err { IfErr result (IsFileFault (ring_file_of_member member) (F.told files.old).files
-        (F.told files.old).faults (F.told files.new).faults names.now (File.Ring member)) }
-    ensures files { (F.told files.new).files ≡ (F.told files.old).files }
-    ensures lent { (F.told files.new).lent ≡ (F.told files.old).lent }
-    ensures may_ask { AsksOnly (file_name names.now (File.Ring member) ∷ [])
-        (F.told files.old).asked (F.told files.new).asked }
-    ensures kept { (F.told files.old).faults ≤ (F.told files.new).faults }
+    ensures err { IfErr result
+        (IsFileFault (ring_file_of_member member) (use_of F.told files.old files.new)
+        names.now (File.Ring member)) }
+    ensures reads { OnlyReads names.now (File.Ring member ∷ [])
+        (use_of F.told files.old files.new) }
 {
     let bytes = read_bytes(alloc, files, names, File::Ring(member))?;
     match ring_of_member(alloc, bytes.as_slice(), member) {

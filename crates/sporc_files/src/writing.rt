@@ -2,6 +2,7 @@
 
 ghost use Rattle.std.specs.Prelude.{◌≡◌, ◌≤◌, [], ◌∷◌, IfErr, OnOk};
 ghost use Rattle.sporc_outside.specs.Files.{HasNoFile};
+ghost use Rattle.sporc_outside.specs.Uses.{use_of};
 ghost use Rattle.sporc_files.specs.Names.{file_name};
 ghost use Rattle.sporc_files.specs.Uses.{AsksOnly};
 ghost use Rattle.sporc_files.specs.Faults.{IsOutsideFault};
@@ -25,8 +26,7 @@ pub fn write_new_file<F: Folder>(
     ensures was_new { OnOk result (HasNoFile (F.told files.old).files (file_name names.now file)) }
     ensures ok { OnOk result (Stores (file_with names.now file bytes.now ∷ [])
         (F.told files.old).files (F.told files.new).files) }
-    ensures err { IfErr result (IsNewFault (F.told files.old).files (F.told files.old).faults
-        (F.told files.new).faults names.now file) }
+    ensures err { IfErr result (IsNewFault (use_of F.told files.old files.new) names.now file) }
     ensures left { IfErr result
         (LeavesFile (file_name names.now file) (F.told files.old).files (F.told files.new).files) }
     ensures lent { (F.told files.new).lent ≡ (F.told files.old).lent }

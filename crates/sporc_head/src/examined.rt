@@ -107,11 +107,4 @@ impl Examined {
     {
         &self.verdict
     }
-
-    /// The bytes of the entry, moved out.
-    pub fn into_entry(self) -> Vec<u8>
-        ensures value { result.items ≡ self.entry }
-    {
-        self.entry
-    }
 }

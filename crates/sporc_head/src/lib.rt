@@ -15,7 +15,7 @@
 //!
 //! ```text
 //! // the key of its author's device here; takes no memory
-//! let key = heads.key_for(entry.as_slice());
+//! let key = heads.key_for(entry.as_slice())?;
 //! let examined = Examined::of(&key, entry)?;           // needs no history
 //! // verifies anew only under another key
 //! let checked = heads.check_examined(None, heads.len() + 1, &examined)?;

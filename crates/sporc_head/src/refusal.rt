@@ -6,7 +6,7 @@ ghost use Rattle.sporc_head.specs.Refusal.{number_text};
 use sporc_base::Memory;
 use sporc_entry::EntryFault;
 use sporc_member::ChangeFault;
-use std::alloc::{AllocError, AllocFailed, Global};
+use std::alloc::{AllocError, Global};
 use std::fmt::Write;
 use thiserror::Error;
 
@@ -215,17 +215,6 @@ impl From<AllocError> for Refusal {
     ghost from_gives = { λ _ e. e ≡ refusals.Memory };
 
     fn from(_: AllocError) -> Refusal {
-        Refusal::Memory
-    }
-}
-
-impl<T: Drop> From<AllocFailed<T>> for Refusal {
-    ghost use Rattle.std.specs.Prelude.{◌≡◌};
-    ghost use Rattle.sporc_head.specs.declared.refusal.Refusal.TheVariants as refusals;
-
-    ghost from_gives = { λ _ e. e ≡ refusals.Memory };
-
-    fn from(_: AllocFailed<T>) -> Refusal {
         Refusal::Memory
     }
 }

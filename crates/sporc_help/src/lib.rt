@@ -19,4 +19,4 @@
 mod pages;
 mod telling;
 
-pub use telling::{help, text_of, version};
+pub use telling::{help, version};

@@ -175,9 +175,9 @@ pub const CLIENT: &str = "\
 sporc client NAME M ADDRESS [--rounds R] [--until P] SCRIPT ..
 
 Runs one session of a member's device with a server, beside an editor for
-each script. When the session has ended it prints the journal, the text and
-the last hash, and the history is saved, also after a fault. Run one client
-of a device at a time.
+each script. When the session has ended it saves the history, and then it
+prints the journal, the text and the last hash, also after a fault. Run one
+client of a device at a time.
 
   NAME     the document's name: the path that its files' names begin with
   M        the member's number, 1 to 65535, for its first device; M.D for a

@@ -29,10 +29,10 @@ pub fn version<O: Sink>(out: &mut O) -> Result<(), Fault>
     tell(out, version_of())
 }
 
-/// The text of a page.
+// The text of a page.
 #[tactic(auto, unfolding(crate::specs::Pages::page_text))]
-pub fn text_of(page: Page) -> &'static str
-    ensures value { result.now ≡ page_text page }
+fn text_of(page: Page) -> &'static str
+    ensures { result.now ≡ page_text page }
 {
     match page {
         Page::Overview => OVERVIEW,

@@ -1,6 +1,6 @@
 -- Which files changed: the tails of documents.
-use Rattle.std.proofs.Common.{◌≡◌, ℕ, List, [], ◌∷◌, ◌++◌, length, Option, Some, None, Result, Ok, Err, refl, sym, ap, ◌∙◌, subst}
-use Rattle.sporc_hosting.proofs.Common.{OnErr, OnOk, option_map, NamedFile, OrderModel, Both, Fault, FileNames, file_name, names_of_document, KeepsTail, TakesTail}
+use Rattle.std.proofs.Common.{◌≡◌, ℕ, ◌+◌, List, [], ◌∷◌, ◌++◌, length, Option, Some, None, Result, Ok, Err, refl, sym, ap, ◌∙◌, subst}
+use Rattle.sporc_hosting.proofs.Common.{OnErr, OnOk, option_map, NamedFile, OrderModel, AllZip, Fault, FileNames, file_name, names_of_document, KeepsTail, TakesTail}
 use Rattle.sporc_hosting.proofs.Opened.{changes_back, made_other, put_other}
 use Rattle.sporc_hosting.proofs.Common.{GivesAllBack, ChangesTails, IsNoTail, OpenLogModel, with_tail_made, with_tails_made, ChangesFile, TakesFile, made_in, Use}
 use Rattle.sporc_outside.specs.Folders.{FolderTold}
@@ -118,16 +118,16 @@ more_made names name others told mid now (Err fault) is first then = tt
 
 -- ---- all tails given back
 
-pub back_changes : (names : List (List ℕ)) (logs : List OpenLogModel) (orders : List OrderModel) (fault : Fault) (a b : FolderTold) (given : Result (Unit {0}) Fault)
-    → Both (λ name log. log.name ≡ file_name (names_of_document name) files.Tail) names logs
-    → GivesAllBack logs orders (Err fault) a b given → ChangesTails names a.files b.files
-back_changes [] [] [] fault a b given named (same, is) = tails_same [] a.files b.files (ap (λ (t : FolderTold). t.files) same)
-back_changes [] (l ∷ ls) os fault a b given named gives = absurd named
-back_changes (n ∷ ns) [] os fault a b given named gives = absurd named
-back_changes (n ∷ ns) (l ∷ ls) (o ∷ os) fault a b given (named, more) (mid, others, one, rest, gives, is) =
+pub back_changes : (names : List (List ℕ)) (number : ℕ) (logs : List OpenLogModel) (orders : List OrderModel) (fault : Fault) (a b : FolderTold) (given : Result (Unit {0}) Fault)
+    → AllZip (λ name log. log.name ≡ file_name (names_of_document name) files.Tail) names logs
+    → GivesAllBack number logs orders (Err fault) a b given → ChangesTails names a.files b.files
+back_changes [] number [] [] fault a b given named (same, is) = tails_same [] a.files b.files (ap (λ (t : FolderTold). t.files) same)
+back_changes [] number (l ∷ ls) os fault a b given named gives = absurd named
+back_changes (n ∷ ns) number [] os fault a b given named gives = absurd named
+back_changes (n ∷ ns) number (l ∷ ls) (o ∷ os) fault a b given (named, more) (mid, others, one, rest, gives, is) =
     let changed = kept_changes l.name (record { before = mid; after = b }) l.logged o.genesis.document o.entries one gives in
     tails_then (n ∷ ns) a.files mid.files b.files
-    (tails_among ns (n ∷ ns) a.files mid.files (λ other apart. apart.1) (back_changes ns ls os fault a mid others more rest))
+    (tails_among ns (n ∷ ns) a.files mid.files (λ other apart. apart.1) (back_changes ns (number + 1) ls os fault a mid others more rest))
     (tails_among (n ∷ []) (n ∷ ns) mid.files b.files (λ other apart. (apart.0, tt))
     (one_changes n mid.files b.files (subst (λ (m : List ℕ). ChangesFile mid.files b.files m) named changed)))
-back_changes names logs orders fault a b given named gives = absurd gives
+back_changes names number logs orders fault a b given named gives = absurd gives

@@ -27,9 +27,9 @@ pub use Rattle.sporc_outside.specs.declared.file_fault.TheConstants.{MAX_FILE}
 pub use Rattle.sporc_files.specs.Contents.{AnswersOfFile, IsFileAt, bytes_in, genesis_in}
 pub use Rattle.sporc_files.proofs.ReadFiles.{fails, is_there, says, there}
 pub use Rattle.sporc_docs.proofs.Opening.{both_more, kept_length}
-pub use Rattle.sporc_docs.specs.Hands.{Both}
+pub use Rattle.std.specs.List.{AllZip}
 pub use Rattle.sporc_docs.specs.Served.{AreKept}
-pub use Rattle.sporc_hosting.specs.Outcomes.{FailsToBegin, IsRound, ServeOutcome, log_line}
+pub use Rattle.sporc_hosting.specs.Outcomes.{IsRound, ServeOutcome, log_line}
 pub use Rattle.sporc_hosting.specs.Rounds.{ends, stands}
 pub use Rattle.sporc_hosting.specs.Serving.{AreServedFiles, FindsOrder, FindsOrderBehind, HasLogged, ServedFiles, ended, fault_of_tail, log_in, logged, logged_in, order_behind, order_of_whole}
 pub use Rattle.sporc_hosting.specs.Serving.{order_with, served_files, tail_in, with_tail}

@@ -1,8 +1,9 @@
 -- What is open as a server of several documents begins, and which files it asked for.
 use Rattle.std.proofs.Common.{◌≡◌, ◌≤◌, inl, inr, ℕ, List, [], ◌∷◌, length, Option, Result, Err, refl, ◌∙◌, subst, arith}
-use Rattle.sporc_hosting.proofs.Common.{Rose, NamedFile, OrderModel, Both, Fault, file_name, names_of_document, AsksOnly, AsksOnly-among, AsksOnly-trans, AnswersUnlessOutside, HasLogged, ServedFiles}
+use Rattle.sporc_hosting.proofs.Common.{Rose, Use, OrderModel, AllZip, Fault, file_name, names_of_document, AsksOnly, AsksOnly-among, AsksOnly-trans, AnswersUnlessOutside, HasLogged, ServedFiles}
 use Rattle.sporc_hosting.proofs.Common.{LogTailModel, AreOpen, OpenLogModel, OpensMore, files_of_all, files_of_one, logs_of, AppendTold}
 use Rattle.std.specs.List.{Contains}
+use Rattle.sporc_outside.specs.Folders.{FolderTold}
 use Rattle.std.proofs.lemmas.List.Elements.{Contains-append_cases, Contains-append_left, Contains-append_right}
 use Rattle.sporc_files.specs.declared.fault.Fault.TheVariants as faults
 use Rattle.sporc_files.specs.declared.file.File.TheVariants as files
@@ -10,25 +11,25 @@ use Rattle.sporc_hosting.proofs.Saved.{as_many}
 
 module _ {D : Type 0} (file_told : D → AppendTold) where
   -- what is opened where nothing was open
-  pub opened_first : (told : Option (List NamedFile)) (names : List (List ℕ)) (c0 c1 : ℕ) (r : Result (Unit {0}) Fault) (old new : List OrderModel)
+  pub opened_first : (folder : Use FolderTold) (names : List (List ℕ)) (r : Result (Unit {0}) Fault) (old new : List OrderModel)
       (tails tails' : List (LogTailModel D)) (logs logs' : List OpenLogModel) → old ≡ [] → tails ≡ [] → logs ≡ []
       → ((first : List (List ℕ)) (begun : List ServedFiles) → AreOpen file_told first begun old tails logs
-      → OpensMore file_told told names 1 c0 c1 r old new tails' logs' first begun)
-      → OpensMore file_told told names 1 c0 c1 r [] new tails' logs' [] []
-  opened_first told names c0 c1 r old new tails tails' logs logs' no_order no_tail no_log opens =
+      → OpensMore file_told folder names 1 r old new tails' logs' first begun)
+      → OpensMore file_told folder names 1 r [] new tails' logs' [] []
+  opened_first folder names r old new tails tails' logs logs' no_order no_tail no_log opens =
       let none : AreOpen file_told [] [] old tails logs = rw (no_order, no_tail, no_log) record { kept = tt; logged = tt; named = tt; each = refl } in
-      subst (λ (os : List OrderModel). OpensMore file_told told names 1 c0 c1 r os new tails' logs' [] []) no_order (opens [] [] none)
+      subst (λ (os : List OrderModel). OpensMore file_told folder names 1 r os new tails' logs' [] []) no_order (opens [] [] none)
 
   -- all of them are open
   pub all_open : (names opened : List (List ℕ)) (held contents : List ServedFiles) (orders : List OrderModel) (tails : List (LogTailModel D)) (logs : List OpenLogModel)
       → (opened ≡ names) × (held ≡ contents) → AreOpen file_told opened held orders tails logs
-      → (length names ≡ length orders) × Both (λ content log. HasLogged content log.logged) contents logs
-      × Both (λ name log. log.name ≡ file_name (names_of_document name) files.Tail) names logs
+      → (length names ≡ length orders) × AllZip (λ content log. HasLogged content log.logged) contents logs
+      × AllZip (λ name log. log.name ≡ file_name (names_of_document name) files.Tail) names logs
   all_open names opened held contents orders tails logs (names_are, contents_are) opens =
-      let named : Both (λ (n : List ℕ) (l : OpenLogModel). l.name ≡ file_name (names_of_document n) files.Tail) names logs =
-      subst (λ (ns : List (List ℕ)). Both (λ (n : List ℕ) (l : OpenLogModel). l.name ≡ file_name (names_of_document n) files.Tail) ns logs) names_are opens.named in (
+      let named : AllZip (λ (n : List ℕ) (l : OpenLogModel). l.name ≡ file_name (names_of_document n) files.Tail) names logs =
+      subst (λ (ns : List (List ℕ)). AllZip (λ (n : List ℕ) (l : OpenLogModel). l.name ≡ file_name (names_of_document n) files.Tail) ns logs) names_are opens.named in (
         as_many (λ (n : List ℕ) (l : OpenLogModel). l.name ≡ file_name (names_of_document n) files.Tail) names logs named ∙ opens.each,
-        subst (λ (cs : List ServedFiles). Both (λ (c : ServedFiles) (l : OpenLogModel). HasLogged c l.logged) cs logs) contents_are opens.logged,
+        subst (λ (cs : List ServedFiles). AllZip (λ (c : ServedFiles) (l : OpenLogModel). HasLogged c l.logged) cs logs) contents_are opens.logged,
         named,
       )
 

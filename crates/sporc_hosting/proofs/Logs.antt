@@ -1,62 +1,51 @@
--- The log that a server begins with, and why it does not begin.
+-- The log that a server begins with.
 use Rattle.std.proofs.Common.{◌≡◌, ℕ, List, [], Option, None, Some, Result, Ok, Err, refl, sym, ap, ◌∙◌, subst, arith}
-use Rattle.sporc_hosting.proofs.Common.{◌>>=◌, Rose, HasNoFile, NamedFile, Genesis, OrderModel, Fault, File, FileNames, file_name, IsFileFault, SaysFile, any_bytes, AnswersUnlessOutside}
-use Rattle.sporc_hosting.proofs.Common.{AnswersOfFile, IsFileAt, logged, logged_in, order_with, FailsToBegin, tells_alone}
+use Rattle.sporc_hosting.proofs.Common.{◌>>=◌, Rose, HasNoFile, Use, Genesis, OrderModel, Fault, File, FileNames, file_name, IsFileFault, SaysFile, any_bytes, AnswersUnlessOutside}
+use Rattle.sporc_hosting.proofs.Common.{AnswersOfFile, IsFileAt, logged, logged_in, order_with, tells_alone}
+use Rattle.sporc_outside.specs.Folders.{FolderTold}
 use Rattle.sporc_files.specs.declared.fault.Fault.TheVariants as faults
 use Rattle.sporc_files.specs.declared.file.File.TheVariants as files
 use Rattle.sporc_files.proofs.ReadFiles.{has_at, is_there, none_at, said_long, said_short, there}
 
--- why nothing is served
-pub to_begin : {X : Type 0} (view : X → OrderModel) (before after : ℕ) (found : Result OrderModel Fault) (fault : Fault) (r : Result (Unit {0}) Fault) → r ≡ Err fault
-    → AnswersUnlessOutside view (Rose before after) (Err fault) found → FailsToBegin before after found r
-to_begin view before after found fault r is told = rw is (by fault told)
-  where
-    by : (fault : Fault) → AnswersUnlessOutside view (Rose before after) (Err fault) found → FailsToBegin {T = Unit {0}} before after found (Err fault)
-    by faults.Memory told = tt
-    by faults.Outside told = told
-    by fault told = told
-
--- ---- loading
-
-module _ (told : Option (List NamedFile)) (names : FileNames) (g : Genesis) where
-  -- what is found of the log behind a genesis, where the count of faults went from `before` to `after`
-  abbrev pub FindsLog : ℕ → ℕ → Result OrderModel Fault → Type 0
-  FindsLog before after r = AnswersOfFile (λ (order : OrderModel). order) told (file_name names files.Log) before after r (logged g)
+module _ (folder : Use FolderTold) (names : FileNames) (g : Genesis) where
+  -- what is found of the log behind a genesis
+  abbrev pub FindsLog : Result OrderModel Fault → Type 0
+  FindsLog r = AnswersOfFile (λ (order : OrderModel). order) folder (file_name names files.Log) r (logged g)
 
   -- the log failed
-  pub log_fails : (c1 c2 : ℕ) (fault : Fault) (r : Result OrderModel Fault) → r ≡ Err fault
-      → ((other : File) → fault ≡ faults.Missing other → ⊥) → IsFileFault any_bytes told c1 c2 names files.Log fault → FindsLog c1 c2 r
-  log_fails c1 c2 fault r is there_is why =
+  pub log_fails : (fault : Fault) (r : Result OrderModel Fault) → r ≡ Err fault
+      → ((other : File) → fault ≡ faults.Missing other → ⊥) → IsFileFault any_bytes folder names files.Log fault → FindsLog r
+  log_fails fault r is there_is why =
       let (log, at, tells) = by fault there_is why in
-      (log, at, subst (λ (o : Result OrderModel Fault). AnswersUnlessOutside (λ (order : OrderModel). order) (Rose c1 c2) o (logged g log)) (sym is) tells)
+      (log, at, subst (λ (o : Result OrderModel Fault). AnswersUnlessOutside (λ (order : OrderModel). order) (Rose folder.before.faults folder.after.faults) o (logged g log)) (sym is) tells)
     where
-      by : (fault : Fault) → ((other : File) → fault ≡ faults.Missing other → ⊥) → IsFileFault any_bytes told c1 c2 names files.Log fault
-          → (log : Option (List ℕ)) × IsFileAt told (file_name names files.Log) log × AnswersUnlessOutside (λ (order : OrderModel). order) (Rose c1 c2) (Err fault) (logged g log)
-      by faults.Memory never why = (there told (file_name names files.Log), is_there told (file_name names files.Log), tt)
-      by faults.Outside never why = (there told (file_name names files.Log), is_there told (file_name names files.Log), why)
+      by : (fault : Fault) → ((other : File) → fault ≡ faults.Missing other → ⊥) → IsFileFault any_bytes folder names files.Log fault
+          → (log : Option (List ℕ)) × IsFileAt folder.before.files (file_name names files.Log) log × AnswersUnlessOutside (λ (order : OrderModel). order) (Rose folder.before.faults folder.after.faults) (Err fault) (logged g log)
+      by faults.Memory never why = (there folder.before.files (file_name names files.Log), is_there folder.before.files (file_name names files.Log), tt)
+      by faults.Outside never why = (there folder.before.files (file_name names files.Log), is_there folder.before.files (file_name names files.Log), why)
       by (faults.Missing other) never why = absurd (never other refl)
       by (faults.TooLong other) never (same, len, (above, bytes, len_is, has)) = (
         Some bytes,
-        has_at told (file_name names files.Log) bytes has,
+        has_at folder.before.files (file_name names files.Log) bytes has,
         ap (λ x. x >>= logged_in g) (said_long any_bytes files.Log bytes (omega (arith, above, len_is)) ∙ ap (λ (f : File). Err (faults.TooLong f)) (sym same)),
       )
       by (faults.Malformed other at) never (same, bytes, short, has, is) = absurd cc
       by fault never why = absurd why
 
   -- there is no log
-  pub no_log : (c1 c2 : ℕ) (r : Result OrderModel Fault) → HasNoFile told (file_name names files.Log)
-      → AnswersUnlessOutside (λ (order : OrderModel). order) (Rose c1 c2) r (Ok (order_with g [])) → FindsLog c1 c2 r
-  no_log c1 c2 r none tells = (None, none_at told (file_name names files.Log) none, tells)
+  pub no_log : (r : Result OrderModel Fault) → HasNoFile folder.before.files (file_name names files.Log)
+      → AnswersUnlessOutside (λ (order : OrderModel). order) (Rose folder.before.faults folder.after.faults) r (Ok (order_with g [])) → FindsLog r
+  no_log r none tells = (None, none_at folder.before.files (file_name names files.Log) none, tells)
 
   -- the log is read
-  pub log_read : (c1 c2 : ℕ) (bytes : List ℕ) (r : Result OrderModel Fault)
-      → SaysFile any_bytes told (file_name names files.Log) bytes → AnswersUnlessOutside (λ (order : OrderModel). order) ⊥ r (logged_in g bytes) → FindsLog c1 c2 r
-  log_read c1 c2 bytes r (held, short, has, is) tells =
+  pub log_read : (bytes : List ℕ) (r : Result OrderModel Fault)
+      → SaysFile any_bytes folder.before.files (file_name names files.Log) bytes → AnswersUnlessOutside (λ (order : OrderModel). order) ⊥ r (logged_in g bytes) → FindsLog r
+  log_read bytes r (held, short, has, is) tells =
       let held_is : held ≡ bytes = cc in
       let said_held = said_short any_bytes files.Log held (Ok held) short refl in (
         Some held,
-        has_at told (file_name names files.Log) held has,
-        rw (said_held, held_is) (tells_alone (λ (order : OrderModel). order) (Rose c1 c2) r (logged_in g bytes) tells),
+        has_at folder.before.files (file_name names files.Log) held has,
+        rw (said_held, held_is) (tells_alone (λ (order : OrderModel). order) (Rose folder.before.faults folder.after.faults) r (logged_in g bytes) tells),
       )
 
 -- an order of these

@@ -4,6 +4,7 @@ use Rattle.sporc_hosting.proofs.Common.{OnErr, OnOk, length-append, Rose, NamedF
 use Rattle.sporc_hosting.proofs.Common.{HasLogged, ServedFiles, KeepsBehind, LogTailModel, AreFilesOfAll, AreOpen, AreOpenTo, FindsUnlessHeld, OpenLogModel, OpensMore, OpensOne, added, opened_in}
 use Rattle.sporc_hosting.proofs.Common.{opened_to, orders_in, with_document, with_tail_made, both_more, AppendTold, ◌>>=◌, fault_as, fails_first, tells_alone, tells_behind, tells_later, is_there}
 use Rattle.sporc_hosting.proofs.Common.{there}
+use Rattle.sporc_outside.specs.Folders.{FolderTold}
 use Rattle.sporc_files.specs.declared.fault.Fault.TheVariants as faults
 use Rattle.sporc_files.specs.declared.file.File.TheVariants as files
 use Rattle.sporc_hosting.proofs.Loaded.{among_tells}
@@ -63,65 +64,66 @@ module _ {D : Type 0} (file_told : D → AppendTold) where
   added_open (Err fault) old new tails tails' logs logs' order tail log name first begun docs_are tails_are logs_are (docs_same, tails_same, logs_same) opens keeps named content has =
       rw (docs_same, tails_same, logs_same) opens
 
-  module _ (told : Option (List NamedFile)) (name : List ℕ) (number : ℕ) (c0 c2 : ℕ) (old new : List OrderModel) (tails : List (LogTailModel D)) (logs : List OpenLogModel)
+  module _ (a c : FolderTold) (name : List ℕ) (number : ℕ) (old new : List OrderModel) (tails : List (LogTailModel D)) (logs : List OpenLogModel)
       (first : List (List ℕ)) (begun : List ServedFiles) where
     -- memory ran out first
     pub none_tried : (r : Result (Unit {0}) Fault) → r ≡ Err faults.Memory → AreOpen file_told first begun new tails logs
-        → OpensOne file_told told name number c0 c2 r old new tails logs first begun
+        → OpensOne file_told (record { before = a; after = c }) name number r old new tails logs first begun
     none_tried r is opens =
-        subst (λ (o : Result (Unit {0}) Fault). OpensOne file_told told name number c0 c2 o old new tails logs first begun) (sym is) (record {
-          content = content_there told name;
-          are = is_content told name;
+        subst (λ (o : Result (Unit {0}) Fault). OpensOne file_told (record { before = a; after = c }) name number o old new tails logs first begun) (sym is) (record {
+          content = content_there a.files name;
+          are = is_content a.files name;
           found = tt;
           are_open = opens;
         })
 
     module _ {X : Type 0} (view : X → OrderModel) (len : X → ℕ) (names : FileNames) (held : List OrderModel) (same : names ≡ names_of_document name) (held_is : held ≡ old) where
       -- its files are found by its own names, behind those that are held
-      own : (c1 : ℕ) (o : Result X Fault) → FindsUnlessHeld view len told names number held c0 c1 o → FindsUnlessHeld view len told (names_of_document name) number old c0 c1 o
-      own c1 o found =
-          subst (λ (n : FileNames). FindsUnlessHeld view len told n number old c0 c1 o) same
-          (subst (λ (h : List OrderModel). FindsUnlessHeld view len told names number h c0 c1 o) held_is found)
+      own : (b : FolderTold) (o : Result X Fault) → FindsUnlessHeld view len (record { before = a; after = b }) names number held o
+          → FindsUnlessHeld view len (record { before = a; after = b }) (names_of_document name) number old o
+      own b o found =
+          subst (λ (n : FileNames). FindsUnlessHeld view len (record { before = a; after = b }) n number old o) same
+          (subst (λ (h : List OrderModel). FindsUnlessHeld view len (record { before = a; after = b }) names number h o) held_is found)
 
       pub document_fails : (fault among : Fault) (r : Result (Unit {0}) Fault) → r ≡ Err among → among ≡ fault_among number fault
-          → FindsUnlessHeld view len told names number held c0 c2 (Err fault) → AreOpen file_told first begun new tails logs
-          → OpensOne file_told told name number c0 c2 r old new tails logs first begun
+          → FindsUnlessHeld view len (record { before = a; after = c }) names number held (Err fault) → AreOpen file_told first begun new tails logs
+          → OpensOne file_told (record { before = a; after = c }) name number r old new tails logs first begun
       document_fails fault among r failed is found opens =
-          let (content, are, tells, none) = own c2 (Err fault) found in
-          let why : AnswersUnlessOutside (λ (os : List OrderModel). os) (Rose c0 c2) (Err (fault_among number fault)) (with_document number old content) =
-          fails_first (λ (o : OrderModel). o) (λ (os : List OrderModel). os) (Rose c0 c2) (fault_among number fault) (fault_as (fault_among number) (opened_in number old content))
-          (added number old) (among_tells view (Rose c0 c2) number fault (opened_in number old content) tells) in
-          subst (λ (o : Result (Unit {0}) Fault). OpensOne file_told told name number c0 c2 o old new tails logs first begun) (sym (failed ∙ ap Err is)) (record {
+          let (content, are, tells, none) = own c (Err fault) found in
+          let why : AnswersUnlessOutside (λ (os : List OrderModel). os) (Rose a.faults c.faults) (Err (fault_among number fault)) (with_document number old content) =
+          fails_first (λ (o : OrderModel). o) (λ (os : List OrderModel). os) (Rose a.faults c.faults) (fault_among number fault) (fault_as (fault_among number) (opened_in number old content))
+          (added number old) (among_tells view (Rose a.faults c.faults) number fault (opened_in number old content) tells) in
+          subst (λ (o : Result (Unit {0}) Fault). OpensOne file_told (record { before = a; after = c }) name number o old new tails logs first begun) (sym (failed ∙ ap Err is)) (record {
             content = content;
             are = are;
             found = why;
             are_open = opens;
           })
 
-      pub document_adds : (c1 : ℕ) (it : X) (r : Result (Unit {0}) Fault) → c1 ≤ c2 → FindsUnlessHeld view len told names number held c0 c1 (Ok it)
+      pub document_adds : (b : FolderTold) (it : X) (r : Result (Unit {0}) Fault) → FindsUnlessHeld view len (record { before = a; after = b }) names number held (Ok it)
           → AnswersUnlessOutside (λ (os : List OrderModel). os) ⊥ (opened_to r new) (added number old (view it))
           → ((content : ServedFiles) → HasLogged content (len it) → AreOpenTo file_told r name content new tails logs first begun)
-          → OpensOne file_told told name number c0 c2 r old new tails logs first begun
-      document_adds c1 it r low found value opens =
-          let (content, are, tells, has) = own c1 (Ok it) found in
+          → OpensOne file_told (record { before = a; after = c }) name number r old new tails logs first begun
+      document_adds b it r found value opens =
+          let (content, are, tells, has) = own b (Ok it) found in
           record {
             content = content;
             are = are;
             found =
-                tells_behind (λ (os : List OrderModel). os) (Rose c0 c2) (opened_to r new) (fault_as (fault_among number) (opened_in number old content)) (view it) (added number old)
+                tells_behind (λ (os : List OrderModel). os) (Rose a.faults c.faults) (opened_to r new) (fault_as (fault_among number) (opened_in number old content)) (view it) (added number old)
                 (ap (fault_as (fault_among number)) tells)
-                (tells_alone (λ (os : List OrderModel). os) (Rose c0 c2) (opened_to r new) (added number old (view it)) value);
+                (tells_alone (λ (os : List OrderModel). os) (Rose a.faults c.faults) (opened_to r new) (added number old (view it)) value);
             are_open = opens content has;
           }
 
   -- ---- several documents
 
-  module _ (told : Option (List NamedFile)) (names : List (List ℕ)) (number : ℕ) (old : List OrderModel) (first : List (List ℕ)) (begun : List ServedFiles) where
-    pub none_opened : (c0 c1 : ℕ) (tails : List (LogTailModel D)) (logs : List OpenLogModel) → length names ≡ 0 → AreOpen file_told first begun old tails logs
-        → OpensMore file_told told names number c0 c1 (Ok tt) old old tails logs first begun
-    none_opened c0 c1 tails logs none opens = by names none
+  module _ (a : FolderTold) (names : List (List ℕ)) (number : ℕ) (old : List OrderModel) (first : List (List ℕ)) (begun : List ServedFiles) where
+    pub none_opened : (b : FolderTold) (tails : List (LogTailModel D)) (logs : List OpenLogModel) → length names ≡ 0 → AreOpen file_told first begun old tails logs
+        → OpensMore file_told (record { before = a; after = b }) names number (Ok tt) old old tails logs first begun
+    none_opened b tails logs none opens = by names none
       where
-        by : (ns : List (List ℕ)) → length ns ≡ 0 → OpensMore file_told told ns number c0 c1 (Ok tt) old old tails logs first begun
+        by : (ns : List (List ℕ)) → length ns ≡ 0 → OpensMore file_told (record { before = a; after = b }) ns number (Ok tt) old old tails logs first begun
         by [] none = record {
           contents = [];
           are = tt;
@@ -135,17 +137,17 @@ module _ {D : Type 0} (file_told : D → AppendTold) where
         }
         by (n ∷ ns) none = absurd cc
 
-    pub first_fails : (c0 c1 : ℕ) (new : List OrderModel) (tails : List (LogTailModel D)) (logs : List OpenLogModel) (name : List ℕ) (others : List (List ℕ)) (fault : Fault)
-        (r : Result (Unit {0}) Fault) → names ≡ name ∷ others → r ≡ Err fault → OpensOne file_told told name number c0 c1 (Err fault) old new tails logs first begun
-        → OpensMore file_told told names number c0 c1 r old new tails logs first begun
-    first_fails c0 c1 new tails logs name others fault r is failed one =
-        subst (λ (ns : List (List ℕ)). OpensMore file_told told ns number c0 c1 r old new tails logs first begun) (sym is)
-        (subst (λ (o : Result (Unit {0}) Fault). OpensMore file_told told (name ∷ others) number c0 c1 o old new tails logs first begun) (sym failed) (record {
-          contents = one.content ∷ contents_there (with_tail_made name told) others;
-          are = (one.are, are_there (with_tail_made name told) others);
+    pub first_fails : (b : FolderTold) (new : List OrderModel) (tails : List (LogTailModel D)) (logs : List OpenLogModel) (name : List ℕ) (others : List (List ℕ)) (fault : Fault)
+        (r : Result (Unit {0}) Fault) → names ≡ name ∷ others → r ≡ Err fault → OpensOne file_told (record { before = a; after = b }) name number (Err fault) old new tails logs first begun
+        → OpensMore file_told (record { before = a; after = b }) names number r old new tails logs first begun
+    first_fails b new tails logs name others fault r is failed one =
+        subst (λ (ns : List (List ℕ)). OpensMore file_told (record { before = a; after = b }) ns number r old new tails logs first begun) (sym is)
+        (subst (λ (o : Result (Unit {0}) Fault). OpensMore file_told (record { before = a; after = b }) (name ∷ others) number o old new tails logs first begun) (sym failed) (record {
+          contents = one.content ∷ contents_there (with_tail_made name a.files) others;
+          are = (one.are, are_there (with_tail_made name a.files) others);
           found =
-              fails_first (λ (os : List OrderModel). os) (λ (os : List OrderModel). os) (Rose c0 c1) fault (with_document number old one.content)
-              (λ (more : List OrderModel). orders_in (number + 1) more (contents_there (with_tail_made name told) others)) one.found;
+              fails_first (λ (os : List OrderModel). os) (λ (os : List OrderModel). os) (Rose a.faults b.faults) fault (with_document number old one.content)
+              (λ (more : List OrderModel). orders_in (number + 1) more (contents_there (with_tail_made name a.files) others)) one.found;
           opened = [];
           held = [];
           rest = name ∷ others;
@@ -159,26 +161,25 @@ module _ {D : Type 0} (file_told : D → AppendTold) where
     all_more name content opened others held contents (Ok done) all = (ap (λ (ns : List (List ℕ)). name ∷ ns) all.0, ap (λ (cs : List ServedFiles). content ∷ cs) all.1)
     all_more name content opened others held contents (Err fault) all = tt
 
-    pub others_opened : (c0 c1 c2 : ℕ) (mid new : List OrderModel) (tails tails' : List (LogTailModel D)) (logs logs' : List OpenLogModel) (now : Option (List NamedFile))
-        (name : List ℕ) (others : List (List ℕ)) (r : Result (Unit {0}) Fault) → names ≡ name ∷ others → now ≡ with_tail_made name told → c0 ≤ c1
-        → OpensOne file_told told name number c0 c1 (Ok tt) old mid tails logs first begun
-        → ((f : List (List ℕ)) (b : List ServedFiles) → AreOpen file_told f b mid tails logs
-        → OpensMore file_told now others (number + 1) c1 c2 r mid new tails' logs' f b)
-        → OpensMore file_told told names number c0 c2 r old new tails' logs' first begun
-    others_opened c0 c1 c2 mid new tails tails' logs logs' now name others r is same low one then =
-        let more : OpensMore file_told (with_tail_made name told) others (number + 1) c1 c2 r mid new tails' logs' (first ++ name ∷ []) (begun ++ one.content ∷ []) =
-        subst (λ (t : Option (List NamedFile)). OpensMore file_told t others (number + 1) c1 c2 r mid new tails' logs' (first ++ name ∷ []) (begun ++ one.content ∷ [])) same
-        (then (first ++ name ∷ []) (begun ++ one.content ∷ []) one.are_open) in
+    pub others_opened : (b c : FolderTold) (mid new : List OrderModel) (tails tails' : List (LogTailModel D)) (logs logs' : List OpenLogModel)
+        (name : List ℕ) (others : List (List ℕ)) (r : Result (Unit {0}) Fault) → names ≡ name ∷ others → b.files ≡ with_tail_made name a.files → a.faults ≤ b.faults
+        → OpensOne file_told (record { before = a; after = b }) name number (Ok tt) old mid tails logs first begun
+        → ((f : List (List ℕ)) (s : List ServedFiles) → AreOpen file_told f s mid tails logs
+        → OpensMore file_told (record { before = b; after = c }) others (number + 1) r mid new tails' logs' f s)
+        → OpensMore file_told (record { before = a; after = c }) names number r old new tails' logs' first begun
+    others_opened b c mid new tails tails' logs logs' name others r is same low one then =
+        let more : OpensMore file_told (record { before = b; after = c }) others (number + 1) r mid new tails' logs' (first ++ name ∷ []) (begun ++ one.content ∷ []) =
+        then (first ++ name ∷ []) (begun ++ one.content ∷ []) one.are_open in
         let opens : AreOpen file_told (first ++ name ∷ more.opened) (begun ++ one.content ∷ more.held) new tails' logs' =
         subst (λ (ns : List (List ℕ)). AreOpen file_told ns (begun ++ one.content ∷ more.held) new tails' logs') (append_assoc first (name ∷ []) more.opened)
         (subst (λ (cs : List ServedFiles). AreOpen file_told ((first ++ name ∷ []) ++ more.opened) cs new tails' logs') (append_assoc begun (one.content ∷ []) more.held) more.are_open) in
-        subst (λ (ns : List (List ℕ)). OpensMore file_told told ns number c0 c2 r old new tails' logs' first begun) (sym is) (record {
+        subst (λ (ns : List (List ℕ)). OpensMore file_told (record { before = a; after = c }) ns number r old new tails' logs' first begun) (sym is) (record {
           contents = one.content ∷ more.contents;
-          are = (one.are, more.are);
+          are = (one.are, subst (λ (t : Option (List NamedFile)). AreFilesOfAll t others more.contents) same more.are);
           found =
-              tells_later (λ (os : List OrderModel). os) c0 c1 c2 (opened_to r new)
+              tells_later (λ (os : List OrderModel). os) a.faults b.faults c.faults (opened_to r new)
               (with_document number old one.content >>= λ (ms : List OrderModel). orders_in (number + 1) ms more.contents) low
-              (tells_behind (λ (os : List OrderModel). os) (Rose c1 c2) (opened_to r new) (with_document number old one.content) mid
+              (tells_behind (λ (os : List OrderModel). os) (Rose b.faults c.faults) (opened_to r new) (with_document number old one.content) mid
               (λ (ms : List OrderModel). orders_in (number + 1) ms more.contents) one.found more.found);
           opened = name ∷ more.opened;
           held = one.content ∷ more.held;

@@ -1,10 +1,11 @@
 -- What a server begins with: its genesis, the file of its tail, its log, and the tail.
 use Rattle.std.proofs.Common.{◌≡◌, ◌≤◌, ◌<◌, ◌⊎◌, inl, inr, ℕ, false, List, [], length, Option, Some, None, Result, Ok, Err, refl, sym, ap, ◌∙◌, subst, arith}
-use Rattle.sporc_hosting.proofs.Common.{IfSome, IfOk, option_map, ◌>>=◌, fault_as, Rose, count_of_both, AppendTold, ChangesFile, IsAppendedTo, TakesFile, file_in, made_in, or_empty, with_bytes}
+use Rattle.sporc_hosting.proofs.Common.{IfSome, IfOk, option_map, ◌>>=◌, fault_as, Rose, Use, count_of_both, AppendTold, ChangesFile, IsAppendedTo, TakesFile, file_in, made_in, or_empty, with_bytes}
 use Rattle.sporc_hosting.proofs.Common.{NamedFile, Genesis, OrderModel, Taken, Fault, File, FileNames, file_name, IsAppendingFault, IsFileFault, SaysFile, any_bytes, genesis_file}
 use Rattle.sporc_hosting.proofs.Common.{AnswersUnlessOutside, unless_stopped, IsFileAt, bytes_in, genesis_in, FindsOrder, FindsOrderBehind, HasLogged, fault_of_tail, logged, order_behind}
 use Rattle.sporc_hosting.proofs.Common.{order_of_whole, order_with, tail_in, with_tail, tells_behind, tells_later, accepted_from, an_order, bytes_eq, false_from_ne_true, MAX_FILE}
 use Rattle.std.proofs.lemmas.Slice.Eq.{bytes_eq-Decides}
+use Rattle.sporc_outside.specs.Folders.{FolderTold}
 use Rattle.sporc_outside.proofs.Files.{file_in-other}
 use Rattle.sporc_store.specs.declared.tail_fault.TailFault.{TailFault}
 use Rattle.sporc_store.specs.declared.tail_fault.TailFault.TheVariants as tails
@@ -75,18 +76,18 @@ in_told (Some fs) stored bytes same = same
 no_ok : {X : Type 0} (r : Result X Fault) (fault : Fault) (P : X → Type 0) → r ≡ Err fault → IfOk r P
 no_ok {X} r fault P is = subst (λ (o : Result X Fault). IfOk o P) (sym is) tt
 
-module _ {X D : Type 0} (view : X → OrderModel) (len : X → ℕ) (told : Option (List NamedFile)) (name : List ℕ) (stored : Option (List ℕ)) (before after : ℕ) (file_told : D → AppendTold)
-    (g : Genesis) (log : Option (List ℕ)) (at : IsFileAt told name log) where
+module _ {X D : Type 0} (view : X → OrderModel) (len : X → ℕ) (folder : Use FolderTold) (name : List ℕ) (stored : Option (List ℕ)) (file_told : D → AppendTold) (g : Genesis)
+    (log : Option (List ℕ)) (at : IsFileAt folder.before.files name log) where
   of_log : (order : OrderModel) (bytes : List ℕ) → logged g log ≡ Ok order
       → (bytes_in files.Tail (Some bytes) >>= λ tail. logged g log >>= λ o. with_tail o tail) ≡ (bytes_in files.Tail (Some bytes) >>= with_tail order)
   of_log order bytes is = ap (λ (r : Result OrderModel Fault). bytes_in files.Tail (Some bytes) >>= λ tail. r >>= λ o. with_tail o tail) is
 
   pub behind_log : (order : OrderModel) (r : Result X (Fault × D)) → logged g log ≡ Ok order → FindsTail view stored file_told order r → IfOk r (λ it. len it ≡ length order.entries)
-      → FindsBehind view len told name stored before after file_told g r
-  behind_log order (Ok it) is (bytes, same, tells) has = (log, at, bytes, in_told told stored bytes same, of_log order bytes is ∙ tells, (order, is, sym has))
-  behind_log order (Err (faults.Memory, file)) is (bytes, same, tells) has = (log, at, bytes, in_told told stored bytes same, tt, tt)
-  behind_log order (Err (faults.Outside, file)) is (bytes, same, tells) has = (log, at, bytes, in_told told stored bytes same, inr tells, tt)
-  behind_log order (Err (fault, file)) is (bytes, same, tells) has = (log, at, bytes, in_told told stored bytes same, of_log order bytes is ∙ tells, tt)
+      → FindsBehind view len folder name stored file_told g r
+  behind_log order (Ok it) is (bytes, same, tells) has = (log, at, bytes, in_told folder.before.files stored bytes same, of_log order bytes is ∙ tells, (order, is, sym has))
+  behind_log order (Err (faults.Memory, file)) is (bytes, same, tells) has = (log, at, bytes, in_told folder.before.files stored bytes same, tt, tt)
+  behind_log order (Err (faults.Outside, file)) is (bytes, same, tells) has = (log, at, bytes, in_told folder.before.files stored bytes same, inr tells, tt)
+  behind_log order (Err (fault, file)) is (bytes, same, tells) has = (log, at, bytes, in_told folder.before.files stored bytes same, of_log order bytes is ∙ tells, tt)
 
   -- bytes that are short, as the file tells them if the folder tells its files
   short_told : (told : Option (List NamedFile)) → IfSome told (λ fs. IfSome stored (λ bytes. length bytes ≤ MAX_FILE))
@@ -98,19 +99,19 @@ module _ {X D : Type 0} (view : X → OrderModel) (len : X → ℕ) (told : Opti
       fits None any = omega arith
       fits (Some bytes) within = within
 
-  pub behind_fails : (fault : Fault) (file : D) → IfSome told (λ fs. IfSome stored (λ bytes. length bytes ≤ MAX_FILE))
-      → AnswersUnlessOutside (λ (order : OrderModel). order) (Rose before after) (Err fault) (logged g log)
-      → FindsBehind {X = X} {D = D} view len told name stored before after file_told g (Err (fault, file))
-  behind_fails fault file within tells = (log, at, (short_told told within).0, (short_told told within).1, by fault tells, tt)
+  pub behind_fails : (fault : Fault) (file : D) → IfSome folder.before.files (λ fs. IfSome stored (λ bytes. length bytes ≤ MAX_FILE))
+      → AnswersUnlessOutside (λ (order : OrderModel). order) (Rose folder.before.faults folder.after.faults) (Err fault) (logged g log)
+      → FindsBehind {X = X} {D = D} view len folder name stored file_told g (Err (fault, file))
+  behind_fails fault file within tells = (log, at, (short_told folder.before.files within).0, (short_told folder.before.files within).1, by fault tells, tt)
     where
       bytes : List ℕ
-      bytes = (short_told told within).0
+      bytes = (short_told folder.before.files within).0
 
       alone : (bytes_in files.Tail (Some bytes) >>= λ tail. logged g log >>= λ order. with_tail order tail) ≡ (logged g log >>= λ order. with_tail order bytes)
-      alone = ap (λ (x : Result (List ℕ) Fault). x >>= λ tail. logged g log >>= λ order. with_tail order tail) (short bytes (short_told told within).2)
+      alone = ap (λ (x : Result (List ℕ) Fault). x >>= λ tail. logged g log >>= λ order. with_tail order tail) (short bytes (short_told folder.before.files within).2)
 
-      by : (fault : Fault) → AnswersUnlessOutside (λ (order : OrderModel). order) (Rose before after) (Err fault) (logged g log)
-          → AnswersUnlessOutside view (Rose before after ⊎ RoseIn {X = X} {D = D} file_told (Err (fault, file))) (Err fault)
+      by : (fault : Fault) → AnswersUnlessOutside (λ (order : OrderModel). order) (Rose folder.before.faults folder.after.faults) (Err fault) (logged g log)
+          → AnswersUnlessOutside view (Rose folder.before.faults folder.after.faults ⊎ RoseIn {X = X} {D = D} file_told (Err (fault, file))) (Err fault)
           (bytes_in files.Tail (Some bytes) >>= λ tail. logged g log >>= λ order. with_tail order tail)
       by faults.Memory tells = tt
       by faults.Outside tells = inl tells
@@ -145,6 +146,10 @@ log_stays names (Some fs) now log is at =
     sym (made_other fs (file_name names files.Tail) (file_name names files.Log) (tail_apart names))
     ∙ subst (λ (t : Option (List NamedFile)). IsFileAt t (file_name names files.Log) log) is at
 
+-- a file stands as it stood before
+pub at_before : (now told : Option (List NamedFile)) (name : List ℕ) (content : Option (List ℕ)) → now ≡ told → IsFileAt now name content → IsFileAt told name content
+at_before now told name content same at = subst (λ (t : Option (List NamedFile)). IsFileAt t name content) same at
+
 -- a tail's file that was made and taken back is all that may have changed
 pub changes_back : (told now last : Option (List NamedFile)) (name : List ℕ) (stored : Option (List ℕ)) → now ≡ option_map (λ fs. made_in fs name) told → TakesFile name stored now last
     → ChangesFile told last name
@@ -173,53 +178,54 @@ within_file (Some fs) now name stored made is = subst (λ (t : Option (List Name
 
 -- ---- all files
 
-module _ {X : Type 0} (view : X → OrderModel) (len : X → ℕ) (told : Option (List NamedFile)) (names : FileNames) where
-  pub genesis_fails : (c0 c1 : ℕ) (fault : Fault) (r : Result X Fault) → r ≡ Err fault → IsFileFault genesis_file told c0 c1 names files.Genesis fault → FindsOrder view len told names c0 c1 r
-  genesis_fails c0 c1 fault r is why =
-      let log = there told (file_name names files.Log) in
-      let tail = there told (file_name names files.Tail) in
+module _ {X : Type 0} (view : X → OrderModel) (len : X → ℕ) (a : FolderTold) (names : FileNames) where
+  pub genesis_fails : (b : FolderTold) (fault : Fault) (r : Result X Fault) → r ≡ Err fault → IsFileFault genesis_file (record { before = a; after = b }) names files.Genesis fault
+      → FindsOrder view len (record { before = a; after = b }) names r
+  genesis_fails b fault r is why =
+      let log = there a.files (file_name names files.Log) in
+      let tail = there a.files (file_name names files.Tail) in
       let (content, at, tells) =
-      reads_none genesis_file view told c0 c1 names files.Genesis (λ (g : Genesis). tail_in tail >>= λ t. logged g log >>= λ order. with_tail order t) fault r is why in (
+      reads_none genesis_file view (record { before = a; after = b }) names files.Genesis (λ (g : Genesis). tail_in tail >>= λ t. logged g log >>= λ order. with_tail order t) fault r is why in (
         record { genesis = content; log = log; tail = tail },
-        record { genesis = at; log = is_there told (file_name names files.Log); tail = is_there told (file_name names files.Tail) },
+        record { genesis = at; log = is_there a.files (file_name names files.Log); tail = is_there a.files (file_name names files.Tail) },
         tells,
         no_ok r fault (λ (it : X). HasLogged (record { genesis = content; log = log; tail = tail }) (len it)) is,
       )
 
-  pub taking_fails : (c0 c1 : ℕ) (g : Genesis) (fault : Fault) (r : Result X Fault) → r ≡ Err fault → IsAppendingFault told c0 c1 names files.Tail fault
-      → FindsOrderBehind view len told names g c0 c1 r
-  taking_fails c0 c1 g fault r is why =
+  pub taking_fails : (b : FolderTold) (g : Genesis) (fault : Fault) (r : Result X Fault) → r ≡ Err fault → IsAppendingFault (record { before = a; after = b }) names files.Tail fault
+      → FindsOrderBehind view len (record { before = a; after = b }) names g r
+  taking_fails b g fault r is why =
       let (tail, tail_at, tells) = by fault why in (
         log,
         tail,
-        is_there told (file_name names files.Log),
+        is_there a.files (file_name names files.Log),
         tail_at,
-        subst (λ (o : Result X Fault). AnswersUnlessOutside view (Rose c0 c1) o (order_behind g log tail)) (sym is) tells,
+        subst (λ (o : Result X Fault). AnswersUnlessOutside view (Rose a.faults b.faults) o (order_behind g log tail)) (sym is) tells,
         no_ok r fault (λ (it : X). (order : OrderModel) × (logged g log ≡ Ok order) × (length order.entries ≡ len it)) is,
       )
     where
       log : Option (List ℕ)
-      log = there told (file_name names files.Log)
+      log = there a.files (file_name names files.Log)
 
       name : List ℕ
       name = file_name names files.Tail
 
-      by : (fault : Fault) → IsAppendingFault told c0 c1 names files.Tail fault
-          → (tail : Option (List ℕ)) × IsFileAt told name tail × AnswersUnlessOutside view (Rose c0 c1) (Err fault) (order_behind g log tail)
-      by faults.Memory why = (there told name, is_there told name, tt)
-      by faults.Outside why = (there told name, is_there told name, why)
+      by : (fault : Fault) → IsAppendingFault (record { before = a; after = b }) names files.Tail fault
+          → (tail : Option (List ℕ)) × IsFileAt a.files name tail × AnswersUnlessOutside view (Rose a.faults b.faults) (Err fault) (order_behind g log tail)
+      by faults.Memory why = (there a.files name, is_there a.files name, tt)
+      by faults.Outside why = (there a.files name, is_there a.files name, why)
       by (faults.TooLong other) (same, len, (above, bytes, len_is, has)) = (
         Some bytes,
-        has_at told name bytes has,
+        has_at a.files name bytes has,
         ap (λ x. x >>= λ t. logged g log >>= λ order. with_tail order t)
             (said_long any_bytes files.Tail bytes (omega (arith, above, len_is)) ∙ ap (λ (f : File). Err (faults.TooLong f)) (sym same)),
       )
       by fault why = absurd why
 
   -- the tail's file as the folder holds it
-  tail_at : (stored : Option (List ℕ)) (bytes : List ℕ) → IsAppendedTo told (file_name names files.Tail) stored → IsToldIn told stored bytes
-      → (tail : Option (List ℕ)) × IsFileAt told (file_name names files.Tail) tail × (or_empty tail ≡ bytes)
-  tail_at stored bytes is same = by told stored is same
+  tail_at : (stored : Option (List ℕ)) (bytes : List ℕ) → IsAppendedTo a.files (file_name names files.Tail) stored → IsToldIn a.files stored bytes
+      → (tail : Option (List ℕ)) × IsFileAt a.files (file_name names files.Tail) tail × (or_empty tail ≡ bytes)
+  tail_at stored bytes is same = by a.files stored is same
     where
       by : (told : Option (List NamedFile)) (stored : Option (List ℕ)) → IsAppendedTo told (file_name names files.Tail) stored → IsToldIn told stored bytes
           → (tail : Option (List ℕ)) × IsFileAt told (file_name names files.Tail) tail × (or_empty tail ≡ bytes)
@@ -238,36 +244,38 @@ module _ {X : Type 0} (view : X → OrderModel) (len : X → ℕ) (told : Option
   behind_tail g log tail bytes is = ap (λ (b : List ℕ). bytes_in files.Tail (Some b) >>= λ t. logged g log >>= λ order. with_tail order t) is
 
   -- the order was found
-  pub order_found : {Y D : Type 0} (it : Y) (own : Y → OrderModel) (logs : Y → ℕ) (x : X) (now : Option (List NamedFile)) (stored : Option (List ℕ)) (before after : ℕ) (file_told : D → AppendTold) (g : Genesis)
-      (c0 c1 : ℕ) → own it ≡ view x → logs it ≡ len x → now ≡ option_map (λ fs. made_in fs (file_name names files.Tail)) told → IsAppendedTo told (file_name names files.Tail) stored
-      → FindsBehind {D = D} own logs now (file_name names files.Log) stored before after file_told g (Ok it) → FindsOrderBehind view len told names g c0 c1 (Ok x)
-  order_found it own logs x now stored before after file_told g c0 c1 order_is len_is made is (log, log_at, bytes, same, tells, (order, logged_is, size)) =
-      let (tail, at, bytes_are) = tail_at stored bytes is (told_before told now stored bytes made same) in (
+  pub order_found : {Y D : Type 0} (it : Y) (own : Y → OrderModel) (logs : Y → ℕ) (x : X) (b c : FolderTold) (stored : Option (List ℕ)) (file_told : D → AppendTold) (g : Genesis)
+      → own it ≡ view x → logs it ≡ len x → b.files ≡ option_map (λ fs. made_in fs (file_name names files.Tail)) a.files → IsAppendedTo a.files (file_name names files.Tail) stored
+      → FindsBehind {D = D} own logs (record { before = b; after = c }) (file_name names files.Log) stored file_told g (Ok it)
+      → FindsOrderBehind view len (record { before = a; after = c }) names g (Ok x)
+  order_found it own logs x b c stored file_told g order_is len_is made is (log, log_at, bytes, same, tells, (order, logged_is, size)) =
+      let (tail, at, bytes_are) = tail_at stored bytes is (told_before a.files b.files stored bytes made same) in (
         log,
         tail,
-        log_stays names told now log made log_at,
+        log_stays names a.files b.files log made log_at,
         at,
         behind_tail g log tail bytes bytes_are ∙ tells ∙ ap Ok order_is,
         (order, logged_is, size ∙ len_is),
       )
 
   -- why there is none
-  pub order_fails : {Y D : Type 0} (own : Y → OrderModel) (logs : Y → ℕ) (fault : Fault) (file : D) (now : Option (List NamedFile)) (stored : Option (List ℕ)) (before after : ℕ) (file_told : D → AppendTold)
-      (g : Genesis) (c0 c1 : ℕ) → (Rose before after ⊎ (0 < (file_told file).faults) → Rose c0 c1) → now ≡ option_map (λ fs. made_in fs (file_name names files.Tail)) told
-      → IsAppendedTo told (file_name names files.Tail) stored → FindsBehind {X = Y} own logs now (file_name names files.Log) stored before after file_told g (Err (fault, file))
-      → FindsOrderBehind view len told names g c0 c1 (Err fault)
-  order_fails own logs fault file now stored before after file_told g c0 c1 rose made is (log, log_at, bytes, same, tells, none) =
-      let (tail, at, bytes_are) = tail_at stored bytes is (told_before told now stored bytes made same) in (
+  pub order_fails : {Y D : Type 0} (own : Y → OrderModel) (logs : Y → ℕ) (fault : Fault) (file : D) (b c d : FolderTold) (stored : Option (List ℕ)) (file_told : D → AppendTold) (g : Genesis)
+      → (Rose b.faults c.faults ⊎ (0 < (file_told file).faults) → Rose a.faults d.faults) → b.files ≡ option_map (λ fs. made_in fs (file_name names files.Tail)) a.files
+      → IsAppendedTo a.files (file_name names files.Tail) stored
+      → FindsBehind {X = Y} own logs (record { before = b; after = c }) (file_name names files.Log) stored file_told g (Err (fault, file))
+      → FindsOrderBehind view len (record { before = a; after = d }) names g (Err fault)
+  order_fails own logs fault file b c d stored file_told g rose made is (log, log_at, bytes, same, tells, none) =
+      let (tail, at, bytes_are) = tail_at stored bytes is (told_before a.files b.files stored bytes made same) in (
         log,
         tail,
-        log_stays names told now log made log_at,
+        log_stays names a.files b.files log made log_at,
         at,
-        subst (AnswersUnlessOutside view (Rose c0 c1) (Err fault)) (sym (behind_tail g log tail bytes bytes_are)) (by fault _ tells),
+        subst (AnswersUnlessOutside view (Rose a.faults d.faults) (Err fault)) (sym (behind_tail g log tail bytes bytes_are)) (by fault _ tells),
         tt,
       )
     where
-      by : (fault : Fault) (r : Result OrderModel Fault) → AnswersUnlessOutside own (Rose before after ⊎ (0 < (file_told file).faults)) (Err fault) r
-          → AnswersUnlessOutside view (Rose c0 c1) (Err fault) r
+      by : (fault : Fault) (r : Result OrderModel Fault) → AnswersUnlessOutside own (Rose b.faults c.faults ⊎ (0 < (file_told file).faults)) (Err fault) r
+          → AnswersUnlessOutside view (Rose a.faults d.faults) (Err fault) r
       by faults.Memory r told = tt
       by faults.Outside r told = rose told
       by fault r told = told
@@ -280,14 +288,18 @@ module _ {X : Type 0} (view : X → OrderModel) (len : X → ℕ) (told : Option
   has_logged gc log tail g (Err fault) g_is none = tt
 
   -- what is found behind the genesis that the files have
-  pub order_of_genesis : (now : Option (List NamedFile)) (c0 c1 c2 : ℕ) (g : Genesis) (r : Result X Fault) → now ≡ told → c0 ≤ c1
-      → SaysFile genesis_file told (file_name names files.Genesis) g → FindsOrderBehind view len now names g c1 c2 r → FindsOrder view len told names c0 c2 r
-  order_of_genesis now c0 c1 c2 g r same low says_g found =
-      let (log, tail, log_at, tail_at, tells, has) = subst (λ (t : Option (List NamedFile)). FindsOrderBehind view len t names g c1 c2 r) same found in
-      let (gc, g_at, g_is) = says genesis_file told (file_name names files.Genesis) files.Genesis g says_g in (
+  pub order_of_genesis : (b c : FolderTold) (g : Genesis) (r : Result X Fault) → b.files ≡ a.files → a.faults ≤ b.faults → SaysFile genesis_file a.files (file_name names files.Genesis) g
+      → FindsOrderBehind view len (record { before = b; after = c }) names g r → FindsOrder view len (record { before = a; after = c }) names r
+  order_of_genesis b c g r same low says_g (log, tail, log_at, tail_at, tells, has) =
+      let (gc, g_at, g_is) = says genesis_file a.files (file_name names files.Genesis) files.Genesis g says_g in (
         record { genesis = gc; log = log; tail = tail },
-        record { genesis = g_at; log = log_at; tail = tail_at },
-        tells_behind view (Rose c0 c2) r (genesis_in gc) g (λ (h : Genesis). order_behind h log tail) g_is (tells_later view c0 c1 c2 r (order_behind g log tail) low tells),
+        record {
+          genesis = g_at;
+          log = at_before b.files a.files (file_name names files.Log) log same log_at;
+          tail = at_before b.files a.files (file_name names files.Tail) tail same tail_at;
+        },
+        tells_behind view (Rose a.faults c.faults) r (genesis_in gc) g (λ (h : Genesis). order_behind h log tail) g_is
+            (tells_later view a.faults b.faults c.faults r (order_behind g log tail) low tells),
         has_logged gc log tail g r g_is has,
       )
 

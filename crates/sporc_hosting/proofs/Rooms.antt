@@ -1,23 +1,25 @@
--- Documents that are read one after another: how many are held, and which names were asked for.
+-- Documents that are gone through one after another: how many are left, and which names were asked for.
 use Rattle.std.proofs.Common.{◌≡◌, ℕ, suc, ◌+◌, ◌≤◌, ◌<◌, List, [], ◌∷◌, ◌++◌, length, Option, Result, Ok, Err, sym, ap, subst, ◌∙◌, arith}
 use Rattle.sporc_hosting.proofs.Common.{OnOk, length-append, FileNames, file_name, names_of_document, Fault, AsksOnly, AsksOnly-none, asks_first, asks_then, files_of_all, files_of_one}
 use Rattle.sporc_files.specs.declared.file.File.TheVariants as files
 
+-- what is left behind the first of these
+module _ {A : Type 0} (all : List A) (first : A) (others : List A) (is : all ≡ first ∷ others) where
+  longer : length all ≡ suc (length others)
+  longer = ap (λ (l : List A). length l) is
+
+  pub room_first : (held most : ℕ) → held + length all ≤ most → held < most
+  room_first held most room = let size = longer in omega (arith, size, room)
+
+  pub room_left : (held more most : ℕ) → more ≡ held + 1 → held + length all ≤ most → more + length others ≤ most
+  room_left held more most one room = let size = longer in omega (arith, size, one, room)
+
+  pub numbers_left : (number most : ℕ) → number + length all < most → number + 1 + length others < most
+  numbers_left number most low = let size = longer in omega (arith, size, low)
+
 module _ (names : List (List ℕ)) where
   -- the first name
   module _ (name : List ℕ) (others : List (List ℕ)) (is : names ≡ name ∷ others) where
-    longer : length names ≡ suc (length others)
-    longer = ap (λ (ns : List (List ℕ)). length ns) is
-
-    pub room_first : (held most : ℕ) → held + length names ≤ most → held < most
-    room_first held most room = let size = longer in omega (arith, size, room)
-
-    pub room_left : (held more most : ℕ) → more ≡ held + 1 → held + length names ≤ most → more + length others ≤ most
-    room_left held more most one room = let size = longer in omega (arith, size, one, room)
-
-    pub numbers_left : (number most : ℕ) → number + length names < most → number + 1 + length others < most
-    numbers_left number most low = let size = longer in omega (arith, size, low)
-
     pub first_asked : (a b : Option (List (List ℕ))) → AsksOnly (files_of_one name) a b → AsksOnly (files_of_all names) a b
     first_asked a b asked =
         subst (λ (ns : List (List ℕ)). AsksOnly (files_of_all ns) a b) (sym is) (asks_first (files_of_one name) (files_of_all others) a b asked)

@@ -12,11 +12,9 @@ use Rattle.sporc_outside.specs.Folders.{FolderTold}
 use Rattle.sporc_outside.specs.Uses.{Use}
 use Rattle.sporc_entry.specs.declared.genesis.Genesis.{Genesis}
 use Rattle.sporc_order.specs.OrderModel.{OrderModel}
-use Rattle.sporc_docs.specs.Hands.{Both}
+use Rattle.std.specs.List.{AllZip}
 use Rattle.sporc_docs.specs.Lists.{is_of, place_of}
 use Rattle.sporc_docs.specs.Served.{AreKept}
-use Rattle.sporc_docs.specs.declared.fault.DocsFault.{DocsFault}
-use Rattle.sporc_docs.specs.declared.fault.DocsFault.TheVariants as adding
 use Rattle.sporc_files.specs.declared.fault.Fault.{Fault}
 use Rattle.sporc_files.specs.declared.fault.Fault.TheVariants as faults
 use Rattle.sporc_files.specs.declared.file.File.TheVariants as files
@@ -112,29 +110,22 @@ orders_in number held [] = Ok held
 orders_in number held (content ∷ contents) =
     with_document number held content >>= λ more. orders_in (number + 1) more contents
 
--- the fault of the program that one of adding is
-abbrev pub fault_of_adding : ℕ → DocsFault → Fault
-fault_of_adding number adding.Exists = faults.Exists (files.Document number)
-fault_of_adding number adding.Full = faults.Memory
-fault_of_adding number adding.Memory = faults.Memory
-
--- ---- what is found of it in the files of a folder whose count of faults went from `before` to
--- `after`
+-- ---- what is found of it in the files of a folder
 
 -- the order of a document, unless it is held
-abbrev pub FindsUnlessHeld : {X : Type 0} → (X → OrderModel) → (X → ℕ) → Option (List NamedFile)
-    → FileNames → ℕ → List OrderModel → ℕ → ℕ → Result X Fault → Type 0
-FindsUnlessHeld view len told names number held before after result =
-    (content : ServedFiles) × AreServedFiles told names content
-    × AnswersUnlessOutside view (Rose before after) result (opened_in number held content)
+abbrev pub FindsUnlessHeld : {X : Type 0} → (X → OrderModel) → (X → ℕ) → Use FolderTold → FileNames
+    → ℕ → List OrderModel → Result X Fault → Type 0
+FindsUnlessHeld view len folder names number held result =
+    (content : ServedFiles) × AreServedFiles folder.before.files names content
+    × AnswersUnlessOutside view (Rose folder.before.faults folder.after.faults) result
+    (opened_in number held content)
     × IfOk result (λ it. HasLogged content (len it))
 
 -- the first fault of the log of a document that is held, or that it is held, in the file with this
 -- name
-abbrev pub FindsHeld : Option (List NamedFile) → List ℕ → ℕ → ℕ → ℕ → Genesis → Fault → Type 0
-FindsHeld told name before after number genesis fault =
-    AnswersOfFile (λ (order : OrderModel). order) told name before after (Err fault)
-    (λ log. logged genesis log
+abbrev pub FindsHeld : Use FolderTold → List ℕ → ℕ → Genesis → Fault → Type 0
+FindsHeld folder name number genesis fault =
+    AnswersOfFile (λ (order : OrderModel). order) folder name (Err fault) (λ log. logged genesis log
     >>= λ (order : OrderModel). Err (faults.Exists (files.Document number)))
 
 -- the documents so far, or why one more is not among them
@@ -150,8 +141,9 @@ pub record AreOpen {D : Type 0} (file_told : D → AppendTold) (names : List (Li
     (contents : List ServedFiles) (orders : List OrderModel)
     (tails : List (LogTailModel D)) (logs : List OpenLogModel) : Type 0 where
   pub kept : AreKept (KeepsBehind file_told) tails orders
-  pub logged : Both (λ content log. HasLogged content log.logged) contents logs
-  pub named : Both (λ name log. log.name ≡ file_name (names_of_document name) files.Tail) names logs
+  pub logged : AllZip (λ content log. HasLogged content log.logged) contents logs
+  pub named : AllZip (λ name log. log.name ≡ file_name (names_of_document name) files.Tail)
+      names logs
   pub each : length logs ≡ length orders
 
 module _ {D : Type 0} (file_told : D → AppendTold) where
@@ -164,26 +156,28 @@ module _ {D : Type 0} (file_told : D → AppendTold) where
       AreOpen file_told first begun new tails logs
 
   -- the document with this name was opened behind those that were open
-  pub record OpensOne (told : Option (List NamedFile)) (name : List ℕ) (number : ℕ)
-      (before after : ℕ) (result : Result (Unit {0}) Fault) (old new : List OrderModel)
+  pub record OpensOne (folder : Use FolderTold) (name : List ℕ) (number : ℕ)
+      (result : Result (Unit {0}) Fault) (old new : List OrderModel)
       (tails : List (LogTailModel D)) (logs : List OpenLogModel) (first : List (List ℕ))
       (begun : List ServedFiles) : Type 0 where
     pub content : ServedFiles
-    pub are : AreServedFiles told (names_of_document name) content
-    pub found : AnswersUnlessOutside (λ (orders : List OrderModel). orders) (Rose before after)
-        (opened_to result new) (with_document number old content)
+    pub are : AreServedFiles folder.before.files (names_of_document name) content
+    pub found : AnswersUnlessOutside (λ (orders : List OrderModel). orders)
+        (Rose folder.before.faults folder.after.faults) (opened_to result new)
+        (with_document number old content)
     pub are_open : AreOpenTo result name content new tails logs first begun
 
   -- the first of the documents with these names were opened behind those that were open, all of
   -- them if that succeeded
-  pub record OpensMore (told : Option (List NamedFile)) (names : List (List ℕ)) (number : ℕ)
-      (before after : ℕ) (result : Result (Unit {0}) Fault)
-      (old new : List OrderModel) (tails : List (LogTailModel D)) (logs : List OpenLogModel)
+  pub record OpensMore (folder : Use FolderTold) (names : List (List ℕ)) (number : ℕ)
+      (result : Result (Unit {0}) Fault) (old new : List OrderModel)
+      (tails : List (LogTailModel D)) (logs : List OpenLogModel)
       (first : List (List ℕ)) (begun : List ServedFiles) : Type 0 where
     pub contents : List ServedFiles
-    pub are : AreFilesOfAll told names contents
-    pub found : AnswersUnlessOutside (λ (orders : List OrderModel). orders) (Rose before after)
-        (opened_to result new) (orders_in number old contents)
+    pub are : AreFilesOfAll folder.before.files names contents
+    pub found : AnswersUnlessOutside (λ (orders : List OrderModel). orders)
+        (Rose folder.before.faults folder.after.faults) (opened_to result new)
+        (orders_in number old contents)
     pub opened : List (List ℕ)
     pub held : List ServedFiles
     pub rest : List (List ℕ)
@@ -197,13 +191,13 @@ module _ {D : Type 0} (file_told : D → AppendTold) where
   OpensOneBehind folder name number result old new =
       (first : List (List ℕ)) (begun : List ServedFiles)
       → AreOpen file_told first begun old.docs old.tails.items old.logs.items
-      → OpensOne folder.before.files name number folder.before.faults folder.after.faults result
-      old.docs new.docs new.tails.items new.logs.items first begun
+      → OpensOne folder name number result old.docs new.docs new.tails.items new.logs.items
+      first begun
 
   abbrev pub OpensMoreBehind : Use FolderTold → List (List ℕ) → ℕ → Result (Unit {0}) Fault
       → OpenDocs D → OpenDocs D → Type 0
   OpensMoreBehind folder names number result old new =
       (first : List (List ℕ)) (begun : List ServedFiles)
       → AreOpen file_told first begun old.docs old.tails.items old.logs.items
-      → OpensMore folder.before.files names number folder.before.faults folder.after.faults result
-      old.docs new.docs new.tails.items new.logs.items first begun
+      → OpensMore folder names number result old.docs new.docs new.tails.items new.logs.items
+      first begun

@@ -3,7 +3,9 @@ use Rattle.std.specs.Prelude.{◌≡◌, ◌⊎◌, ◌<◌, ℕ, List, length, 
 use Rattle.sporc_bytes.specs.Fields.{◌>>=◌}
 use Rattle.sporc_outside.specs.Counts.{Rose}
 use Rattle.sporc_outside.specs.AppendFile.{AppendTold}
+use Rattle.sporc_outside.specs.Folders.{FolderTold}
 use Rattle.sporc_outside.specs.Told.{IfTold}
+use Rattle.sporc_outside.specs.Uses.{Use}
 use Rattle.sporc_outside.specs.declared.named_file.NamedFile.{NamedFile}
 use Rattle.sporc_entry.specs.declared.genesis.Genesis.{Genesis}
 use Rattle.sporc_order.specs.OrderModel.{OrderModel}
@@ -36,11 +38,13 @@ abbrev pub IsToldIn : Option (List NamedFile) → Option (List ℕ) → List ℕ
 IsToldIn told stored bytes = IfTold told (λ files. AreTold stored bytes)
 
 -- behind a genesis: what the log gives, and the bytes of the tail behind it
-abbrev pub FindsBehind : {X D : Type 0} → (X → OrderModel) → (X → ℕ) → Option (List NamedFile)
-    → List ℕ → Option (List ℕ) → ℕ → ℕ → (D → AppendTold) → Genesis → Result X (Fault × D) → Type 0
-FindsBehind view len told name stored before after file_told genesis result =
-    (log : Option (List ℕ)) × IsFileAt told name log × (bytes : List ℕ) × IsToldIn told stored bytes
-    × AnswersUnlessOutside view (Rose before after ⊎ RoseIn file_told result) (without_file result)
+abbrev pub FindsBehind : {X D : Type 0} → (X → OrderModel) → (X → ℕ) → Use FolderTold → List ℕ
+    → Option (List ℕ) → (D → AppendTold) → Genesis → Result X (Fault × D) → Type 0
+FindsBehind view len folder name stored file_told genesis result =
+    (log : Option (List ℕ)) × IsFileAt folder.before.files name log
+    × (bytes : List ℕ) × IsToldIn folder.before.files stored bytes
+    × AnswersUnlessOutside view
+    (Rose folder.before.faults folder.after.faults ⊎ RoseIn file_told result) (without_file result)
     (bytes_in files.Tail (Some bytes)
     >>= λ tail. logged genesis log >>= λ order. with_tail order tail)
     × IfOk result

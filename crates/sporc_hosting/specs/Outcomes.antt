@@ -15,6 +15,7 @@ use Rattle.sporc_serve.specs.Served.{IsServed}
 use Rattle.sporc_files.specs.declared.fault.Fault.{Fault}
 use Rattle.sporc_files.specs.declared.fault.Fault.TheVariants as faults
 use Rattle.sporc_files.specs.declared.file.File.TheVariants as files
+use Rattle.sporc_files.specs.Faults.{AnswersUnlessOutside}
 use Rattle.sporc_files.specs.Names.{FileNames, file_name}
 use Rattle.sporc_hosting.specs.Moments.{ChangesFolderAlone, Moment, at_end, folder_between}
 use Rattle.sporc_hosting.specs.Moments.{sink_between}
@@ -51,13 +52,6 @@ module _ (names : FileNames) (folder : Use FolderTold) (out : Use StreamTold) (o
       × AppendsPrefix out.before.written out.after.written line)
   KeepsLog (Err fault) = ⊥
 
--- why nothing was served, where the folder's count of faults went from `before` to `after`
-abbrev pub FailsToBegin : {T : Type 0} → ℕ → ℕ → Result OrderModel Fault → Result T Fault → Type 0
-FailsToBegin before after found (Ok done) = ⊥
-FailsToBegin before after found (Err faults.Memory) = Unit {0}
-FailsToBegin before after found (Err faults.Outside) = Rose before after
-FailsToBegin before after found (Err fault) = found ≡ Err fault
-
 -- the files were read, of which the tail's was made if there was none, and nothing else was done
 pub record IsOpened (names : FileNames) (folder : Use FolderTold) (out : Use StreamTold)
     (opened : Moment) : Type 0 where
@@ -81,11 +75,14 @@ module _ (names : FileNames) (sessions : ℕ) where
   module _ (times : ℕ) (folder : Use FolderTold) (out : Use StreamTold) (old new : NetTold) where
     -- nothing was served: a file failed, memory ran out, or the folder failed; no file but the
     -- tail's may have changed
-    pub record NotServed {T : Type 0} (answer : Result T Fault) : Type 0 where
+    pub record NotServed (answer : Result (Unit {0}) Fault) : Type 0 where
       pub content : ServedFiles
       pub are : AreServedFiles folder.before.files names content
+      pub fault : Fault
+      pub answer_is : answer ≡ Err fault
+      pub fails : AnswersUnlessOutside (λ (order : OrderModel). order)
+          (Rose folder.before.faults folder.after.faults) (Err fault) (order_in content)
       pub changes : ChangesFile folder.before.files folder.after.files (file_name names files.Tail)
-      pub fails : FailsToBegin folder.before.faults folder.after.faults (order_in content) answer
       pub net : new ≡ old
       pub unwritten : IsUnwritten out
 

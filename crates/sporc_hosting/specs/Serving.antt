@@ -3,6 +3,8 @@ use Rattle.std.specs.Prelude.{◌≡◌, ◌∷◌, ℕ, List, [], length, Optio
 use Rattle.sporc_bytes.specs.Fields.{◌>>=◌, fault_as}
 use Rattle.sporc_outside.specs.Counts.{Rose}
 use Rattle.sporc_outside.specs.Files.{or_empty}
+use Rattle.sporc_outside.specs.Folders.{FolderTold}
+use Rattle.sporc_outside.specs.Uses.{Use}
 use Rattle.sporc_outside.specs.declared.named_file.NamedFile.{NamedFile}
 use Rattle.sporc_entry.specs.declared.genesis.Genesis.{Genesis}
 use Rattle.sporc_order.specs.OrderModel.{OrderModel}
@@ -97,21 +99,23 @@ abbrev pub HasLogged : ServedFiles → ℕ → Type 0
 HasLogged content len =
     (order : OrderModel) × (log_in content ≡ Ok order) × (length order.entries ≡ len)
 
--- it was found in the files of a folder whose count of faults went from `before` to `after`
-abbrev pub FindsOrder : {X : Type 0} → (X → OrderModel) → (X → ℕ) → Option (List NamedFile)
-    → FileNames → ℕ → ℕ → Result X Fault → Type 0
-FindsOrder view len told names before after result =
-    (content : ServedFiles) × AreServedFiles told names content
-    × AnswersUnlessOutside view (Rose before after) result (order_in content)
+-- it was found in the files of a folder
+abbrev pub FindsOrder : {X : Type 0} → (X → OrderModel) → (X → ℕ) → Use FolderTold → FileNames
+    → Result X Fault → Type 0
+FindsOrder view len folder names result =
+    (content : ServedFiles) × AreServedFiles folder.before.files names content
+    × AnswersUnlessOutside view (Rose folder.before.faults folder.after.faults) result
+    (order_in content)
     × IfOk result (λ it. HasLogged content (len it))
 
 -- it was found behind a genesis that was read before
-abbrev pub FindsOrderBehind : {X : Type 0} → (X → OrderModel) → (X → ℕ) → Option (List NamedFile)
-    → FileNames → Genesis → ℕ → ℕ → Result X Fault → Type 0
-FindsOrderBehind view len told names genesis before after result = (log : Option (List ℕ))
-    × (tail : Option (List ℕ)) × IsFileAt told (file_name names files.Log) log
-    × IsFileAt told (file_name names files.Tail) tail
-    × AnswersUnlessOutside view (Rose before after) result (order_behind genesis log tail)
+abbrev pub FindsOrderBehind : {X : Type 0} → (X → OrderModel) → (X → ℕ) → Use FolderTold
+    → FileNames → Genesis → Result X Fault → Type 0
+FindsOrderBehind view len folder names genesis result = (log : Option (List ℕ))
+    × (tail : Option (List ℕ)) × IsFileAt folder.before.files (file_name names files.Log) log
+    × IsFileAt folder.before.files (file_name names files.Tail) tail
+    × AnswersUnlessOutside view (Rose folder.before.faults folder.after.faults) result
+    (order_behind genesis log tail)
     × IfOk result
     (λ it. (order : OrderModel) × (logged genesis log ≡ Ok order) × (length order.entries ≡ len it))
 

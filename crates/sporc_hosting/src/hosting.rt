@@ -1,4 +1,4 @@
-//! `serve-all ADDRESS --sessions K NAME .. --times T`.
+//! `serve-all ADDRESS --sessions K --times T NAME ..`.
 
 ghost use Rattle.std.specs.Prelude.{◌≡◌, ◌≤◌, length};
 ghost use Rattle.sporc_wire.specs.declared.limits.TheConstants.{MAX_DOCUMENTS, MAX_SESSIONS};
@@ -25,10 +25,11 @@ use std::alloc::Global;
 use std::sync::Wait;
 use std::thread::Threads;
 
-/// `serve-all ADDRESS --sessions K NAME ..` serves so many sessions of the documents of these
-/// names, each from its log, or from an empty one if there is none. Whatever came of the sessions,
-/// it then saves each log in the order of the names, also if one before it was not saved, and
-/// writes `log NAME LEN` for each, how many entries it has.
+/// `serve-all ADDRESS --sessions K --times T NAME ..` serves so many sessions of the documents of
+/// these names, each from its log, or from an empty one if there is none. Whatever came of the
+/// sessions, it then saves each log in the order of the names, also if one before it was not saved,
+/// and writes `log NAME LEN` for each, how many entries it has; and so again, up to a time that
+/// does not end well.
 ///
 /// If two names are of one document, that is a fault of the later, `Fault::Exists`, once its log
 /// was loaded; nothing is served then. A fault of the server goes before those of saving, and of
@@ -103,7 +104,7 @@ where
     F::Appended: Drop,
     requires one_length { length logs.items ≡ length kept.docs }
     requires tails { AreKept (KeepsBehind F.Appended.told) kept.tails.items kept.docs }
-    ensures gives { GivesAllBack logs.items kept.docs saved (F.told files.old) (F.told files.new)
+    ensures gives { GivesAllBack 1 logs.items kept.docs saved (F.told files.old) (F.told files.new)
         result }
     ensures lent { (F.told files.new).lent ≡ (F.told files.old).lent }
     ensures asked { (F.told files.new).asked ≡ (F.told files.old).asked }
@@ -111,5 +112,5 @@ where
 {
     let KeptDocs { docs, tails } = kept;
     let mut tails = tails;
-    give_back_all(files, &logs, docs.orders(), &mut tails, saved)
+    give_back_all(files, &logs, docs.orders(), 1, &mut tails, saved)
 }

@@ -9,12 +9,12 @@ ghost use Rattle.sporc_wire.specs.declared.limits.TheConstants.{MAX_DOCUMENTS};
 ghost use Rattle.sporc_outside.specs.Uses.{use_of};
 ghost use Rattle.sporc_docs.specs.declared.fault.DocsFault.TheVariants as docs_faults;
 ghost use Rattle.sporc_files.specs.Names.{file_name};
-ghost use Rattle.sporc_files.specs.Uses.{AsksOnly};
+ghost use Rattle.sporc_files.specs.Uses.{AsksOnly, OnlyReads};
 ghost use Rattle.sporc_files.specs.Faults.{AnswersUnlessOutside};
 ghost use Rattle.sporc_hosting.specs.Tails.{KeepsBehind, TakesTail};
 ghost use Rattle.sporc_hosting.specs.Loading.{ChangesTails, FindsHeld, FindsUnlessHeld};
 ghost use Rattle.sporc_hosting.specs.Loading.{OpensMoreBehind, OpensOneBehind, added, files_of_all};
-ghost use Rattle.sporc_hosting.specs.Loading.{fault_of_adding, files_of_one, is_held, opened_to};
+ghost use Rattle.sporc_hosting.specs.Loading.{files_of_one, is_held, opened_to};
 ghost use Rattle.sporc_hosting.specs.Loading.{with_tail_made, with_tails_made};
 
 use crate::log::read_log;
@@ -113,8 +113,8 @@ fn open_unless_held<R: Threads + Wait + Sync, F: Folder, G: Gate + Sync>(
     number: u32,
     gate: &G,
 ) -> Result<OpenedOrder<F::Appended>, Fault>
-    ensures found { FindsUnlessHeld (λ it. it.kept.order) (λ it. it.logged) (F.told files.old).files
-        names.now number orders.now (F.told files.old).faults (F.told files.new).faults result }
+    ensures found { FindsUnlessHeld (λ it. it.kept.order) (λ it. it.logged)
+        (use_of F.told files.old files.new) names.now number orders.now result }
     ensures tail { IfOk result
         (λ it. KeepsBehind F.Appended.told it.kept.tail it.kept.order.entries) }
     ensures name { IfOk result (λ it. string_bytes it.name ≡ file_name names.now File.Tail) }
@@ -145,13 +145,9 @@ fn fault_of_held<R: Threads + Wait + Sync, F: Folder, G: Gate + Sync>(
     gate: &G,
 ) -> Fault
     requires genesis { IsGenesis genesis }
-    ensures found { FindsHeld (F.told files.old).files (file_name names.now File.Log)
-        (F.told files.old).faults (F.told files.new).faults number genesis result }
-    ensures files { (F.told files.new).files ≡ (F.told files.old).files }
-    ensures lent { (F.told files.new).lent ≡ (F.told files.old).lent }
-    ensures may_ask { AsksOnly (file_name names.now File.Log ∷ []) (F.told files.old).asked
-        (F.told files.new).asked }
-    ensures kept { (F.told files.old).faults ≤ (F.told files.new).faults }
+    ensures found { FindsHeld (use_of F.told files.old files.new) (file_name names.now File.Log)
+        number genesis result }
+    ensures reads { OnlyReads names.now (File.Log ∷ []) (use_of F.told files.old files.new) }
 {
     match read_log(rt, alloc, files, names, genesis, gate) {
         Ok(order) => {
@@ -225,7 +221,8 @@ fn add<F: Folder>(
             Ok(())
         }
         Err((fault, _)) => {
-            // No call: that the count of the folder can be told here is what `kept` rests on.
+            // Not called for its answer: that the folder's count can be told here is what `kept`
+            // rests on.
             let _faults = files.faults();
             files.take_file(name.as_str(), tail.close());
             Err(fault_of(fault, number))
@@ -236,7 +233,8 @@ fn add<F: Folder>(
 // The fault of the program that one of adding is, if there is room.
 fn fault_of(fault: DocsFault, number: u32) -> Fault
     requires not_full { fault ≢ docs_faults.Full }
-    ensures value { result ≡ fault_of_adding number fault }
+    ensures exists { fault ≡ docs_faults.Exists → result ≡ Fault.Exists (File.Document number) }
+    ensures memory { fault ≡ docs_faults.Memory → result ≡ Fault.Memory }
 {
     match fault {
         DocsFault::Exists => Fault::Exists(File::Document(number)),

@@ -5,7 +5,7 @@ ghost use Rattle.sporc_outside.specs.Uses.{use_of};
 ghost use Rattle.sporc_entry.specs.Genesis.{IsGenesis};
 ghost use Rattle.sporc_store.specs.SavedFile.{read_to};
 ghost use Rattle.sporc_files.specs.Names.{file_name};
-ghost use Rattle.sporc_files.specs.Uses.{AsksOnly};
+ghost use Rattle.sporc_files.specs.Uses.{AsksOnly, OnlyReads};
 ghost use Rattle.sporc_files.specs.Faults.{AnswersUnlessOutside};
 ghost use Rattle.sporc_files.specs.Contents.{AnswersOfFile};
 ghost use Rattle.sporc_hosting.specs.Serving.{logged, logged_in, order_of_whole, saved_log};
@@ -32,14 +32,9 @@ pub(crate) fn read_log<R: Threads + Wait + Sync, F: Folder, G: Gate + Sync>(
     gate: &G,
 ) -> Result<Order, Fault>
     requires { IsGenesis genesis }
-    ensures found { AnswersOfFile (λ order. order) (F.told files.old).files
-        (file_name names.now File.Log) (F.told files.old).faults (F.told files.new).faults result
-        (logged genesis) }
-    ensures files { (F.told files.new).files ≡ (F.told files.old).files }
-    ensures lent { (F.told files.new).lent ≡ (F.told files.old).lent }
-    ensures may_ask { AsksOnly (file_name names.now File.Log ∷ []) (F.told files.old).asked
-        (F.told files.new).asked }
-    ensures kept { (F.told files.old).faults ≤ (F.told files.new).faults }
+    ensures found { AnswersOfFile (λ order. order) (use_of F.told files.old files.new)
+        (file_name names.now File.Log) result (logged genesis) }
+    ensures reads { OnlyReads names.now (File.Log ∷ []) (use_of F.told files.old files.new) }
 {
     let log = read_if_there(alloc, files, names, File::Log)?;
     match log {

@@ -4,9 +4,10 @@ ghost use Rattle.std.specs.Prelude.{◌≡◌, ◌≤◌, [], ◌∷◌, length,
 ghost use Rattle.std.specs.Prelude.{option_map, string_bytes};
 ghost use Rattle.sporc_entry.specs.Genesis.{IsGenesis};
 ghost use Rattle.sporc_outside.specs.Files.{ChangesFile, made_in};
+ghost use Rattle.sporc_outside.specs.Uses.{use_of};
 ghost use Rattle.sporc_outside.specs.declared.file_fault.TheConstants.{MAX_FILE};
 ghost use Rattle.sporc_files.specs.Names.{file_name};
-ghost use Rattle.sporc_files.specs.Uses.{AsksOnly};
+ghost use Rattle.sporc_files.specs.Uses.{AsksOnly, OnlyReads};
 ghost use Rattle.sporc_hosting.specs.Opening.{FindsBehind, FindsTail};
 ghost use Rattle.sporc_hosting.specs.Serving.{FindsOrder, FindsOrderBehind, fault_of_tail};
 ghost use Rattle.sporc_hosting.specs.Tails.{KeepsBehind};
@@ -49,8 +50,8 @@ pub(crate) fn open_order<R: Threads + Wait + Sync, F: Folder, G: Gate + Sync>(
     names: &Names<'_>,
     gate: &G,
 ) -> Result<OpenedOrder<F::Appended>, Fault>
-    ensures found { FindsOrder (λ it. it.kept.order) (λ it. it.logged) (F.told files.old).files
-        names.now (F.told files.old).faults (F.told files.new).faults result }
+    ensures found { FindsOrder (λ it. it.kept.order) (λ it. it.logged)
+        (use_of F.told files.old files.new) names.now result }
     ensures tail { IfOk result
         (λ it. KeepsBehind F.Appended.told it.kept.tail it.kept.order.entries) }
     ensures name { IfOk result (λ it. string_bytes it.name ≡ file_name names.now File.Tail) }
@@ -78,8 +79,7 @@ pub(crate) fn open_order_behind<R: Threads + Wait + Sync, F: Folder, G: Gate + S
 ) -> Result<OpenedOrder<F::Appended>, Fault>
     requires genesis { IsGenesis genesis }
     ensures found { FindsOrderBehind (λ it. it.kept.order) (λ it. it.logged)
-        (F.told files.old).files names.now genesis (F.told files.old).faults
-        (F.told files.new).faults result }
+        (use_of F.told files.old files.new) names.now genesis result }
     ensures tail { IfOk result
         (λ it. KeepsBehind F.Appended.told it.kept.tail it.kept.order.entries) }
     ensures name { IfOk result (λ it. string_bytes it.name ≡ file_name names.now File.Tail) }
@@ -101,7 +101,8 @@ pub(crate) fn open_order_behind<R: Threads + Wait + Sync, F: Folder, G: Gate + S
             logged: opened.logged,
         }),
         Err((fault, file)) => {
-            // No call: that the count of the folder can be told here is what `kept` rests on.
+            // Not called for its answer: that the folder's count can be told here is what `kept`
+            // rests on.
             let _faults = files.faults();
             files.take_file(name.as_str(), file);
             Err(fault)
@@ -123,16 +124,12 @@ fn open_behind<R: Threads + Wait + Sync, F: Folder, G: Gate + Sync>(
     requires genesis { IsGenesis genesis }
     requires limit { IfSome (F.told files.old).files
         (λ _. IfSome (F.Appended.told file).stored (λ bytes. length bytes ≤ MAX_FILE)) }
-    ensures found { FindsBehind (λ it. it.kept.order) (λ it. it.logged) (F.told files.old).files
-        (file_name names.now File.Log) (F.Appended.told file).stored
-        (F.told files.old).faults (F.told files.new).faults F.Appended.told genesis result }
+    ensures found { FindsBehind (λ it. it.kept.order) (λ it. it.logged)
+        (use_of F.told files.old files.new) (file_name names.now File.Log)
+        (F.Appended.told file).stored F.Appended.told genesis result }
     ensures tail { IfOk result
         (λ it. KeepsBehind F.Appended.told it.kept.tail it.kept.order.entries) }
-    ensures files { (F.told files.new).files ≡ (F.told files.old).files }
-    ensures lent { (F.told files.new).lent ≡ (F.told files.old).lent }
-    ensures may_ask { AsksOnly (file_name names.now File.Log ∷ []) (F.told files.old).asked
-        (F.told files.new).asked }
-    ensures kept { (F.told files.old).faults ≤ (F.told files.new).faults }
+    ensures reads { OnlyReads names.now (File.Log ∷ []) (use_of F.told files.old files.new) }
 {
     match read_log(rt, alloc, files, names, genesis, gate) {
         Ok(order) => open_tail(alloc, order, file),

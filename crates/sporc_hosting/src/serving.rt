@@ -105,7 +105,7 @@ pub(crate) fn remove_tail<F: Folder>(
     ensures asked { (F.told files.new).asked ≡ (F.told files.old).asked }
     ensures kept { (F.told files.old).faults ≤ (F.told files.new).faults }
 {
-    // No call: that the count of the folder can be told here is what `kept` rests on.
+    // Not called for its answer: that the folder's count can be told here is what `kept` rests on.
     let _faults = files.faults();
     match files.remove(name, tail.close()) {
         Ok(()) => Ok(()),
@@ -131,7 +131,7 @@ pub(crate) fn keep_tail<F: Folder>(
 {
     // A lock hands back the tail that it was handed, but no contract says that.
     let is_own = tail.is_behind(order.document(), logged);
-    // No call: that the count of the folder can be told here is what `kept` rests on.
+    // Not called for its answer: that the folder's count can be told here is what `kept` rests on.
     let _faults = files.faults();
     files.take_file(name, tail.close());
     if is_own {

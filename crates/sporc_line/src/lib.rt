@@ -23,9 +23,9 @@
 //! Proved: `prepare` and `accept`, and what does the same with an examined entry, answer exactly
 //! the first fault of the definition, unless memory runs out, and leave the line as it is, or
 //! append; every getter is its definition over the list; the history stays good after any calls;
-//! both laws. Nothing is looked up in the list while an entry is checked. Only tested: each refusal
-//! by entries with real signatures, and what members, a joiner and a removed member read
-//! (`sporc_history_tests`). Neither: how long a call takes.
+//! both laws. Only tested: each refusal by entries with real signatures, and what members, a joiner
+//! and a removed member read (`sporc_history_tests`). Neither: how long a call takes, and that nothing
+//! is looked up in the list of entries while one is checked.
 #![tactic(auto)]
 
 mod effect;

@@ -49,7 +49,7 @@ pub struct Line {
     alloc: Global,
     heads: Heads,
     kit: MemberKit,
-    // The key of the last epoch, unless the member was removed.
+    // The key of the last epoch, unless the member was removed or the device dropped.
     key: Option<[u8; 32]>,
     forms: Blocks,
     text: Doc,

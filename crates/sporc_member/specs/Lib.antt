@@ -4,3 +4,4 @@ pub mod Lists
 pub mod Device
 pub mod Roster
 pub mod RosterModel
+pub mod Codes

@@ -1,7 +1,13 @@
 -- Roles.
-use Rattle.std.specs.Prelude.{ℕ, ◌==◌, Bool, [], ◌∷◌, Option, find}
+use Rattle.std.specs.Prelude.{ℕ, ◌==◌, Bool, List, [], ◌∷◌, Option, find, codes}
 use Rattle.sporc_member.specs.declared.role.Role.{Role}
 use Rattle.sporc_member.specs.declared.role.Role.TheVariants.{Reader, Editor, Admin}
+
+-- the word for a role, in scripts and in what is printed
+abbrev pub role_name : Role → List ℕ
+role_name Reader = codes "reader"
+role_name Editor = codes "editor"
+role_name Admin = codes "admin"
 
 -- the number of a role in genesis and changes
 abbrev pub role_code_of : Role → ℕ

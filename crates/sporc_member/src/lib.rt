@@ -38,6 +38,6 @@ pub use device::{Device, FIRST_DEVICE, LiveDevice};
 pub use founder::Founder;
 pub use limits::{MAX_DEVICES, MAX_MEMBERS};
 pub use member::Member;
-pub use role::Role;
+pub use role::{Role, role_name};
 pub use roster::Roster;
 pub use sporc_base::Memory;

@@ -1,6 +1,7 @@
 //! Roles.
 
 ghost use Rattle.std.specs.Prelude.{◌≡◌};
+ghost use Rattle.sporc_member.specs.Role.{role_name};
 
 /// What a member may do: a reader nothing, an editor edits, an admin edits and changes.
 #[derive(Clone, Copy, PartialEq, Eq)]
@@ -48,5 +49,16 @@ impl Role {
         ensures value { result ≡ is_admin self }
     {
         self.is(Role::Admin)
+    }
+}
+
+/// The word for a role, in scripts and in what is printed.
+pub fn role_name(role: Role) -> &'static str
+    ensures value { result.now ≡ role_name role }
+{
+    match role {
+        Role::Reader => "reader",
+        Role::Editor => "editor",
+        Role::Admin => "admin",
     }
 }

@@ -177,7 +177,7 @@ impl Order {
     }
 
     /// The entries after the first `from`: as many of them as one answer holds, up to
-    /// [`MAX_PULLED`].
+    /// [`MAX_PULLED`], whose bytes with 4 for each are at most [`MAX_PULLED_BYTES`].
     pub fn pull(&self, from: u32) -> &[Vec<u8>]
         ensures entries { map (λ v. v.items) result.now ≡ batch_after self.now.entries from }
         ensures none_left { length result.now ≡ 0 ↔ length self.now.entries ≤ from }

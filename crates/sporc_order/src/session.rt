@@ -75,8 +75,8 @@ impl Session {
         answered(self.step_kept(alloc, order, message, None, &mut NoTail))
     }
 
-    /// Answers a message as [`Session::step`] does, where a verdict of its entry may be known, and a
-    /// tail keeps the entry before the order takes it.
+    /// Answers a message as [`Session::step`] does, where a verdict of its entry may be known, and
+    /// a tail keeps the entry before the order takes it.
     pub fn step_kept<T: Tail>(
         &mut self,
         alloc: Global,

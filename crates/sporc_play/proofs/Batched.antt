@@ -3,7 +3,7 @@ use Rattle.std.proofs.Common.{◌≡◌, ℕ, zero, suc, ◌+◌, ◌*◌, ◌/�
 use Rattle.std.proofs.Common.{length-append, append-nil}
 use Rattle.sporc_play.proofs.Common.{Contains, encode_utf8, encode_utf8_all, encode_ascii, length-map, map-append, fold-append, Device, first_device, Command, MAX_SCRIPT, PlayState, HasRoom, IsAsked}
 use Rattle.sporc_play.proofs.Common.{Performs, up_to, batch, batches, edits, generated_cast, gives, inserts, removes, seen_len, submits, Scene, after, after_each, edit_size, opening, text_size}
-use Rattle.sporc_play.proofs.Common.{seated, IsCast, Becomes, CanPerform, StandsFor}
+use Rattle.sporc_play.proofs.Common.{seated, TakePart, Becomes, CanPerform, StandsFor}
 use Rattle.std.proofs.lemmas.Grind.{flat_map-append}
 use Rattle.sporc_script.specs.declared.command.Command.TheVariants as commands
 use Rattle.sporc_script.specs.declared.command.Give.{Give}
@@ -54,7 +54,7 @@ seated_by scene state m stands is = subst (λ (ds : List Device). Contains ds (f
 pub seated_there : (n : ℕ) (state : PlayState) (m : ℕ) → HasRoom n state → IsAsked m → Contains (seated state.seats.items) (first_device m)
 seated_there n state m room is = seated_by room.scene state m room.stands is
 
-pub can_ask : (state : PlayState) (command : Command) → HasRoom 1 state → IsCast state command → text_size command ≤ MAX_SCRIPT → CanPerform state command
+pub can_ask : (state : PlayState) (command : Command) → HasRoom 1 state → TakePart state command → text_size command ≤ MAX_SCRIPT → CanPerform state command
 can_ask state command room named short = can_perform generated_cast room.scene state command room.stands room.room named short
 
 -- ---- lists of commands

@@ -1,7 +1,7 @@
 -- What a state becomes by a command, and what it tells, from what the calls on its parts did.
 use Rattle.std.proofs.Common.{◌≡◌, ℕ, ◌+◌, List, ◌++◌, length, map, get_or, refl, sym, ap, ◌∙◌, subst, Option, Some, Result, Ok, Err, Vec, Global}
 use Rattle.sporc_play.proofs.Common.{slice_get, option_to_list, OnOk, MemberChange, Device, first_device, PlainClient, Setup, Join, Forgery, Rogue, Seat, PlayState, member_change, setup_of}
-use Rattle.sporc_play.proofs.Common.{seat_joined, change_events, given_by, give_line, join_line, line_by, entries_at, entry_at, HasSubmitted, IsRogueAt, IsSeatAt, plain_in, seat_logged}
+use Rattle.sporc_play.proofs.Common.{seat_joined, seat_joining, change_events, given_by, give_line, join_line, joining_in, joining_of, line_by, entries_at, entry_at, HasSubmitted, IsRogueAt, IsSeatAt, plain_in, seat_logged}
 use Rattle.sporc_play.proofs.Common.{submission_line, HasSigned, forged_by, signing_line, Becomes, IsCastOf, AppendsLineOf, same_Some, slice_get_within, RosterEdit}
 use Rattle.sporc_script.specs.declared.command.Command.TheVariants as commands
 use Rattle.sporc_script.specs.declared.command.Give.{Give}
@@ -82,21 +82,21 @@ give_tells old g i x entry out out' at found is script scene stands =
 -- ---- joiners
 
 pub join_becomes : (old new : PlayState) (j : Join) (i : ℕ) (x x' : Seat) → IsSeatAt old.seats.items i j.device x → ChangesSeat i x' old new → entries_of new ≡ entries_of old
-    → ((s : Setup) → IsCastOf s old.cast → old.genesis ≡ s.genesis → x' ≡ seat_joined s x (entries_at (entries_of old) j.entries) x.client) → Becomes old (commands.Join j) new
+    → ((s : Setup) → IsCastOf s old.cast → old.genesis ≡ s.genesis → x' ≡ seat_joined s x (seat_joining s (entries_of old) j x)) → Becomes old (commands.Join j) new
 join_becomes old new j i x x' at changed same is script scene stands =
     let s = setup_of script in
     join_stands script scene old new i j.device x x' (entries_at scene.made j.entries) stands at
-    (is s stands.cast stands.genesis ∙ ap (λ (es : List (List ℕ)). seat_joined s x (entries_at es j.entries) x.client) stands.made) changed same
+    (is s stands.cast stands.genesis ∙ ap (λ (es : List (List ℕ)). seat_joined s x (seat_joining s es j x)) stands.made) changed same
 
 pub join_tells : (old : PlayState) (j : Join) (i : ℕ) (x : Seat) (out out' : List ℕ) → IsSeatAt old.seats.items i j.device x
-    → ((s : Setup) → IsCastOf s old.cast → old.genesis ≡ s.genesis → out' ≡ out ++ join_line s x.device (entries_at (entries_of old) j.entries) (plain_in x)) → AppendsLineOf old (commands.Join j) out out'
+    → ((s : Setup) → IsCastOf s old.cast → old.genesis ≡ s.genesis → out' ≡ out ++ join_line x.device (seat_joining s (entries_of old) j x)) → AppendsLineOf old (commands.Join j) out out'
 join_tells old j i x out out' at is script scene stands =
     let s = setup_of script in (
-      join_line s j.device (entries_at scene.made j.entries) (scene.world.clients j.device),
+      join_line j.device (joining_in s scene j),
       refl,
-      is s stands.cast stands.genesis ∙ ap (λ (who : Device). out ++ join_line s who (entries_at (entries_of old) j.entries) (plain_in x)) at.own
-          ∙ ap (λ (es : List (List ℕ)). out ++ join_line s j.device (entries_at es j.entries) (plain_in x)) stands.made
-          ∙ ap (λ (o : Option PlainClient). out ++ join_line s j.device (entries_at scene.made j.entries) o) (sym (client_there script scene old i j.device x stands at)),
+      is s stands.cast stands.genesis ∙ ap (λ (who : Device). out ++ join_line who (joining_of s who (entries_at (entries_of old) j.entries) (plain_in x))) at.own
+          ∙ ap (λ (es : List (List ℕ)). out ++ join_line j.device (joining_of s j.device (entries_at es j.entries) (plain_in x))) stands.made
+          ∙ ap (λ (o : Option PlainClient). out ++ join_line j.device (joining_of s j.device (entries_at scene.made j.entries) o)) (sym (client_there script scene old i j.device x stands at)),
     )
 
 -- ---- rogues

@@ -1,11 +1,11 @@
 -- Plays in which clients make all entries are closed: what is handed out was signed by a client of the play.
 use Rattle.std.proofs.Common.{◌≡◌, ℕ, Bool, true, false, cond, List, [], ◌∷◌, ◌++◌, length, map, refl, sym, subst, arith, Option, None, Some, Result, Ok, Err, ap, ◌∙◌, append_assoc, ◌≤◌, inr}
-use Rattle.sporc_play.proofs.Common.{Contains, if◌then◌else◌, nat_le, AllByRecursion, Contains-append_right, Device, Founder, first_device, insert_by, Keys, hints_of, HintFault, open_checks}
-use Rattle.sporc_play.proofs.Common.{LineOpenFault, first_of, get, SubmitFault, Submitted, change_fault, discard_fault, edit_fault, Logged, Change, Discard, Edit, Submit, PlainClient, IsTypedRun}
+use Rattle.sporc_play.proofs.Common.{Contains, if◌then◌else◌, nat_le, AllByRecursion, Contains-append_right, Device, Founder, first_device, insert_by}
+use Rattle.sporc_play.proofs.Common.{SubmitFault, Submitted, change_fault, discard_fault, edit_fault, Logged, Change, Discard, Edit, Submit, PlainClient, IsTypedRun}
 use Rattle.sporc_play.proofs.Common.{Setup, World, Move, Give, Happen, Open, Restart, after_all, start, happens_to, Mark, IsPlayScript, Command, Tree, MemberRole, all_added, PlayLine, first_ring}
 use Rattle.sporc_play.proofs.Common.{founder_of, founders_of, has_admin, member_change, openers_by, public_of, tree_of, change_events, discard_events, edit_logged, logged_unless, moves_from, moves_of}
-use Rattle.sporc_play.proofs.Common.{Effect, Scene, effect_of, adds, commands_of, delta_by, edit_events, entries_at, entry_at, if_open, joins, nothing, opening, opening_moves, openings, opens_unless}
-use Rattle.sporc_play.proofs.Common.{opens_with, restarts, seen_by, submission_in, all_append, and_parts, InRange, declarations, may_follow, names_performers, Join, IsOneRun, Consumes, IsAtEnd, IfErr}
+use Rattle.sporc_play.proofs.Common.{Effect, Scene, effect_of, adds, commands_of, delta_by, edit_events, entry_at, if_open, Joining, Opens, joining_in, joins, nothing, opening, opening_moves, openings}
+use Rattle.sporc_play.proofs.Common.{restarts, seen_by, submission_in, all_append, and_parts, InRange, declarations, may_follow, names_performers, Join, IsOneRun, Consumes, IsAtEnd, IfErr}
 use Rattle.sporc_play.proofs.Common.{OnOk, OnErr, MAX_SCRIPT, IsWriteCause, PlayOutcome, ReadsScript, ReadsWhole, Reports, ReportsPrefix, Genuine, RosterChange, PlayFault, stay_signed}
 use Rattle.sporc_client.specs.Closed.{AreClosed, HasItsKey, IsClosedMove, IsSigned}
 use Rattle.sporc_client.specs.Run.{after}
@@ -122,18 +122,9 @@ own_restart s scene who k c = go (nat_le k (length c.entries))
     go true = record { closed = (tt, tt); made = tt }
     go false = no_own s scene
 
-own_join : (s : Setup) (scene : Scene) (who : Device) (r : Result (List (List ℕ)) ℕ) (o : Option PlainClient) → IsOwn s scene (joins s who r o)
-own_join s scene who r (Some c) = no_own s scene
-own_join s scene who (Err missing) None = no_own s scene
-own_join s scene who (Ok entries) None = hinted (hints_of entries who.member (s.pairs who))
-  where
-    opened : (ring : Keys) (fault : Option LineOpenFault) → IsOwn s scene (opens_unless who ring fault)
-    opened ring None = record { closed = (tt, tt); made = tt }
-    opened ring (Some fault) = no_own s scene
-
-    hinted : (hints : Result Keys HintFault) → IsOwn s scene (opens_with s who hints)
-    hinted (Ok ring) = opened ring (first_of (open_checks s.genesis (get ring 0)))
-    hinted (Err fault) = no_own s scene
+own_join : (s : Setup) (scene : Scene) (who : Device) (joining : Joining) → IsOwn s scene (joins who joining)
+own_join s scene who (Opens ring) = record { closed = (tt, tt); made = tt }
+own_join s scene who joining = no_own s scene
 
 own_act : (s : Setup) (scene : Scene) (c : Command) → IsByClients c → AllByRecursion (IsSigned scene.world) scene.made → IsOwn s scene (effect_of s scene c)
 own_act s scene (commands.Edit e) by all = own_if_open s scene e.device (λ c. adds e.device (edit_events e c)) (λ c at. own_edit s scene e.device c (seen_by c e.seen) (delta_by c (seen_by c e.seen) e.change))
@@ -146,7 +137,7 @@ own_act s scene (commands.Submit who) by all =
 own_act s scene (commands.Give g) by all =
     own_if_open s scene g.device (λ c. gives g.device g.position (entry_at scene.made g.entry)) (λ c at. own_give s scene g.device g.position g.entry (entry_at scene.made g.entry) all refl)
 own_act s scene (commands.Restart r) by all = own_if_open s scene r.device (restarts r.device r.entries) (λ c at. own_restart s scene r.device r.entries c)
-own_act s scene (commands.Join j) by all = own_join s scene j.device (entries_at scene.made j.entries) (scene.world.clients j.device)
+own_act s scene (commands.Join j) by all = own_join s scene j.device (joining_in s scene j)
 own_act s scene (commands.Flip f) by all = absurd by
 own_act s scene (commands.Cut n) by all = absurd by
 own_act s scene (commands.Sign f) by all = absurd by

@@ -1,10 +1,10 @@
 -- Commands that act on one client, on the state and on the scene that it stands for.
-use Rattle.std.proofs.Common.{◌≡◌, ℕ, Bool, true, false, cond, List, [], ◌∷◌, ◌++◌, length, map, refl, sym, ap, ◌∙◌, subst, append-nil, Option, None, Some, arith, Result, Ok, Err, option_map}
+use Rattle.std.proofs.Common.{◌≡◌, ℕ, Bool, true, false, cond, List, [], ◌∷◌, ◌++◌, length, map, refl, sym, ap, ◌∙◌, subst, append-nil, Option, None, Some, arith, Result, option_map}
 use Rattle.sporc_play.proofs.Common.{nat_le, MemoryDiskModel, Refusal, journal_has_room, refusal_of, ClientModel, state_of, Logged, Opening, PlainClient, Setup, Give, Restart, given, log_of_first}
 use Rattle.sporc_play.proofs.Common.{replay_from, restarted, replay_append, replay_opening, Device, PlayLine, Seat, PlayState, setup_of, accepted_event, events_by, first_accepts, given_by}
-use Rattle.sporc_play.proofs.Common.{given_events, line_by, Scene, adds, if_open, nothing, restarts, IsSeatAt, plain_in, seat_logged, seat_restarted, IsSeatOf, StandsFor, Effect, get, SignerModel}
-use Rattle.sporc_play.proofs.Common.{LmsPrivate, first_of, HintFault, hints_of, Keys, open_checks, LineOpenFault, opened, Open, opening_of, client_with, seat_by, seat_joined, seat_open, seat_unless}
-use Rattle.sporc_play.proofs.Common.{joins, opens_unless, opens_with, Holds, IsSignerOf, moved, restarted_log}
+use Rattle.sporc_play.proofs.Common.{given_events, line_by, Scene, adds, if_open, nothing, restarts, IsSeatAt, plain_in, seat_logged, seat_restarted, IsSeatOf, StandsFor, Effect, SignerModel}
+use Rattle.sporc_play.proofs.Common.{LmsPrivate, Keys, opened, Open, opening_of, client_with, seat_joined, seat_open}
+use Rattle.sporc_play.proofs.Common.{Joining, Opens, joining_from, joining_of, joins, Holds, IsSignerOf, moved, restarted_log}
 use Rattle.sporc_client.specs.Step.{replay}
 use Rattle.sporc_play.specs.Scene.{gives}
 use Rattle.sporc_play.proofs.Seating.{client_given, client_restarted as client_goes_back, happens_of, log_moved, client_happens, log_happens, if_open_has, client_opened, ChangesSeat, IsQuiet, Leads}
@@ -110,8 +110,9 @@ restart_stands script scene state state' i who k seat new stands at is changed s
 
 -- ---- joiners, on the state and on the scene that it stands for
 
-joins_quiet : (s : Setup) (who : Device) (entries : Result (List (List ℕ)) ℕ) (o : Option PlainClient) → IsQuiet who (joins s who entries o)
-joins_quiet s who entries o = grind arith
+joins_quiet : (who : Device) (joining : Joining) → IsQuiet who (joins who joining)
+joins_quiet who (Opens ring) = record { moves = (refl, tt); entries = refl }
+joins_quiet who joining = record { moves = tt; entries = refl }
 
 -- ---- the seat
 
@@ -148,41 +149,39 @@ seat_opens s scene seat ring (Some signer) signed is =
 seat_stays : (s : Setup) (scene : Scene) (seat : Seat) → IsSeatOf s scene seat → IsSeatOf s (acted s scene nothing) seat
 seat_stays s scene seat is = seat_kept s scene (acted s scene nothing) seat (same_for_all s scene [] seat.device) is
 
-seat_joins : (s : Setup) (scene : Scene) (seat : Seat) (entries : Result (List (List ℕ)) ℕ) → IsSeatOf s scene seat → IsSeatOf s (acted s scene (joins s seat.device entries (scene.world.clients seat.device))) (seat_joined s seat entries seat.client)
-seat_joins s scene seat entries is = subst T (sym is.client) (go seat.client entries is)
+seat_joins : (s : Setup) (scene : Scene) (seat : Seat) (entries : Result (List (List ℕ)) ℕ) → IsSeatOf s scene seat
+    → IsSeatOf s (acted s scene (joins seat.device (joining_of s seat.device entries (plain_in seat)))) (seat_joined s seat (joining_of s seat.device entries (plain_in seat)))
+seat_joins s scene seat entries is = go seat.client is
   where
-    T : Option PlainClient → Type 0
-    T o = IsSeatOf s (acted s scene (joins s seat.device entries o)) (seat_joined s seat entries seat.client)
+    closed : (joining : Joining) → IsSeatOf s scene (with_client seat None) → IsSeatOf s (acted s scene (joins seat.device joining)) (seat_joined s (with_client seat None) joining)
+    closed (Opens ring) is = seat_opens s scene seat ring seat.signer refl is
+    closed joining is = seat_stays s scene (with_client seat None) is
 
-    unless : (ring : Keys) (fault : Option LineOpenFault) → IsSeatOf s scene (with_client seat None) → IsSeatOf s (acted s scene (opens_unless seat.device ring fault)) (seat_unless s ring (with_client seat None) fault)
-    unless ring None is = seat_opens s scene seat ring seat.signer refl is
-    unless ring (Some fault) is = seat_stays s scene (with_client seat None) is
-
-    by : (hints : Result Keys HintFault) → IsSeatOf s scene (with_client seat None) → IsSeatOf s (acted s scene (opens_with s seat.device hints)) (seat_by s (with_client seat None) hints)
-    by (Ok ring) is = unless ring (first_of (open_checks s.genesis (get ring 0))) is
-    by (Err fault) is = seat_stays s scene (with_client seat None) is
-
-    go : (o : Option (ClientModel MemoryDiskModel)) (entries : Result (List (List ℕ)) ℕ) → IsSeatOf s scene (with_client seat o) → IsSeatOf s (acted s scene (joins s seat.device entries (option_map state_of o))) (seat_joined s (with_client seat o) entries o)
-    go (Some c) entries is = seat_stays s scene (with_client seat (Some c)) is
-    go None (Ok entries) is = by (hints_of entries seat.device.member (s.pairs seat.device)) is
-    go None (Err missing) is = seat_stays s scene (with_client seat None) is
+    go : (o : Option (ClientModel MemoryDiskModel)) → IsSeatOf s scene (with_client seat o)
+        → IsSeatOf s (acted s scene (joins seat.device (joining_of s seat.device entries (option_map state_of o)))) (seat_joined s (with_client seat o) (joining_of s seat.device entries (option_map state_of o)))
+    go (Some c) is = seat_stays s scene (with_client seat (Some c)) is
+    go None is = closed (joining_from s seat.device entries) is
 
 -- a seat that joined is the same member's
 pub own_open : (s : Setup) (ring : Keys) (seat : Seat) (signer : Option (SignerModel MemoryDiskModel)) → (seat_open s ring seat signer).device ≡ seat.device
 own_open s ring seat signer = grind arith
 
-own_joined : (s : Setup) (seat : Seat) (entries : Result (List (List ℕ)) ℕ) (o : Option (ClientModel MemoryDiskModel)) → (seat_joined s seat entries o).device ≡ seat.device
-own_joined s seat entries o = grind arith
+own_joined : (s : Setup) (seat : Seat) (joining : Joining) → (seat_joined s seat joining).device ≡ seat.device
+own_joined s seat (Opens ring) = own_open s ring seat seat.signer
+own_joined s seat joining = refl
 
 -- ---- the state
 
 pub join_stands : (script : List PlayLine) (scene : Scene) (state state' : PlayState) (i : ℕ) (who : Device) (seat new : Seat) (entries : Result (List (List ℕ)) ℕ) → StandsFor script scene state → IsSeatAt state.seats.items i who seat
-    → new ≡ seat_joined (setup_of script) seat entries seat.client → ChangesSeat i new state state' → map (λ bytes. bytes.items) state'.made.items ≡ map (λ bytes. bytes.items) state.made.items
-    → StandsFor script (acted (setup_of script) scene (joins (setup_of script) who entries (scene.world.clients who))) state'
+    → new ≡ seat_joined (setup_of script) seat (joining_of (setup_of script) seat.device entries (plain_in seat)) → ChangesSeat i new state state' → map (λ bytes. bytes.items) state'.made.items ≡ map (λ bytes. bytes.items) state.made.items
+    → StandsFor script (acted (setup_of script) scene (joins who (joining_of (setup_of script) who entries (scene.world.clients who)))) state'
 join_stands script scene state state' i who seat new entries stands at joined changed same =
     let s = setup_of script in
-    let seats = seat_joins s scene seat entries (seat_there script scene state i who seat stands at) in
-    stands_acted script scene state state' i who seat new (joins s who entries (scene.world.clients who)) stands at (joins_quiet s who entries (scene.world.clients who))
-    (subst (λ (d : Device). IsSeatOf s (acted s scene (joins s d entries (scene.world.clients d))) new) at.own
-    (subst (IsSeatOf s (acted s scene (joins s seat.device entries (scene.world.clients seat.device)))) (sym joined) seats))
-    (ap (λ (x : Seat). x.device) joined ∙ own_joined s seat entries seat.client) changed same
+    let joining = joining_of s seat.device entries (plain_in seat) in
+    let joining_is : joining ≡ joining_of s who entries (scene.world.clients who) =
+    ap (λ (d : Device). joining_of s d entries (plain_in seat)) at.own ∙ ap (joining_of s who entries) (sym (client_there script scene state i who seat stands at)) in
+    subst (λ (j : Joining). StandsFor script (acted s scene (joins who j)) state') joining_is
+    (stands_acted script scene state state' i who seat new (joins who joining) stands at (joins_quiet who joining)
+    (subst (λ (d : Device). IsSeatOf s (acted s scene (joins d joining)) new) at.own
+    (subst (IsSeatOf s (acted s scene (joins seat.device joining))) (sym joined) (seat_joins s scene seat entries (seat_there script scene state i who seat stands at))))
+    (ap (λ (x : Seat). x.device) joined ∙ own_joined s seat joining) changed same)

@@ -132,29 +132,30 @@ pub use Rattle.sporc_report.specs.ClientLines.{Stands, compare_line, hash_line, 
 pub use Rattle.sporc_report.specs.JournalLines.{journal_lines}
 pub use Rattle.sporc_report.specs.Names.{hint_fault_name, open_fault_name, submit_fault_name}
 pub use Rattle.sporc_play.specs.Batches.{AreOpen, HasRoom, IsAsked, Performs}
-pub use Rattle.sporc_play.specs.Cast.{declared_member, device_by, first_ring, founder_by, founder_of, founders_of, genesis_by, has_admin, is_founder, is_pair, member_change, opener_by, openers_by}
-pub use Rattle.sporc_play.specs.Cast.{private_of, public_of, rogue_by, setup_of, tree_of, unpaired_by}
+pub use Rattle.sporc_play.specs.Cast.{declared_member, device_by, first_ring, founder_by, founder_of, founders_by, founders_of, genesis_by, has_admin, is_founder, member_change, opener_by, openers_by}
+pub use Rattle.sporc_play.specs.Cast.{pairs_among, private_of, public_of, rogue_by, setup_of, tree_of, unpaired_by, with_pair}
 pub use Rattle.sporc_play.specs.Derived.{derived, first_key, pair_key, random_of}
 pub use Rattle.sporc_play.specs.Forged.{IsSmallBody, base_by, derived_pairs, device_in, epoch_by, first_flipped, forged_body, forged_change, forged_entry, forged_header, forged_sealing, key_there}
 pub use Rattle.sporc_play.specs.Forged.{BodyWith, kind_of, number_by, sealed_for, signed_by, spoiled, unsigned_by, value_at, version_by, wrap_flipped}
 pub use Rattle.sporc_play.specs.Generated.{batch, batches, edits, generated_cast, generated_commands, generated_edit, generated_scene, gives, inserts, removes, seen_len, submits, summary_line}
-pub use Rattle.sporc_play.specs.Joined.{client_with, entries_found, seat_by, seat_joined, seat_open, seat_unless, seat_with}
+pub use Rattle.sporc_play.specs.Joined.{client_with, entries_found, seat_joined, seat_joining, seat_open}
 pub use Rattle.sporc_play.specs.Logs.{accepted_event, change_events, discard_events, edit_logged, events_by, first_accepts, given_by, given_events, log_after, logged_unless, logs_after}
 pub use Rattle.sporc_play.specs.Logs.{restarted_log}
 pub use Rattle.sporc_play.specs.Moves.{IsOneRun, moves_from, moves_of}
-pub use Rattle.sporc_play.specs.Opening.{HasBlank, HasDeclared, HasRogue, HasSat, HaveDeclared, HaveRogues, HaveSeats, IsFresh, IsFreshRogue, IsNamed, founders_by}
+pub use Rattle.sporc_play.specs.Opening.{HasBlank, HasDeclared, HasRogue, HasSat, HaveDeclared, HaveRogues, HaveSeats, IsFresh, IsFreshRogue, IsNamed}
 pub use Rattle.sporc_play.specs.Playing.{IsShortScript, IsWriteCause, PlayOutcome, ReadsScript, ReadsWhole}
 pub use Rattle.sporc_play.specs.Report.{Compares, Reports, ReportsFrom, ReportsPrefix, Writes, accept_line, change_line, cut_line, discard_line, edited_line, entry_line, event_line, flip_line}
-pub use Rattle.sporc_play.specs.Report.{flipped_line, give_line, hashes_of, hints_line, join_line, joined_line, line_by, next_number, not_open_line, open_line, restart_answer, restart_line, sign_line}
+pub use Rattle.sporc_play.specs.Report.{flipped_line, give_line, hashes_of, join_line, line_by, next_number, not_open_line, restart_answer, restart_line, sign_line, signed_line}
 pub use Rattle.sporc_play.specs.Report.{submit_line}
 pub use Rattle.sporc_play.specs.Scene.{Effect, Scene, adds, after, after_each, commands_of, cuts, delta_by, edit_events, edit_size, effect_of, entries_at, entries_in, entry_at, flip_byte, flipped}
-pub use Rattle.sporc_play.specs.Scene.{flips, if_open, joins, leaf_after, leaf_next, marks_of, moved, nothing, opening, opening_moves, openings, opens_unless, opens_with, restarts, scene_at}
+pub use Rattle.sporc_play.specs.Scene.{flips, if_open, Joining, NotOpened, Opens, joining_by, joining_from, joining_in, joining_of, joining_with, joins, leaf_after, leaf_next, marks_of, moved}
+pub use Rattle.sporc_play.specs.Scene.{nothing, opening, opening_moves, openings, restarts}
 pub use Rattle.sporc_play.specs.Scene.{scene_moved, scene_opened, seen_by, signer_of, signs_by, submission_in, text_size, what_size, with_entry, with_more}
 pub use Rattle.sporc_play.specs.Seats.{AreDrawn, ClientSubmitted, HasSubmitted, IsReady, IsRogueAt, IsSeatAt, IsSubmitted, answer_of, last_with, plain_in, rogue_devices, seat_logged, seat_restarted}
 pub use Rattle.sporc_play.specs.Seats.{seated, submission_line}
-pub use Rattle.sporc_play.specs.Signing.{HasSigned, forged_by, signed_line, signing_line}
-pub use Rattle.sporc_play.specs.Stage.{AppendsLineOf, AreDeclared, AreOfOneDocument, Becomes, CanPerform, HasSameMembers, Holds, IsCast, IsCastOf, IsClientOf, IsReadyRogue, IsReadySeat, IsRogueOf}
-pub use Rattle.sporc_play.specs.Stage.{IsSeatOf, IsSignerOf, StandsFor, pair_among}
+pub use Rattle.sporc_play.specs.Signing.{HasSigned, forged_by, signing_line}
+pub use Rattle.sporc_play.specs.Stage.{AppendsLineOf, AreDeclared, AreOfOneDocument, Becomes, CanPerform, HasSameMembers, Holds, IsCastOf, IsClientOf, IsReadyRogue, IsReadySeat, IsRogueOf, TakePart}
+pub use Rattle.sporc_play.specs.Stage.{IsSeatOf, IsSignerOf, StandsFor}
 pub use Rattle.sporc_play.specs.declared.cast.Cast.{Cast}
 pub use Rattle.sporc_play.specs.declared.cast.Declared.{Declared}
 pub use Rattle.sporc_play.specs.declared.fault.PlayFault.{PlayFault}

@@ -1,6 +1,6 @@
 -- Worked examples: lines of a report, as docs/FORMATS.md has them, and what stands in a rogue's header.
 use Rattle.std.proofs.Common.{◌≡◌, true, false, [], ◌∷◌, None, Some, Ok, Err, codes, refl}
-use Rattle.sporc_play.proofs.Common.{Device, first_device, device_in, version_by, accept_line, cut_line, event_line, flip_line, open_line, restart_answer, submit_line}
+use Rattle.sporc_play.proofs.Common.{Device, first_device, device_in, version_by, accept_line, cut_line, event_line, flip_line, join_line, NotOpened, restart_answer, submit_line}
 use Rattle.std.specs.Fmt.{digits}
 use Rattle.sporc_head.specs.declared.refusal.Refusal.TheVariants.{WrongPosition}
 use Rattle.sporc_line.specs.declared.fault.LineOpenFault.TheVariants as opens
@@ -27,7 +27,7 @@ what_a_client_adds = (refl, refl, refl, refl, refl, refl)
 what_a_client_is_given : (accept_line (first_device 3) 7 None ≡ codes "3 accept 7 ok\n")
     × (accept_line (first_device 3) 7 (Some (accepts.Refused WrongPosition)) ≡ codes "3 accept 7 refused wrong-position\n")
     × (restart_answer true (first_device 1) 6 4 ≡ codes "1 restart 6 ahead 4\n")
-    × (open_line (first_device 4) (Some opens.WrongKey) ≡ codes "4 join refused wrong-key\n")
+    × (join_line (first_device 4) (NotOpened opens.WrongKey) ≡ codes "4 join refused wrong-key\n")
 unfolding digits
 what_a_client_is_given = (refl, refl, refl, refl)
 

@@ -2,6 +2,7 @@
 use Rattle.std.proofs.Common.{◌≡◌, ℕ, zero, suc, ◌+◌, ◌-◌, ◌<◌, List, [], ◌∷◌, ◌++◌, length, get_or, map, drop, drop-cons, add-one, append_assoc, Some, Option, Vec, Global, refl, ap, sym, subst}
 use Rattle.std.proofs.Common.{arith, ◌∙◌, option_map}
 use Rattle.sporc_play.proofs.Common.{false, is_some, None, Result, Ok, Err, slice_get, entries_found, entries_at, entry_at, with_entry, slice_get_read, slice_get-map}
+use Rattle.sporc_play.proofs.Common.{ClientModel, Join, MemoryDiskModel, Seat, Setup, joining_from, joining_of, seat_joining, state_of}
 use Rattle.sporc_play.specs.declared.made.Found.{Found}
 use Rattle.sporc_play.specs.declared.made.Found.TheVariants.{Entries}
 
@@ -45,3 +46,10 @@ all_found made numbers slice found entries items is value same read =
 
 pub none_there : {X : Type 0} (o : Option X) → false ≡ is_some o → o ≡ None
 none_there o is = grind arith
+
+-- a seat without a client joins by entries that are found
+pub joining_found : (s : Setup) (made : List (List ℕ)) (j : Join) (seat : Seat) (entries : List (List ℕ)) → entries_at made j.entries ≡ Ok entries → seat.client ≡ None
+    → joining_from s seat.device (Ok entries) ≡ seat_joining s made j seat
+joining_found s made j seat entries found none =
+    ap (joining_from s seat.device) (sym found)
+    ∙ ap (λ (o : Option (ClientModel MemoryDiskModel)). joining_of s seat.device (entries_at made j.entries) (option_map state_of o)) (sym none)

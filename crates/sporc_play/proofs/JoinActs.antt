@@ -2,7 +2,7 @@
 use Rattle.std.proofs.Common.{◌≡◌, ℕ, ◌+◌, Bool, true, false, cond, List, [], ◌∷◌, ◌++◌, length, map, reverse, refl, sym, ap, ◌∙◌, subst, not, Option, None, Some, Result, Ok, Err, IfOk, IfSome}
 use Rattle.sporc_play.proofs.Common.{all_take, Contains, take_while, nat_cmp_total, empty, get, insert, get-empty, get-insert, AllByRecursion, nat_cmp, eq_by_cmp, bytes_eq, map-append, reverse-append}
 use Rattle.sporc_play.proofs.Common.{IsBytes, first_of, unless, mask_of, commitment_of, Genesis, Wrap, IsWrap, HintFault, Keys, previous_stream, stream_of, CommittedChange, changes, LineOpenFault}
-use Rattle.sporc_play.proofs.Common.{Meets, open_checks, PlainClient, Setup, AreEpochKeys, Device, Join, Scene, entries_at, entry_at, joins, opens_unless, opens_with, with_entry, all_append}
+use Rattle.sporc_play.proofs.Common.{Meets, open_checks, PlainClient, Setup, AreEpochKeys, Device, Join, Scene, entries_at, entry_at, joining_by, joining_of, joining_with, joins, with_entry, all_append}
 use Rattle.sporc_play.proofs.Common.{length-mask_from, wrap_opened, IsTypedCommitted, changes_typed, found_typed, IfSome_then}
 use Rattle.std.proofs.lemmas.Slice.Eq.{bytes_eq-Decides}
 use Rattle.sporc_epoch.specs.declared.fault.HintFault.TheVariants.{WrongKey}
@@ -133,18 +133,18 @@ sizes ring holds epoch = IfSome_then (get ring epoch) (holds epoch) (λ key is. 
 byte_keys : (ring : Keys) → HoldsKeys ring → AreByteKeys ring
 byte_keys ring holds epoch = IfSome_then (get ring epoch) (holds epoch) (λ key is. is.bytes)
 
-unless_acts : (s : Setup) (scene : Scene) (who : Device) (ring : Keys) (fault : Option LineOpenFault) → Contains s.devices who → HoldsKeys ring → first_of (open_checks s.genesis (get ring 0)) ≡ fault → MayAct s scene (opens_unless who ring fault)
-unless_acts s scene who ring None member holds none = one_move s scene _ (member, meets s.genesis (get ring 0) none) (sizes ring holds) (byte_keys ring holds)
-unless_acts s scene who ring (Some fault) member holds some = no_act s scene
+with_acts : (s : Setup) (scene : Scene) (who : Device) (ring : Keys) (fault : Option LineOpenFault) → Contains s.devices who → HoldsKeys ring → first_of (open_checks s.genesis (get ring 0)) ≡ fault → MayAct s scene (joins who (joining_with ring fault))
+with_acts s scene who ring None member holds none = one_move s scene _ (member, meets s.genesis (get ring 0) none) (sizes ring holds) (byte_keys ring holds)
+with_acts s scene who ring (Some fault) member holds some = no_act s scene
 
-with_acts : (s : Setup) (scene : Scene) (who : Device) (hints : Result Keys HintFault) → Contains s.devices who → IfOk hints HoldsKeys → MayAct s scene (opens_with s who hints)
-with_acts s scene who (Ok ring) member holds = unless_acts s scene who ring (first_of (open_checks s.genesis (get ring 0))) member holds refl
-with_acts s scene who (Err fault) member holds = no_act s scene
+by_acts : (s : Setup) (scene : Scene) (who : Device) (hints : Result Keys HintFault) → Contains s.devices who → IfOk hints HoldsKeys → MayAct s scene (joins who (joining_by s hints))
+by_acts s scene who (Ok ring) member holds = with_acts s scene who ring (first_of (open_checks s.genesis (get ring 0))) member holds refl
+by_acts s scene who (Err fault) member holds = no_act s scene
 
 pub join_acts : (s : Setup) (j : Join) → Contains s.devices j.device → MayBe s (λ scene. commands.Join j)
 join_acts s j member moves scene come = go (scene.world.clients j.device) (entries_at scene.made j.entries) (given_are scene.made j.entries come.made)
   where
-    go : (o : Option PlainClient) (r : Result (List (List ℕ)) ℕ) → IfOk r (AllByRecursion AreBytes) → MayAct s scene (joins s j.device r o)
+    go : (o : Option PlainClient) (r : Result (List (List ℕ)) ℕ) → IfOk r (AllByRecursion AreBytes) → MayAct s scene (joins j.device (joining_of s j.device r o))
     go (Some c) r all = no_act s scene
     go None (Err missing) all = no_act s scene
-    go None (Ok entries) all = let who = j.device in with_acts s scene who (hints_of entries who.member (s.pairs who)) member (hints_are entries who.member (s.pairs who) all)
+    go None (Ok entries) all = let who = j.device in by_acts s scene who (hints_of entries who.member (s.pairs who)) member (hints_are entries who.member (s.pairs who) all)

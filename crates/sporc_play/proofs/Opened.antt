@@ -1,7 +1,7 @@
 -- The state before the first command.
-use Rattle.std.proofs.Common.{◌≡◌, ℕ, ◌≤◌, Bool, true, false, List, [], length, map, fold, refl, sym, ap, ap₂, ◌∙◌, subst, Option, None, Some, option_map}
-use Rattle.sporc_play.proofs.Common.{if◌then◌else◌, empty, insert, list_any, take_all, All-from_recursion, SignerModel, MemoryDiskModel, Keys, ClientModel, state_of, Move, Device}
-use Rattle.sporc_play.proofs.Common.{first_device, has_admin_founder, Tree, PlayLine, Rogue, Seat, PlayState, founders_of, genesis_by, has_admin, is_pair, private_of, public_of, tree_of, pair_key, HasBlank}
+use Rattle.std.proofs.Common.{◌≡◌, ℕ, ◌≤◌, Bool, true, false, List, [], length, map, refl, sym, ap, ap₂, ◌∙◌, subst, Option, None, Some, option_map}
+use Rattle.sporc_play.proofs.Common.{if◌then◌else◌, take_all, All-from_recursion, SignerModel, MemoryDiskModel, ClientModel, state_of, Move, Device}
+use Rattle.sporc_play.proofs.Common.{first_device, has_admin_founder, Tree, PlayLine, Rogue, Seat, PlayState, founders_of, genesis_by, has_admin, pairs_among, private_of, public_of, tree_of, HasBlank}
 use Rattle.sporc_play.proofs.Common.{HaveDeclared, IsFresh, IsFreshRogue, Scene, opening, openings, scene_moved, scene_opened, AreDeclared, Holds, IsCastOf, IsRogueOf, IsSeatOf, StandsFor, Pair, Cast}
 use Rattle.sporc_play.proofs.Common.{Declared}
 use Rattle.sporc_play.specs.Cast.{setup_of}
@@ -9,17 +9,13 @@ use Rattle.sporc_play.proofs.Places.{all_each}
 
 -- ---- who takes part
 
-pairs_by : ℕ → List Pair → List ℕ → Keys
-pairs_by member unpaired declared =
-    fold (λ (keys : Keys) (other : ℕ). if list_any (is_pair member other) unpaired then keys else insert keys other (pair_key member other)) empty declared
-
 cast_is : (script : List PlayLine) (cast : Cast) (seats : List Seat) (rogues : List Rogue) → HaveDeclared (tree_of script) script cast seats rogues → IsCastOf (setup_of script) cast
-unfolding setup_of pairs_by
+unfolding setup_of
 cast_is script cast seats rogues known = record {
   keys = All-from_recursion (λ (d : Declared). d.key ≡ public_of (tree_of script) (first_device d.member)) cast.declared.items known.cast_is.keys;
   founders = known.cast_is.founders;
   trees = λ who. ap (λ (t : Tree). private_of t who) (sym known.cast_is.tree_is);
-  pairs = λ who. ap₂ (pairs_by who.member) known.cast_is.unpaired known.cast_is.declared;
+  pairs = λ who. ap₂ (λ (members : List ℕ) (unpaired : List Pair). pairs_among members unpaired who.member) known.cast_is.declared known.cast_is.unpaired;
 }
 
 -- ---- seats

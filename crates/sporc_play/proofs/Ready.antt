@@ -3,13 +3,14 @@ use Rattle.std.proofs.Common.{◌≡◌, ℕ, zero, suc, ◌+◌, ◌-◌, ◌^�
 use Rattle.std.proofs.Common.{Bool, false, cond, ◌++◌, codes, length-append, inl, inr}
 use Rattle.sporc_play.proofs.Common.{Contains, filter_map, AllByRecursion, and_parts, length-map, LmsPrivate, SignerModel, Genesis, IsGenesis, Opening, ClientModel, Setup, Device, first_device}
 use Rattle.sporc_play.proofs.Common.{declarations, is_client, is_rogue, may_follow, names_performers, none_declared, IsPlayScript, Command, PlayLine, MAX_SCRIPT, Rogue, Seat, PlayState, device_by}
-use Rattle.sporc_play.proofs.Common.{has_admin, IsShortScript, Scene, after, after_each, commands_of, opening, scene_at, signer_of, text_size, with_more, AreDrawn, IsReady, seated, IsCast, CanPerform}
+use Rattle.sporc_play.proofs.Common.{has_admin, IsShortScript, Scene, after, after_each, commands_of, opening, signer_of, text_size, with_more, AreDrawn, IsReady, seated, TakePart, CanPerform}
 use Rattle.sporc_play.proofs.Common.{Holds, IsReadyRogue, IsReadySeat, IsRogueOf, IsSeatOf, StandsFor, ◌==◌, flat_map, encode_utf8_all, eqb-true, len_utf8_ascii, length-encode, spelling, IsNext}
 use Rattle.sporc_play.proofs.Common.{play_line, device_text, stated_spelling, text_edit_spelling, Suffix, What, TextEdit, edit_size, what_size, decimal, encode_lower, ReadsAs, lines_of, with_byte}
 use Rattle.sporc_play.proofs.Common.{signed_spelling_of, suffix_spelling, with_suffix, Insert, Remove}
 use Rattle.sporc_play.specs.Cast.{setup_of}
 use Rattle.sporc_play.proofs.Scripts.{client_named, joiner_named, line_at, rogue_named}
 use Rattle.sporc_play.proofs.Places.{all_each}
+use Rattle.sporc_play.proofs.Reported.{scene_at}
 use Rattle.std.specs.Prelude.{encode_utf8}
 use Rattle.hex.specs.Hex.{encode_with}
 use Rattle.sporc_script.specs.Quoted.{escape, quoted}
@@ -208,7 +209,7 @@ one_document s scene who genesis same signer None holds = tt
 one_document s scene who genesis same signer (Some c) holds = ap (λ (o : Opening). o.genesis) holds.opening ∙ sym same
 
 -- from whom a command names
-pub can_perform : (script : List PlayLine) (scene : Scene) (state : PlayState) (c : Command) → StandsFor script scene state → ((who : Device) → scene.asked who + 1 < 2 ^ 24) → IsCast state c → text_size c ≤ MAX_SCRIPT → CanPerform state c
+pub can_perform : (script : List PlayLine) (scene : Scene) (state : PlayState) (c : Command) → StandsFor script scene state → ((who : Device) → scene.asked who + 1 < 2 ^ 24) → TakePart state c → text_size c ≤ MAX_SCRIPT → CanPerform state c
 can_perform script scene state c stands few named short =
     let s = setup_of script in
     record {
@@ -230,7 +231,7 @@ seated_there : (script : List PlayLine) (scene : Scene) (state : PlayState) (i :
 seated_there script scene state i who stands is = subst (λ (ds : List Device). Contains ds who) (devices_there script scene state stands) (client_named script i who is)
 
 pub are_named : (script : List PlayLine) (scene : Scene) (state : PlayState) (i : ℕ) (c : Command) → StandsFor script scene state → may_follow (declarations (take i script)) c ≡ true
-    → ((declarations (take i script)).has_admin ≡ true → has_admin script ≡ true) → IsCast state c
+    → ((declarations (take i script)).has_admin ≡ true → has_admin script ≡ true) → TakePart state c
 are_named script scene state i (commands.Edit e) stands may founded = seated_there script scene state i e.device stands (and_parts (declarations (take i script)).has_admin (is_client (declarations (take i script)) e.device) may).1
 are_named script scene state i (commands.Change e) stands may founded =
     let d = declarations (take i script) in

@@ -2,7 +2,7 @@
 use Rattle.std.proofs.Common.{◌≡◌, ℕ, ◌+◌, ◌<◌, ◌≤◌, List, [], ◌∷◌, ◌++◌, length, take, get_or, Option, refl, sym, ap, ◌∙◌, subst, append-nil, append_assoc, Bool, cond, arith, None, Some, Result, Ok}
 use Rattle.std.proofs.Common.{Err, IfOk, inl, inr}
 use Rattle.sporc_play.proofs.Common.{take_all, Appends, Setup, Command, PlayLine, setup_of, IsWriteCause, Reports, ReportsFrom, ReportsPrefix, Writes, Scene, after, after_each, commands_of, opening}
-use Rattle.sporc_play.proofs.Common.{scene_at, ◌↔◌, OnOk, lt-ltb, Device, AnswersUnless, Accept, PlainClient, shown_after, TextEdit, given_events, event_line, delta_by, marks_of, cases_lt, PlayFault}
+use Rattle.sporc_play.proofs.Common.{◌↔◌, OnOk, lt-ltb, Device, AnswersUnless, Accept, PlainClient, shown_after, TextEdit, given_events, event_line, delta_by, marks_of, cases_lt, PlayFault}
 use Rattle.sporc_play.proofs.Common.{more_taken, fold_push, nat_tests}
 use Rattle.sporc_outside.proofs.Prefixes.{AppendsPrefix-all, AppendsPrefix-none, AppendsPrefix-then}
 use Rattle.sporc_play.specs.Lines.{WritesPrefix}
@@ -24,6 +24,10 @@ commands_push (x ∷ xs) l = ap (λ (cs : List (Scene → Command)). (λ scene. 
 pub after_push : (s : Setup) (scene : Scene) (commands : List (Scene → Command)) (command : Scene → Command)
     → after_each s scene (commands ++ command ∷ []) ≡ after s (after_each s scene commands) (command (after_each s scene commands))
 after_push s scene commands command = fold_push (λ (now : Scene) (c : Scene → Command). after s now (c now)) scene commands command
+
+-- the scene after the first n lines of a script
+abbrev pub scene_at : List PlayLine → ℕ → Scene
+scene_at script n = after_each (setup_of script) (opening script) (commands_of (take n script))
 
 pub scene_more : (lines : List PlayLine) (i : ℕ) (l : PlayLine) → i < length lines → l ≡ get_or lines i l → scene_at lines (i + 1) ≡ after (setup_of lines) (scene_at lines i) l.command
 scene_more lines i l low is =

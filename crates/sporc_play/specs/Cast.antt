@@ -101,11 +101,13 @@ abbrev pub founder_of : Tree → MemberRole → Founder
 founder_of tree m =
     record { member = m.member; role = m.role; key = public_of tree (first_device m.member) }
 
--- in ascending order of their numbers
+-- the founders of these lines, in ascending order of their numbers
+abbrev pub founders_by : Tree → List PlayLine → List Founder
+founders_by tree lines = fold (λ founders m. insert_by (λ f. f.member) (founder_of tree m) founders)
+    [] (filter_map (λ l. founder_by l.command) lines)
+
 abbrev pub founders_of : List PlayLine → List Founder
-founders_of script =
-    fold (λ founders m. insert_by (λ f. f.member) (founder_of (tree_of script) m) founders) []
-    (filter_map (λ l. founder_by l.command) script)
+founders_of script = founders_by (tree_of script) script
 
 -- without an admin there is no document, and no command may follow
 abbrev pub has_admin : List PlayLine → Bool
@@ -133,18 +135,20 @@ rogues_of script = filter_map (λ l. rogue_by l.command) script
 abbrev pub is_pair : ℕ → ℕ → Pair → Bool
 is_pair one other p = (p.first == one && p.second == other) || (p.first == other && p.second == one)
 
-abbrev pub are_unpaired : List PlayLine → ℕ → ℕ → Bool
-are_unpaired script one other =
-    list_any (is_pair one other) (filter_map (λ l. unpaired_by l.command) script)
+-- keys with the one for another member, unless the two are unpaired
+abbrev pub with_pair : List Pair → ℕ → Keys → ℕ → Keys
+with_pair unpaired member keys other =
+    if list_any (is_pair member other) unpaired then keys
+    else insert keys other (pair_key member other)
 
-abbrev pub with_pair : List PlayLine → ℕ → Keys → ℕ → Keys
-with_pair script one keys other =
-    if are_unpaired script one other then keys else insert keys other (pair_key one other)
+-- those that a member shares with all of these, but for the pairs that have none
+abbrev pub pairs_among : List ℕ → List Pair → ℕ → Keys
+pairs_among members unpaired member = fold (with_pair unpaired member) empty members
 
 -- with everyone who is declared, unless a line takes the key away
 abbrev pub pairs_of : List PlayLine → ℕ → Keys
-pairs_of script member =
-    fold (with_pair script member) empty (filter_map (λ l. declared_member l.command) script)
+pairs_of script member = pairs_among (filter_map (λ l. declared_member l.command) script)
+    (filter_map (λ l. unpaired_by l.command) script) member
 
 -- ---- the document
 

@@ -96,8 +96,8 @@ abbrev pub AllAgree : PlainClient → PlainClient → PlainClient → Type 0
 AllAgree a b c = AreSame a b × AreSame a c
 
 -- how the clients of the three members stand to each other, in a word
-abbrev pub IsVerdict : PlainClient → PlainClient → PlainClient → List ℕ → Type 0
-IsVerdict a b c word =
+abbrev pub TellsAgreement : PlainClient → PlainClient → PlainClient → List ℕ → Type 0
+TellsAgreement a b c word =
     (AllAgree a b c × (word ≡ codes "same")) ⊎ ((¬ (AllAgree a b c)) × (word ≡ codes "differ"))
 
 abbrev pub summary_line : PlainClient → List ℕ → List ℕ
@@ -111,4 +111,4 @@ Summarizes scene line = (a : PlainClient) × (b : PlainClient) × (c : PlainClie
     × (scene.world.clients (first_device 1) ≡ Some a)
     × (scene.world.clients (first_device 2) ≡ Some b)
     × (scene.world.clients (first_device 3) ≡ Some c)
-    × IsVerdict a b c word × (line ≡ summary_line a word)
+    × TellsAgreement a b c word × (line ≡ summary_line a word)

@@ -1,19 +1,16 @@
 -- What the declarations of a script make, line by line: who takes part, and the founders' clients.
-use Rattle.std.specs.Prelude.{◌≡◌, ℕ, List, [], ◌∷◌, ◌++◌, filter_map, fold, map, Option, None}
-use Rattle.std.specs.Prelude.{Some}
+use Rattle.std.specs.Prelude.{◌≡◌, ℕ, List, [], ◌∷◌, ◌++◌, filter_map, map, Option, None, Some}
 use Rattle.std.specs.List.{AllByRecursion}
 use Rattle.lms_sign.specs.Signer.{SignerModel}
 use Rattle.sporc_member.specs.declared.device.Device.{Device}
-use Rattle.sporc_member.specs.declared.founder.Founder.{Founder}
 use Rattle.sporc_member.specs.Device.{first_device}
-use Rattle.sporc_member.specs.Lists.{insert_by}
 use Rattle.sporc_script.specs.declared.command.Tree.{Tree}
 use Rattle.sporc_script.specs.declared.play_line.PlayLine.{PlayLine}
 use Rattle.sporc_play.specs.declared.cast.Cast.{Cast}
 use Rattle.sporc_play.specs.declared.seat.Rogue.{Rogue}
 use Rattle.sporc_play.specs.declared.seat.Seat.{Seat}
-use Rattle.sporc_play.specs.Cast.{declared_member, device_by, founder_by, founder_of, private_of}
-use Rattle.sporc_play.specs.Cast.{public_of, rogue_by, unpaired_by}
+use Rattle.sporc_play.specs.Cast.{declared_member, device_by, founders_by, private_of, public_of}
+use Rattle.sporc_play.specs.Cast.{rogue_by, unpaired_by}
 use Rattle.sporc_play.specs.Seats.{AreDrawn, rogue_devices, seated}
 
 -- a signer of a device with a blank leaf file
@@ -35,11 +32,6 @@ pub record IsFresh (tree : Tree) (seat : Seat) : Type 0 where
 pub record IsFreshRogue (tree : Tree) (rogue : Rogue) : Type 0 where
   pub asked : rogue.asked ≡ 0
   pub signer : IsBlank tree rogue.device rogue.signer
-
--- the founders of these lines, in ascending order of their numbers
-abbrev pub founders_by : Tree → List PlayLine → List Founder
-founders_by tree lines = fold (λ founders m. insert_by (λ f. f.member) (founder_of tree m) founders)
-    [] (filter_map (λ l. founder_by l.command) lines)
 
 -- who takes part by these lines
 pub record HasDeclared (tree : Tree) (lines : List PlayLine) (cast : Cast) : Type 0 where

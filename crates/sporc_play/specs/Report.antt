@@ -1,20 +1,13 @@
 -- The lines that the commands of a script write.
 use Rattle.std.specs.Prelude.{◌≡◌, ℕ, ◌+◌, nat_lt, Bool, true, false, List, [], ◌∷◌, ◌++◌, length}
-use Rattle.std.specs.Prelude.{codes, slice_get, take, Option, Some, None, Result, Ok, Err}
-use Rattle.std.specs.FinMap.{get}
+use Rattle.std.specs.Prelude.{codes, slice_get, take, Option, Some, None, Result, Ok, Err, is_ok}
 use Rattle.std.specs.Fmt.{decimal}
 use Rattle.std.specs.Io.KnownBytes.{Appends}
 use Rattle.lms_leaf.specs.declared.faults.LeafFault.{LeafFault}
-use Rattle.sporc_base.specs.FirstFault.{first_of}
 use Rattle.sporc_delta.specs.Marks.{Mark}
 use Rattle.sporc_entry.specs.Genesis.{genesis_bytes}
-use Rattle.sporc_epoch.specs.Hints.{hints_of}
-use Rattle.sporc_epoch.specs.Keys.{Keys}
-use Rattle.sporc_epoch.specs.declared.fault.HintFault.{HintFault}
 use Rattle.sporc_hash.specs.Chain.{chain}
 use Rattle.sporc_hash.specs.declared.verdict.Verdict.{Verdict}
-use Rattle.sporc_line.specs.Openings.{open_checks}
-use Rattle.sporc_line.specs.declared.fault.LineOpenFault.{LineOpenFault}
 use Rattle.sporc_member.specs.declared.device.Device.{Device}
 use Rattle.sporc_member.specs.ChangeFault.{change_fault_name}
 use Rattle.sporc_member.specs.Device.{first_device}
@@ -39,8 +32,9 @@ use Rattle.sporc_report.specs.JournalLines.{journal_lines}
 use Rattle.sporc_report.specs.Names.{accept_fault_name, edit_fault_name, hint_fault_name}
 use Rattle.sporc_report.specs.Names.{open_fault_name, submit_fault_name}
 use Rattle.sporc_play.specs.Cast.{setup_of}
-use Rattle.sporc_play.specs.Scene.{Scene, after, delta_by, entries_at, entry_at, leaf_after}
-use Rattle.sporc_play.specs.Scene.{opening, seen_by, submission_in}
+use Rattle.sporc_play.specs.Scene.{Joining, AlreadyOpen, NoEntry, NoHints, NotOpened, Opens, Scene}
+use Rattle.sporc_play.specs.Scene.{after, delta_by, entry_at, joining_in, leaf_after, opening}
+use Rattle.sporc_play.specs.Scene.{seen_by, submission_in}
 
 -- ---- lines that several commands write
 
@@ -116,23 +110,14 @@ restart_line who k c = restart_answer (nat_lt (length c.entries) k) who k (lengt
 
 -- ---- joiners
 
-abbrev pub open_line : Device → Option LineOpenFault → List ℕ
-open_line who None = device_text who ++ codes " join ok\n"
-open_line who (Some fault) =
-    device_text who ++ (codes " join refused " ++ (open_fault_name fault ++ codes "\n"))
-
-abbrev pub hints_line : Setup → Device → Result Keys HintFault → List ℕ
-hints_line s who (Ok ring) = open_line who (first_of (open_checks s.genesis (get ring 0)))
-hints_line s who (Err fault) =
+abbrev pub join_line : Device → Joining → List ℕ
+join_line who AlreadyOpen = device_text who ++ codes " already open\n"
+join_line who (NoEntry number) = no_entry_line number
+join_line who (NoHints fault) =
     device_text who ++ (codes " join refused " ++ (hint_fault_name fault ++ codes "\n"))
-
-abbrev pub joined_line : Setup → Device → Result (List (List ℕ)) ℕ → List ℕ
-joined_line s who (Ok entries) = hints_line s who (hints_of entries who.member (s.pairs who))
-joined_line s who (Err missing) = no_entry_line missing
-
-abbrev pub join_line : Setup → Device → Result (List (List ℕ)) ℕ → Option PlainClient → List ℕ
-join_line s who entries (Some c) = device_text who ++ codes " already open\n"
-join_line s who entries None = joined_line s who entries
+join_line who (NotOpened fault) =
+    device_text who ++ (codes " join refused " ++ (open_fault_name fault ++ codes "\n"))
+join_line who (Opens ring) = device_text who ++ codes " join ok\n"
 
 -- ---- how the history of one client stands to another's
 
@@ -161,11 +146,15 @@ abbrev pub cut_line : ℕ → ℕ → Option (List ℕ) → List ℕ
 cut_line next number None = no_entry_line number
 cut_line next number (Some bytes) = entry_line next
 
--- by the leaf that the rogue draws
-abbrev pub sign_line : Device → ℕ → Result ℕ LeafFault → List ℕ
-sign_line who next (Ok leaf) =
+-- whether a rogue signed
+abbrev pub signed_line : Device → ℕ → Bool → List ℕ
+signed_line who next true =
     device_text who ++ (codes " sign entry " ++ (decimal next ++ codes "\n"))
-sign_line who next (Err fault) = device_text who ++ codes " sign exhausted\n"
+signed_line who next false = device_text who ++ codes " sign exhausted\n"
+
+-- by the leaf that it draws
+abbrev pub sign_line : Device → ℕ → Result ℕ LeafFault → List ℕ
+sign_line who next leaf = signed_line who next (is_ok leaf)
 
 -- ---- commands
 
@@ -190,8 +179,7 @@ line_of s scene (commands.Give g) = line_by g.device (scene.world.clients g.devi
     (λ c. give_line g.device g.position c (entry_at scene.made g.entry))
 line_of s scene (commands.Restart r) =
     line_by r.device (scene.world.clients r.device) (restart_line r.device r.entries)
-line_of s scene (commands.Join j) =
-    join_line s j.device (entries_at scene.made j.entries) (scene.world.clients j.device)
+line_of s scene (commands.Join j) = join_line j.device (joining_in s scene j)
 line_of s scene (commands.Show who) = line_by who (scene.world.clients who) (show_line who)
 line_of s scene (commands.Members who) = line_by who (scene.world.clients who) (members_line who)
 line_of s scene (commands.Journal who) =

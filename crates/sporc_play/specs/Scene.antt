@@ -30,6 +30,7 @@ use Rattle.sporc_client.specs.Submissions.{submission, submission_added}
 use Rattle.sporc_script.specs.declared.command.Command.{Command}
 use Rattle.sporc_script.specs.declared.command.Command.TheVariants as commands
 use Rattle.sporc_script.specs.declared.command.Edit.{Edit}
+use Rattle.sporc_script.specs.declared.command.Join.{Join}
 use Rattle.sporc_script.specs.declared.play_line.PlayLine.{PlayLine}
 use Rattle.sporc_script.specs.declared.text_edit.TextEdit.{TextEdit}
 use Rattle.sporc_script.specs.declared.text_edit.TextEdit.TheVariants.{Insert, Remove}
@@ -154,23 +155,43 @@ entries_at made [] = Ok []
 entries_at made (number ∷ numbers) =
     with_entry number (entry_at made number) (entries_at made numbers)
 
--- a client opens with the hints that entries give, if there are hints and its line opens
-abbrev pub opens_unless : Device → Keys → Option LineOpenFault → Effect
-opens_unless who ring None = moved (Open who ring ∷ [])
-opens_unless who ring (Some fault) = nothing
+-- what becomes of a device that joins
+pub data Joining : Type 0 where
+  -- it has a client already
+  AlreadyOpen : Joining
+  -- the first number that no entry has
+  NoEntry : ℕ → Joining
+  -- why the entries give no hints
+  NoHints : HintFault → Joining
+  -- why its line does not open with the ring that they give
+  NotOpened : LineOpenFault → Joining
+  -- its client opens with that ring
+  Opens : Keys → Joining
 
-abbrev pub opens_with : Setup → Device → Result Keys HintFault → Effect
-opens_with s who (Ok ring) = opens_unless who ring (first_of (open_checks s.genesis (get ring 0)))
-opens_with s who (Err fault) = nothing
+abbrev pub joining_with : Keys → Option LineOpenFault → Joining
+joining_with ring None = Opens ring
+joining_with ring (Some fault) = NotOpened fault
 
-abbrev pub joins_with : Setup → Device → Result (List (List ℕ)) ℕ → Effect
-joins_with s who (Ok entries) = opens_with s who (hints_of entries who.member (s.pairs who))
-joins_with s who (Err missing) = nothing
+abbrev pub joining_by : Setup → Result Keys HintFault → Joining
+joining_by s (Ok ring) = joining_with ring (first_of (open_checks s.genesis (get ring 0)))
+joining_by s (Err fault) = NoHints fault
+
+abbrev pub joining_from : Setup → Device → Result (List (List ℕ)) ℕ → Joining
+joining_from s who (Ok entries) = joining_by s (hints_of entries who.member (s.pairs who))
+joining_from s who (Err missing) = NoEntry missing
 
 -- one that has a client already does not join
-abbrev pub joins : Setup → Device → Result (List (List ℕ)) ℕ → Option PlainClient → Effect
-joins s who entries (Some c) = nothing
-joins s who entries None = joins_with s who entries
+abbrev pub joining_of : Setup → Device → Result (List (List ℕ)) ℕ → Option PlainClient → Joining
+joining_of s who entries (Some c) = AlreadyOpen
+joining_of s who entries None = joining_from s who entries
+
+abbrev pub joining_in : Setup → Scene → Join → Joining
+joining_in s scene j =
+    joining_of s j.device (entries_at scene.made j.entries) (scene.world.clients j.device)
+
+abbrev pub joins : Device → Joining → Effect
+joins who (Opens ring) = moved (Open who ring ∷ [])
+joins who joining = nothing
 
 -- ---- entries that are changed
 
@@ -200,8 +221,8 @@ signs_by (Some bytes) = made_entry bytes
 
 -- what a call of a client does, if there is one
 abbrev pub if_open : Option PlainClient → (PlainClient → Effect) → Effect
-if_open None act = nothing
-if_open (Some c) act = act c
+if_open None effect = nothing
+if_open (Some c) effect = effect c
 
 abbrev pub effect_of : Setup → Scene → Command → Effect
 effect_of s scene (commands.Edit e) =
@@ -216,8 +237,7 @@ effect_of s scene (commands.Give g) = if_open (scene.world.clients g.device)
     (λ c. gives g.device g.position (entry_at scene.made g.entry))
 effect_of s scene (commands.Restart r) =
     if_open (scene.world.clients r.device) (restarts r.device r.entries)
-effect_of s scene (commands.Join j) =
-    joins s j.device (entries_at scene.made j.entries) (scene.world.clients j.device)
+effect_of s scene (commands.Join j) = joins j.device (joining_in s scene j)
 effect_of s scene (commands.Flip f) = flips f.at (entry_at scene.made f.entry)
 effect_of s scene (commands.Cut entry) = cuts (entry_at scene.made entry)
 effect_of s scene (commands.Sign f) =
@@ -261,13 +281,13 @@ last_by last command next entries = last
 
 -- a scene after a command
 abbrev pub performed : Setup → Scene → Command → Effect → Scene
-performed s scene command act = record {
-  world = after_all s scene.world act.moves;
-  logs = logs_after s scene.world scene.logs act.moves;
-  made = scene.made ++ act.entries;
-  last = last_by scene.last command (length scene.made + 1) act.entries;
+performed s scene command effect = record {
+  world = after_all s scene.world effect.moves;
+  logs = logs_after s scene.world scene.logs effect.moves;
+  made = scene.made ++ effect.entries;
+  last = last_by scene.last command (length scene.made + 1) effect.entries;
   asked = with_more scene.asked (signer_of command) 1;
-  leaves = with_more scene.leaves (signer_of command) (length act.entries);
+  leaves = with_more scene.leaves (signer_of command) (length effect.entries);
 }
 
 abbrev pub after : Setup → Scene → Command → Scene
@@ -306,7 +326,3 @@ after_each s scene commands = fold (λ now command. after s now (command now)) s
 -- the commands of a script, which depend on no scene
 abbrev pub commands_of : List PlayLine → List (Scene → Command)
 commands_of script = map (λ line scene. line.command) script
-
--- the scene after the first n lines of a script
-abbrev pub scene_at : List PlayLine → ℕ → Scene
-scene_at script n = after_each (setup_of script) (opening script) (commands_of (take n script))

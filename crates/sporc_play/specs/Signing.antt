@@ -1,14 +1,10 @@
 -- Rogues as the code keeps them, and what signing for one does.
-use Rattle.std.specs.Prelude.{◌≡◌, ℕ, ◌+◌, Bool, true, false, List, ◌++◌, codes, length, Option}
-use Rattle.std.specs.Prelude.{None, Some, option_map}
-use Rattle.std.specs.Fmt.{decimal}
+use Rattle.std.specs.Prelude.{◌≡◌, ℕ, ◌+◌, List, length, Option, None, Some, option_map}
 use Rattle.std.specs.Option.{option_to_list}
 use Rattle.sporc_client.specs.ClientModel.{ClientModel, state_of}
 use Rattle.sporc_client.specs.Run.{Setup}
-use Rattle.sporc_member.specs.declared.device.Device.{Device}
 use Rattle.sporc_member.specs.Device.{first_device}
 use Rattle.sporc_script.specs.declared.sign.Forgery.{Forgery}
-use Rattle.sporc_script.specs.Spelling.{device_text}
 use Rattle.sporc_play.specs.declared.seat.Rogue.{Rogue}
 use Rattle.sporc_play.specs.Forged.{forged_entry}
 use Rattle.sporc_play.specs.Report.{line_by, sign_line}
@@ -34,9 +30,3 @@ pub record HasSigned (old : Rogue) (made : Option (List ℕ)) (new : Rogue) : Ty
   pub key : new.signer.key ≡ old.signer.key
   pub leaves : AreDrawn old.signer.key
       (old.signer.leaves.next + length (option_to_list made)) new.signer.leaves
-
--- the line that tells whether a rogue signed
-abbrev pub signed_line : Device → ℕ → Bool → List ℕ
-signed_line who next true =
-    device_text who ++ (codes " sign entry " ++ (decimal next ++ codes "\n"))
-signed_line who next false = device_text who ++ codes " sign exhausted\n"

@@ -1,8 +1,7 @@
 -- How the state that the code keeps stands for a scene.
-use Rattle.std.specs.Prelude.{◌≡◌, ℕ, ◌+◌, ◌≤◌, ◌<◌, ◌^◌, true, List, ◌++◌, fold, map, Option, None}
-use Rattle.std.specs.Prelude.{Some, Contains, IfSome, IsSome, ⊤, get_or, if◌then◌else◌, length}
-use Rattle.std.specs.FinMap.{empty, insert}
-use Rattle.std.specs.List.{All, AllByRecursion, IsDistinct, list_any}
+use Rattle.std.specs.Prelude.{◌≡◌, ℕ, ◌+◌, ◌≤◌, ◌<◌, ◌^◌, true, List, ◌++◌, map, Option, None, Some}
+use Rattle.std.specs.Prelude.{Contains, IfSome, IsSome, ⊤, get_or, length}
+use Rattle.std.specs.List.{All, AllByRecursion, IsDistinct}
 use Rattle.lms_sign.specs.Signer.{SignerModel}
 use Rattle.lms_tree.specs.LmsPrivate.{LmsPrivate}
 use Rattle.sporc_member.specs.declared.device.Device.{Device}
@@ -19,8 +18,7 @@ use Rattle.sporc_play.specs.declared.seat.Rogue.{Rogue}
 use Rattle.sporc_play.specs.declared.seat.Seat.{Seat}
 use Rattle.sporc_play.specs.declared.state.PlayState.{PlayState}
 use Rattle.sporc_play.specs.declared.playing.TheConstants.{MAX_SCRIPT}
-use Rattle.sporc_play.specs.Cast.{has_admin, is_pair, private_of, rogues_of, setup_of}
-use Rattle.sporc_play.specs.Derived.{pair_key}
+use Rattle.sporc_play.specs.Cast.{has_admin, pairs_among, private_of, rogues_of, setup_of}
 use Rattle.sporc_play.specs.Lines.{AppendsLine}
 use Rattle.sporc_play.specs.Scene.{Scene, after, scene_opened, text_size}
 pub use Rattle.sporc_play.specs.Seats.{AreDrawn}
@@ -28,23 +26,15 @@ use Rattle.sporc_play.specs.Seats.{IsReady, plain_in, rogue_devices, seated}
 
 -- ---- who takes part
 
--- the keys that a member shares with those who are declared, but for the pairs that have none
-abbrev pub pair_among : Cast → ℕ → Keys → ℕ → Keys
-pair_among cast member keys other =
-    if list_any (is_pair member other) cast.unpaired.items then keys
-    else insert keys other (pair_key member other)
-
-abbrev pub pairs_among : Cast → ℕ → Keys
-pairs_among cast member =
-    fold (pair_among cast member) empty (map (λ d. d.member) cast.declared.items)
-
 -- who takes part, as the code keeps it: the keys of those who are declared, and what each shares
 -- with the others
 pub record IsCastOf (s : Setup) (cast : Cast) : Type 0 where
   pub keys : All (λ d. d.key ≡ key_of_device s (first_device d.member)) cast.declared.items
   pub founders : cast.founders.items ≡ s.genesis.founders
   pub trees : (who : Device) → s.private who ≡ private_of cast.tree who
-  pub pairs : (who : Device) → pairs_among cast who.member ≡ s.pairs who
+  pub pairs : (who : Device)
+      → pairs_among (map (λ d. d.member) cast.declared.items) cast.unpaired.items who.member
+      ≡ s.pairs who
 
 -- whatever a play is set up with, if this cast takes part in it and a rogue has this key
 abbrev pub ForRogue : LmsPrivate → ℕ → Cast → (Setup → Type 0) → Type 0
@@ -120,24 +110,25 @@ pub record HasSameMembers (old new : PlayState) : Type 0 where
 -- ---- commands
 
 -- those whom a command names take part
-abbrev pub IsCast : PlayState → Command → Type 0
-IsCast state (commands.Edit e) = Contains (seated state.seats.items) e.device
-IsCast state (commands.Change e) = Contains (seated state.seats.items) e.device
-IsCast state (commands.Discard who) = Contains (seated state.seats.items) who
-IsCast state (commands.Submit who) = Contains (seated state.seats.items) who
-IsCast state (commands.Give g) = Contains (seated state.seats.items) g.device
-IsCast state (commands.Restart r) = Contains (seated state.seats.items) r.device
-IsCast state (commands.Join j) =
+abbrev pub TakePart : PlayState → Command → Type 0
+TakePart state (commands.Edit e) = Contains (seated state.seats.items) e.device
+TakePart state (commands.Change e) = Contains (seated state.seats.items) e.device
+TakePart state (commands.Discard who) = Contains (seated state.seats.items) who
+TakePart state (commands.Submit who) = Contains (seated state.seats.items) who
+TakePart state (commands.Give g) = Contains (seated state.seats.items) g.device
+TakePart state (commands.Restart r) = Contains (seated state.seats.items) r.device
+TakePart state (commands.Join j) =
     Contains (seated state.seats.items) j.device × IsGenesis state.genesis
-IsCast state (commands.Show who) = Contains (seated state.seats.items) who
-IsCast state (commands.Members who) = Contains (seated state.seats.items) who
-IsCast state (commands.Hash who) = Contains (seated state.seats.items) who
-IsCast state (commands.Journal who) = Contains (seated state.seats.items) who
-IsCast state (commands.Compare p) =
+TakePart state (commands.Show who) = Contains (seated state.seats.items) who
+TakePart state (commands.Members who) = Contains (seated state.seats.items) who
+TakePart state (commands.Hash who) = Contains (seated state.seats.items) who
+TakePart state (commands.Journal who) = Contains (seated state.seats.items) who
+TakePart state (commands.Compare p) =
     Contains (seated state.seats.items) p.first × Contains (seated state.seats.items) p.second
-IsCast state (commands.Sign f) = Contains (rogue_devices state.rogues.items) (first_device f.member)
+TakePart state (commands.Sign f) =
+    Contains (rogue_devices state.rogues.items) (first_device f.member)
     × Contains (seated state.seats.items) f.from
-IsCast state command = ⊤
+TakePart state command = ⊤
 
 -- a seat is ready for any call: its count has room, and its client can sign, or else its signer may
 -- open one
@@ -157,7 +148,7 @@ AreOfOneDocument state = AllByRecursion
 
 -- a state can perform a command
 pub record CanPerform (state : PlayState) (command : Command) : Type 0 where
-  pub named : IsCast state command
+  pub named : TakePart state command
   pub seats : AllByRecursion IsReadySeat state.seats.items
   pub rogues : AllByRecursion IsReadyRogue state.rogues.items
   pub one_document : AreOfOneDocument state

@@ -1,6 +1,6 @@
 //! Who takes part in a play, and what each was given.
 
-ghost use Rattle.std.specs.Prelude.{◌≡◌, ◌≤◌, ◌^◌, [], false, length, IfOk, OnOk};
+ghost use Rattle.std.specs.Prelude.{◌≡◌, ◌≤◌, ◌^◌, [], false, length, map, IfOk, OnOk};
 ghost use Rattle.std.specs.List.{list_any};
 ghost use Rattle.lms_leaf.specs.LeafFile.{IsLeafHeight};
 ghost use Rattle.lms_tree.specs.LmsType.{height_of};
@@ -9,10 +9,11 @@ ghost use Rattle.sporc_epoch.specs.Keys.{pairs_in};
 ghost use Rattle.sporc_member.specs.Lists.{insert_by, place_among};
 ghost use Rattle.sporc_member.specs.Roster.{founder_numbers};
 ghost use Rattle.sporc_play.specs.Cast.{first_ring, genesis_by, is_pair, lms_type_of};
-ghost use Rattle.sporc_play.specs.Cast.{member_change, ots_type_of, private_of, tree_of};
+ghost use Rattle.sporc_play.specs.Cast.{member_change, ots_type_of, pairs_among, private_of};
+ghost use Rattle.sporc_play.specs.Cast.{tree_of, with_pair};
 ghost use Rattle.sporc_play.specs.Forged.{IsSmallChange};
 ghost use Rattle.sporc_play.specs.Seats.{AreDrawn};
-ghost use Rattle.sporc_play.specs.Stage.{IsCastOf, pair_among, pairs_among};
+ghost use Rattle.sporc_play.specs.Stage.{IsCastOf};
 
 use crate::derived::{document_number, first_key, identifier_of, pair_key, seed_of};
 use lms_leaf::{LeafOpenFault, Leaves, blank};
@@ -36,7 +37,8 @@ pub struct Declared {
     pub key: [u8; 56],
 }
 
-/// Who takes part in a play: all who are declared, and the pairs that share no key.
+/// Who takes part in a play: all who are declared, the pairs of them that share no key, and the
+/// founders in ascending order of their numbers; with the sizes of all their trees.
 #[derive(Drop)]
 pub struct Cast {
     pub tree: Tree,
@@ -61,7 +63,7 @@ impl Cast {
         }
     }
 
-    /// The document's first entry.
+    /// The document's genesis.
     pub fn genesis(&self, alloc: Global) -> Result<Genesis, Memory>
         ensures value { IfOk result (λ genesis. genesis ≡ genesis_by self.now.founders.items) }
     {
@@ -76,7 +78,9 @@ impl Cast {
     /// The keys that a member shares with everyone who is declared, but for the pairs that have
     /// none.
     pub fn pairs_of(&self, alloc: Global, member: u16) -> Result<Pairs, Memory>
-        ensures value { IfOk result (λ pairs. pairs_in pairs ≡ pairs_among self.now member) }
+        ensures value { IfOk result (λ pairs. pairs_in pairs
+            ≡ pairs_among (map (λ d. d.member) self.now.declared.items) self.now.unpaired.items
+            member) }
     {
         let mut pairs = BTreeMap::new(alloc);
         for other in &self.declared {
@@ -88,8 +92,8 @@ impl Cast {
     // Adds the key that two share, if they share one.
     #[tactic(auto, using(sporc_epoch::proofs::PairMaps::pairs_put))]
     fn put_pair(&self, pairs: &mut Pairs, member: u16, other: u16) -> Result<(), Memory>
-        ensures { OnOk result
-            (pairs_in pairs.new ≡ pair_among self.now member (pairs_in pairs.old) other) }
+        ensures { OnOk result (pairs_in pairs.new
+            ≡ with_pair self.now.unpaired.items member (pairs_in pairs.old) other) }
     {
         if self.are_unpaired(member, other) {
             return Ok(());
@@ -220,8 +224,8 @@ fn ots_type_of(width: Width) -> OtsType
     }
 }
 
-// The leaf numbers of a blank file. A disk in memory fails only if it finds no memory, which is then
-// the answer.
+// The leaf numbers of a blank file. A disk in memory fails only if it finds no memory, which is
+// then the answer.
 fn blank_leaves(alloc: Global, height: u32) -> Result<Leaves<MemoryDisk>, Memory>
     requires { IsLeafHeight height }
     ensures next { IfOk result (λ leaves. leaves.next ≡ 0) }

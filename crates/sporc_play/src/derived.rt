@@ -20,13 +20,13 @@ fn derived(kind: u8, member: u16, number: u32) -> [u8; 32]
     hasher.finalize()
 }
 
-// The first half of a derived value.
-fn first_half(value: &[u8; 32]) -> [u8; 16]
+// The first 16 bytes of a derived value.
+fn prefix_of(value: &[u8; 32]) -> [u8; 16]
     ensures value { result ≡ take 16 value.now }
 {
-    let mut half = [0; 16];
-    half.copy_from_slice(&value[..16]);
-    half
+    let mut prefix = [0; 16];
+    prefix.copy_from_slice(&value[..16]);
+    prefix
 }
 
 /// The seed of a device's signature tree.
@@ -40,7 +40,7 @@ pub fn seed_of(device: Device) -> [u8; 32]
 pub fn identifier_of(device: Device) -> [u8; 16]
     ensures value { result ≡ identifier_of device }
 {
-    first_half(&derived(2, device.member, u32::from(device.number)))
+    prefix_of(&derived(2, device.member, u32::from(device.number)))
 }
 
 /// The key that two members share.
@@ -65,7 +65,7 @@ pub fn first_key() -> [u8; 32]
 pub fn document_number() -> [u8; 16]
     ensures value { result ≡ document_number }
 {
-    first_half(&derived(5, 0, 0))
+    prefix_of(&derived(5, 0, 0))
 }
 
 /// The random bytes of what a device signs or submits for the t-th time, from 1: 32 for the

@@ -9,7 +9,8 @@ ghost use Rattle.sporc_client.specs.PlainClient.{shown_of};
 ghost use Rattle.sporc_member.specs.Device.{first_device};
 ghost use Rattle.sporc_play.specs.Batches.{AreOpen, HasRoom, IsAsked, Performs};
 ghost use Rattle.sporc_base.specs.Numbers.{up_to};
-ghost use Rattle.sporc_play.specs.Generated.{AreSame, IsVerdict, Summarizes, batch, edits, founds};
+ghost use Rattle.sporc_play.specs.Generated.{AreSame, Summarizes, TellsAgreement, batch, edits};
+ghost use Rattle.sporc_play.specs.Generated.{founds};
 ghost use Rattle.sporc_play.specs.Generated.{generated_cast, generated_scene, gives, inserts};
 ghost use Rattle.sporc_play.specs.Generated.{removes, seen_len, submits, summary_line};
 ghost use Rattle.sporc_play.specs.Playing.{GeneratedFault, PlaysGenerated};
@@ -280,7 +281,7 @@ fn summary(alloc: Global, state: &PlayState) -> Result<String, Memory>
     let first = open_client(state, 1);
     let second = open_client(state, 2);
     let third = open_client(state, 3);
-    let word = verdict(first, second, third)?;
+    let word = agreement(first, second, third)?;
     let mut line = String::new(alloc);
     push_summary(alloc, &mut line, first, word)?;
     Ok(line)
@@ -300,9 +301,9 @@ fn open_client(state: &PlayState, member: u16) -> &PlayClient
 }
 
 // How three clients stand to each other, in a word.
-fn verdict(a: &PlayClient, b: &PlayClient, c: &PlayClient) -> Result<&'static str, Memory>
+fn agreement(a: &PlayClient, b: &PlayClient, c: &PlayClient) -> Result<&'static str, Memory>
     ensures { IfOk result
-        (λ word. IsVerdict (state_of a.now) (state_of b.now) (state_of c.now) word.now) }
+        (λ word. TellsAgreement (state_of a.now) (state_of b.now) (state_of c.now) word.now) }
 {
     let second = is_same(a, b)?;
     let third = is_same(a, c)?;

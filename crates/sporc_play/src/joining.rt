@@ -1,15 +1,13 @@
 //! Clients that open by what others committed.
 
-ghost use Rattle.std.specs.Prelude.{◌≡◌, ◌≢◌, ◌++◌, map, None, Some, Ok, Err, OnOk, IsSome};
-ghost use Rattle.std.specs.Prelude.{option_map, string_bytes};
+ghost use Rattle.std.specs.Prelude.{◌≡◌, ◌≢◌, ◌++◌, map, None, Ok, OnOk, IsSome, string_bytes};
 ghost use Rattle.sporc_base.specs.Outcome.{GivesUnless};
-ghost use Rattle.sporc_client.specs.ClientModel.{state_of};
 ghost use Rattle.sporc_client.specs.Run.{Setup};
 ghost use Rattle.sporc_entry.specs.Genesis.{IsGenesis};
 ghost use Rattle.sporc_epoch.specs.Hints.{hints_of};
-ghost use Rattle.sporc_play.specs.Joined.{seat_by, seat_joined};
-ghost use Rattle.sporc_play.specs.Report.{hints_line, join_line, open_line};
-ghost use Rattle.sporc_play.specs.Scene.{entries_at};
+ghost use Rattle.sporc_play.specs.Joined.{seat_joined, seat_joining};
+ghost use Rattle.sporc_play.specs.Report.{join_line};
+ghost use Rattle.sporc_play.specs.Scene.{NoHints, NotOpened, joining_by, joining_from};
 ghost use Rattle.sporc_play.specs.Stage.{IsCastOf};
 
 use crate::cast::Cast;
@@ -38,11 +36,11 @@ pub fn join(
     requires genesis { IsGenesis genesis.now }
     requires signer { seat.old.client ≡ None → IsSome seat.old.signer }
     ensures line { OnOk result ((s : Setup) → IsCastOf s cast.now → genesis.now ≡ s.genesis
-        → string_bytes out.new ≡ string_bytes out.old ++ join_line s seat.old.device (entries_at
-        (map (λ v. v.items) made.now) join.now.entries) (option_map state_of seat.old.client)) }
+        → string_bytes out.new ≡ string_bytes out.old ++ join_line seat.old.device
+        (seat_joining s (map (λ v. v.items) made.now) join.now seat.old)) }
     ensures seat { OnOk result ((s : Setup) → IsCastOf s cast.now → genesis.now ≡ s.genesis
         → seat.new ≡ seat_joined s seat.old
-        (entries_at (map (λ v. v.items) made.now) join.now.entries) seat.old.client) }
+        (seat_joining s (map (λ v. v.items) made.now) join.now seat.old)) }
 {
     if seat.client.is_some() {
         return push_start(out, seat.device, " already open\n");
@@ -65,11 +63,11 @@ fn join_by(
     requires genesis { IsGenesis genesis.now }
     requires signer { IsSome seat.old.signer }
     ensures line { OnOk result ((s : Setup) → IsCastOf s cast.now → genesis.now ≡ s.genesis
-        → string_bytes out.new ≡ string_bytes out.old ++ hints_line s seat.old.device (hints_of
-        (map (λ v. v.items) entries.now) seat.old.device.member (s.pairs seat.old.device))) }
+        → string_bytes out.new ≡ string_bytes out.old ++ join_line seat.old.device
+        (joining_from s seat.old.device (Ok (map (λ v. v.items) entries.now)))) }
     ensures seat { OnOk result ((s : Setup) → IsCastOf s cast.now → genesis.now ≡ s.genesis
-        → seat.new ≡ seat_by s seat.old (hints_of
-        (map (λ v. v.items) entries.now) seat.old.device.member (s.pairs seat.old.device))) }
+        → seat.new ≡ seat_joined s seat.old
+        (joining_from s seat.old.device (Ok (map (λ v. v.items) entries.now)))) }
 {
     match hints_for(alloc, cast, entries, seat.device) {
         Ok(ring) => open_with(alloc, cast, genesis, seat, ring, out),
@@ -105,9 +103,9 @@ fn open_with(
     requires signer { IsSome seat.old.signer }
     ensures line { OnOk result
         ((s : Setup) → IsCastOf s cast.now → genesis.now ≡ s.genesis → string_bytes out.new
-        ≡ string_bytes out.old ++ hints_line s seat.old.device (Ok ring.keys)) }
+        ≡ string_bytes out.old ++ join_line seat.old.device (joining_by s (Ok ring.keys))) }
     ensures seat { OnOk result ((s : Setup) → IsCastOf s cast.now → genesis.now ≡ s.genesis
-        → seat.new ≡ seat_by s seat.old (Ok ring.keys)) }
+        → seat.new ≡ seat_joined s seat.old (joining_by s (Ok ring.keys))) }
 {
     let device = seat.device;
     match open_seat(alloc, cast, genesis, ring, seat) {
@@ -118,8 +116,8 @@ fn open_with(
 
 // The line of a joiner to whom entries give no hints.
 fn push_no_hints(out: &mut String, device: Device, fault: HintFault) -> Result<(), Memory>
-    ensures line { OnOk result ((s : Setup)
-        → string_bytes out.new ≡ string_bytes out.old ++ hints_line s device (Err fault)) }
+    ensures line { OnOk result
+        (string_bytes out.new ≡ string_bytes out.old ++ join_line device (NoHints fault)) }
     ensures named { OnOk result (fault ≢ HintFault.Memory) }
 {
     push_start(out, device, " join refused ")?;
@@ -130,7 +128,7 @@ fn push_no_hints(out: &mut String, device: Device, fault: HintFault) -> Result<(
 // The line of a joiner whose client does not open.
 fn push_not_opened(out: &mut String, device: Device, fault: LineOpenFault) -> Result<(), Memory>
     ensures line { OnOk result
-        (string_bytes out.new ≡ string_bytes out.old ++ open_line device (Some fault)) }
+        (string_bytes out.new ≡ string_bytes out.old ++ join_line device (NotOpened fault)) }
     ensures named { OnOk result (fault ≢ LineOpenFault.Memory) }
 {
     push_start(out, device, " join refused ")?;

@@ -29,8 +29,8 @@ pub fn each_play_is_one_run()
         → IsTypedRun (setup_of script) (moves_of script (commands_of script)) }
 {}
 
-/// In the play of a script without `sign`, `flip` and `cut` each entry that is accepted was signed
-/// by its author's client.
+/// No one forges in the play of a script with an admin and without `sign`, `flip` and `cut`: what a
+/// client accepts under the key of a device of the run, a client with that key has signed.
 pub fn each_play_of_clients_is_genuine()
     ensures genuine { (text : List ℕ) (script : List PlayLine) → IsPlayScript text script
         → has_admin script ≡ true → AreByClients script

@@ -36,21 +36,21 @@ pub fn declare(
 {
     match &line.command {
         Command::Member(founder) => {
-            let key = sit(alloc, cast.tree, seats, Device::first(founder.member))?;
-            name(cast, founder.member, key)?;
-            found(cast, founder, key)
+            let key = add_seat(alloc, cast.tree, seats, Device::first(founder.member))?;
+            add_declared(cast, founder.member, key)?;
+            add_founder(cast, founder, key)
         }
         Command::Rogue(founder) => {
-            let key = employ(alloc, cast.tree, rogues, founder.member)?;
-            name(cast, founder.member, key)?;
-            found(cast, founder, key)
+            let key = add_rogue(alloc, cast.tree, rogues, founder.member)?;
+            add_declared(cast, founder.member, key)?;
+            add_founder(cast, founder, key)
         }
         Command::Joiner(member) => {
-            let key = sit(alloc, cast.tree, seats, Device::first(*member))?;
-            name(cast, *member, key)
+            let key = add_seat(alloc, cast.tree, seats, Device::first(*member))?;
+            add_declared(cast, *member, key)
         }
         Command::Device(device) => {
-            sit(alloc, cast.tree, seats, *device)?;
+            add_seat(alloc, cast.tree, seats, *device)?;
             Ok(())
         }
         Command::Unpaired(pair) => {
@@ -62,7 +62,12 @@ pub fn declare(
 }
 
 // A seat for a device that has or may get a client. Its public key.
-fn sit(alloc: Global, tree: Tree, seats: &mut Vec<Seat>, device: Device) -> Result<[u8; 56], Memory>
+fn add_seat(
+    alloc: Global,
+    tree: Tree,
+    seats: &mut Vec<Seat>,
+    device: Device,
+) -> Result<[u8; 56], Memory>
     ensures key { IfOk result (λ key. key ≡ public_of tree device) }
     ensures seats { OnOk result (HasSat tree device seats.old.items seats.new.items) }
 {
@@ -79,7 +84,7 @@ fn sit(alloc: Global, tree: Tree, seats: &mut Vec<Seat>, device: Device) -> Resu
 }
 
 // A signer for one for whom the script signs. Its public key.
-fn employ(
+fn add_rogue(
     alloc: Global,
     tree: Tree,
     rogues: &mut Vec<Rogue>,
@@ -101,7 +106,7 @@ fn employ(
 }
 
 // A member is declared, with the key of its first device.
-fn name(cast: &mut Cast, member: u16, key: [u8; 56]) -> Result<(), Memory>
+fn add_declared(cast: &mut Cast, member: u16, key: [u8; 56]) -> Result<(), Memory>
     ensures { OnOk result (IsNamed member key cast.old cast.new) }
 {
     cast.declared.push(Declared { member, key })?;
@@ -109,7 +114,7 @@ fn name(cast: &mut Cast, member: u16, key: [u8; 56]) -> Result<(), Memory>
 }
 
 // A founder with this key, in the order of the numbers.
-fn found(cast: &mut Cast, founder: &MemberRole, key: [u8; 56]) -> Result<(), Memory>
+fn add_founder(cast: &mut Cast, founder: &MemberRole, key: [u8; 56]) -> Result<(), Memory>
     ensures founders { OnOk result (cast.new.founders.items ≡ insert_by (λ f. f.member)
         (record { member = founder.now.member; role = founder.now.role; key = key })
         cast.old.founders.items) }

@@ -4,9 +4,10 @@ ghost use Rattle.std.specs.Prelude.{◌≡◌, ◌+◌, ◌<◌, ◌≤◌, ◌^
 ghost use Rattle.std.specs.Prelude.{string_bytes};
 ghost use Rattle.std.specs.Option.{option_copied};
 ghost use Rattle.sporc_play.specs.declared.playing.TheConstants.{MAX_SCRIPT};
+ghost use Rattle.sporc_play.specs.Report.{signed_line};
 ghost use Rattle.sporc_play.specs.Scene.{what_size};
 ghost use Rattle.sporc_play.specs.Seats.{AreDrawn};
-ghost use Rattle.sporc_play.specs.Signing.{HasSigned, forged_by, signed_line, signing_line};
+ghost use Rattle.sporc_play.specs.Signing.{HasSigned, forged_by, signing_line};
 ghost use Rattle.sporc_play.specs.Stage.{ForRogue};
 
 use crate::acting::push_not_open;

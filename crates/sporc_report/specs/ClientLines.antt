@@ -11,11 +11,12 @@ use Rattle.sporc_head.specs.History.{hash_of, roster_of}
 use Rattle.sporc_member.specs.declared.device.Device.{Device}
 use Rattle.sporc_member.specs.declared.device.TheConstants.{FIRST_DEVICE}
 use Rattle.sporc_member.specs.declared.member.Member.{Member}
+use Rattle.sporc_member.specs.Role.{role_name}
 use Rattle.sporc_member.specs.Roster.{Roster, devices_of}
 use Rattle.sporc_client.specs.Answers.{is_out}
 use Rattle.sporc_client.specs.PlainClient.{PlainClient, shown_of}
 use Rattle.sporc_script.specs.Quoted.{quoted}
-use Rattle.sporc_script.specs.Spelling.{device_text, role_name}
+use Rattle.sporc_script.specs.Spelling.{device_text}
 use Rattle.sporc_script.specs.declared.command.DevicePair.{DevicePair}
 
 -- ---- what a client shows

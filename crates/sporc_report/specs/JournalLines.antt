@@ -9,10 +9,10 @@ use Rattle.sporc_delta.specs.Parts.{runs}
 use Rattle.sporc_member.specs.declared.change.Change.{Change as MemberChange}
 use Rattle.sporc_member.specs.declared.change.Change.TheVariants as changes
 use Rattle.sporc_member.specs.ChangeFault.{change_fault_name}
+use Rattle.sporc_member.specs.Role.{role_name}
 use Rattle.sporc_client.specs.declared.event.Event.{Event}
 use Rattle.sporc_client.specs.declared.event.Event.TheVariants as events
 use Rattle.sporc_script.specs.Quoted.{quoted}
-use Rattle.sporc_script.specs.Spelling.{role_name}
 
 -- a part of a delta: so many characters kept, a text inserted, so many removed
 abbrev pub part_text : Part → List ℕ

@@ -3,7 +3,7 @@
 ghost use Rattle.std.specs.Prelude.{◌≡◌, ◌++◌, codes, OnErr, OnOk, flat_map, string_bytes};
 ghost use Rattle.std.specs.Fmt.{decimal};
 ghost use Rattle.sporc_client.specs.declared.event.Event.TheVariants as events;
-ghost use Rattle.sporc_script.specs.Spelling.{role_name};
+ghost use Rattle.sporc_member.specs.Role.{role_name};
 ghost use Rattle.sporc_report.specs.Appending.{BeginsWith};
 ghost use Rattle.sporc_report.specs.JournalLines.{change_text, delta_text, event_text};
 ghost use Rattle.sporc_report.specs.JournalLines.{journal_lines, part_text, spaced_part};
@@ -14,8 +14,7 @@ use crate::showing::push_digits;
 use sporc_base::Memory;
 use sporc_client::Event;
 use sporc_delta::{Delta, Part};
-use sporc_member::{Change, ChangeFault, Role};
-use sporc_script::role_name;
+use sporc_member::{Change, ChangeFault, Role, role_name};
 use std::alloc::Global;
 
 /// Appends a line for each event.

@@ -6,8 +6,9 @@ ghost use Rattle.hex.specs.Hex.{encode_lower};
 ghost use Rattle.sporc_client.specs.ClientModel.{state_of};
 ghost use Rattle.sporc_client.specs.PlainClient.{shown_of};
 ghost use Rattle.sporc_head.specs.History.{hash_of, roster_of};
+ghost use Rattle.sporc_member.specs.Role.{role_name};
 ghost use Rattle.sporc_member.specs.Roster.{member_at};
-ghost use Rattle.sporc_script.specs.Spelling.{device_text, role_name};
+ghost use Rattle.sporc_script.specs.Spelling.{device_text};
 ghost use Rattle.sporc_report.specs.Appending.{BeginsWith};
 ghost use Rattle.sporc_report.specs.ClientLines.{compare_line, devices_text, further_text};
 ghost use Rattle.sporc_report.specs.ClientLines.{hash_line, if_removed, members_line, members_text};
@@ -19,9 +20,8 @@ use crate::quoted::push_quoted;
 use sporc_base::Memory;
 use sporc_client::Client;
 use sporc_hash::{Digest32, Verdict};
-use sporc_member::{Device, FIRST_DEVICE, Role, Roster};
+use sporc_member::{Device, FIRST_DEVICE, Role, Roster, role_name};
 use sporc_outside::LeafDisk;
-use sporc_script::role_name;
 use std::alloc::Global;
 
 /// Appends what a client shows.

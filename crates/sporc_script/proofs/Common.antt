@@ -15,6 +15,7 @@ pub use Rattle.std.specs.Prelude.{IsSomeAnd, MatchOption, codes, if◌then◌els
 pub use Rattle.std.specs.Str.{IsUtf8, all_scalars, bytes_eq, chars, encode_utf8_all}
 pub use Rattle.std.specs.Str.Parse.{AllDigits, ParsesUnsigned, digits_value}
 pub use Rattle.sporc_member.specs.Device.{IsMember, first_device}
+pub use Rattle.sporc_member.specs.Role.{role_name}
 pub use Rattle.sporc_member.specs.declared.device.Device.{Device}
 pub use Rattle.sporc_member.specs.declared.role.Role.{Role}
 pub use Rattle.sporc_member.specs.declared.role.Role.TheVariants.{Admin, Editor, Reader}
@@ -34,7 +35,7 @@ pub use Rattle.sporc_script.specs.Reading.{ReadsEditorLine, ReadsLine, declared_
 pub use Rattle.sporc_script.specs.Signs.{IsPayload, forgery_of, forgery_spelling}
 pub use Rattle.sporc_script.specs.Spelling.{DeviceInRange, DevicePairInRange, EditInRange, FlipInRange, FurtherInRange, GiveInRange, IsDeviceNumber, IsFurtherNumber, IsU64, PairInRange}
 pub use Rattle.sporc_script.specs.Spelling.{RestartInRange, RosterChangeInRange, RosterEditInRange, SeenInRange, TextEditInRange, device_pair_spelling, device_text, edit_spelling, flip_spelling}
-pub use Rattle.sporc_script.specs.Spelling.{give_spelling, height_name, keyword_name, member_device_spelling, member_role_spelling, pair_spelling, restart_spelling, role_name, roster_change_spelling}
+pub use Rattle.sporc_script.specs.Spelling.{give_spelling, height_name, keyword_name, member_device_spelling, member_role_spelling, pair_spelling, restart_spelling, roster_change_spelling}
 pub use Rattle.sporc_script.specs.Spelling.{roster_edit_spelling, roster_word_name, stated_spelling, text_edit_spelling, text_word_name, tree_spelling, width_name}
 pub use Rattle.sporc_script.specs.Texts.{inner, is_text, text_of}
 pub use Rattle.sporc_script.specs.Unescape.{resume, step_of, unescape}

@@ -97,33 +97,33 @@ may_declare_device d device =
     not d.begun && (is_client d (first_device device.member) && not (is_client d device))
 
 -- who is changed is declared
-abbrev pub is_known_change : Declared → RosterChange → Bool
-is_known_change d (changes.Add m) = is_declared d m.member
-is_known_change d (changes.Remove m) = is_declared d m
-is_known_change d (changes.SetRole m) = is_declared d m.member
-is_known_change d (changes.AddDevice x) = is_declared d x.member
-is_known_change d (changes.DropDevice x) = is_declared d x.member
-is_known_change d changes.Upgrade = true
+abbrev pub change_names_declared : Declared → RosterChange → Bool
+change_names_declared d (changes.Add m) = is_declared d m.member
+change_names_declared d (changes.Remove m) = is_declared d m
+change_names_declared d (changes.SetRole m) = is_declared d m.member
+change_names_declared d (changes.AddDevice x) = is_declared d x.member
+change_names_declared d (changes.DropDevice x) = is_declared d x.member
+change_names_declared d changes.Upgrade = true
 
-abbrev pub is_known_what : Declared → What → Bool
-is_known_what d (whats.Change c) = is_known_change d c
-is_known_what d what = true
+abbrev pub what_names_declared : Declared → What → Bool
+what_names_declared d (whats.Change c) = change_names_declared d c
+what_names_declared d what = true
 
 -- whose wrap is changed is declared
-abbrev pub is_known_suffix : Declared → Option Suffix → Bool
-is_known_suffix d (Some (suffixes.Wrap n)) = is_declared d n
-is_known_suffix d (Some (suffixes.Drop n)) = is_declared d n
-is_known_suffix d suffix = true
+abbrev pub suffix_names_declared : Declared → Option Suffix → Bool
+suffix_names_declared d (Some (suffixes.Wrap n)) = is_declared d n
+suffix_names_declared d (Some (suffixes.Drop n)) = is_declared d n
+suffix_names_declared d suffix = true
 
 -- a rogue signs, from a client's history
 abbrev pub may_sign : Declared → Forgery → Bool
-may_sign d f = is_rogue d f.member
-    && (is_client d f.from && (is_known_what d f.signed.what && is_known_suffix d f.signed.suffix))
+may_sign d f = is_rogue d f.member && (is_client d f.from
+    && (what_names_declared d f.signed.what && suffix_names_declared d f.signed.suffix))
 
 -- those whom a command names can do it
 abbrev pub names_performers : Declared → Command → Bool
 names_performers d (commands.Edit e) = is_client d e.device
-names_performers d (commands.Change e) = is_client d e.device && is_known_change d e.change
+names_performers d (commands.Change e) = is_client d e.device && change_names_declared d e.change
 names_performers d (commands.Discard x) = is_client d x
 names_performers d (commands.Submit x) = is_client d x
 names_performers d (commands.Give g) = is_client d g.device

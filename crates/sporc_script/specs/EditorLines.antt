@@ -19,8 +19,9 @@ use Rattle.sporc_script.specs.Quoted.{quoted}
 use Rattle.sporc_script.specs.Readers.{device_number_of, keyed_of, lone_or, member_of, named_of}
 use Rattle.sporc_script.specs.Readers.{pair_of, passing}
 use Rattle.sporc_member.specs.Device.{IsMember}
+use Rattle.sporc_member.specs.Role.{role_name}
 use Rattle.sporc_script.specs.Spelling.{DeviceInRange, IsU64, member_device_spelling}
-use Rattle.sporc_script.specs.Spelling.{member_role_spelling, role_name}
+use Rattle.sporc_script.specs.Spelling.{member_role_spelling}
 
 abbrev pub editor_word_name : EditorWord → List ℕ
 editor_word_name words.Insert = codes "insert"

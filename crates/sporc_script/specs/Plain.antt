@@ -3,6 +3,7 @@ use Rattle.std.specs.Prelude.{ℕ, List, [], ◌∷◌, Option, option_map}
 use Rattle.sporc_member.specs.declared.device.Device.{Device}
 use Rattle.sporc_member.specs.declared.role.Role.{Role}
 use Rattle.sporc_member.specs.declared.role.Role.TheVariants.{Reader, Editor, Admin}
+use Rattle.sporc_member.specs.Role.{role_name}
 use Rattle.sporc_script.specs.declared.command.DevicePair.{DevicePair}
 use Rattle.sporc_script.specs.declared.command.Flip.{Flip}
 use Rattle.sporc_script.specs.declared.command.Give.{Give}
@@ -18,7 +19,7 @@ use Rattle.sporc_script.specs.declared.command.Width.{Width}
 use Rattle.sporc_script.specs.declared.command.Width.TheVariants.{Four, Eight}
 use Rattle.sporc_script.specs.Readers.{device_number_of, device_of, further_number_of, member_of}
 use Rattle.sporc_script.specs.Readers.{named_of, pair_of, u32_of}
-use Rattle.sporc_script.specs.Spelling.{height_name, keyword_name, role_name, width_name}
+use Rattle.sporc_script.specs.Spelling.{height_name, keyword_name, width_name}
 use Rattle.sporc_script.specs.Words.{number_of}
 
 unfoldable pub keyword_of : List ℕ → Option Keyword

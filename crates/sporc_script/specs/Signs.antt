@@ -24,8 +24,9 @@ use Rattle.sporc_script.specs.Quoted.{quoted}
 use Rattle.sporc_script.specs.Readers.{behind_of, device_number_of, device_of, keyed_of, lone_or}
 use Rattle.sporc_script.specs.Readers.{member_of, named_of, pair_of, passing, with_more, u32_of}
 use Rattle.sporc_member.specs.Device.{IsMember}
+use Rattle.sporc_member.specs.Role.{role_name}
 use Rattle.sporc_script.specs.Spelling.{DeviceInRange, IsDeviceNumber, IsU64, RosterChangeInRange}
-use Rattle.sporc_script.specs.Spelling.{device_text, role_name}
+use Rattle.sporc_script.specs.Spelling.{device_text}
 use Rattle.sporc_script.specs.Texts.{text_of}
 use Rattle.sporc_script.specs.Words.{cut, number_of}
 

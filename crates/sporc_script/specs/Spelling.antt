@@ -7,8 +7,7 @@ use Rattle.std.specs.Str.{all_scalars}
 use Rattle.sporc_member.specs.declared.device.Device.{Device}
 use Rattle.sporc_member.specs.declared.device.TheConstants.{FIRST_DEVICE}
 use Rattle.sporc_member.specs.Device.{IsMember}
-use Rattle.sporc_member.specs.declared.role.Role.{Role}
-use Rattle.sporc_member.specs.declared.role.Role.TheVariants.{Reader, Editor, Admin}
+use Rattle.sporc_member.specs.Role.{role_name}
 use Rattle.sporc_script.specs.declared.command.DevicePair.{DevicePair}
 use Rattle.sporc_script.specs.declared.command.Edit.{Edit}
 use Rattle.sporc_script.specs.declared.command.Flip.{Flip}
@@ -71,11 +70,6 @@ roster_word_name roster_words.Remove = codes "remove"
 roster_word_name roster_words.Role = codes "role"
 roster_word_name roster_words.Device = codes "device"
 roster_word_name roster_words.DropDevice = codes "drop-device"
-
-abbrev pub role_name : Role → List ℕ
-role_name Reader = codes "reader"
-role_name Editor = codes "editor"
-role_name Admin = codes "admin"
 
 abbrev pub height_name : Height → List ℕ
 height_name Five = codes "5"

@@ -1,11 +1,11 @@
 //! What the lines of a play script declare.
 
 ghost use Rattle.std.specs.Prelude.{◌≡◌, OnOk};
-ghost use Rattle.sporc_script.specs.Declarations.{declared_after, is_among, is_client, is_declared};
-ghost use Rattle.sporc_script.specs.Declarations.{is_joiner, is_known_change, is_known_suffix};
-ghost use Rattle.sporc_script.specs.Declarations.{is_known_what, is_rogue, may_declare};
-ghost use Rattle.sporc_script.specs.Declarations.{may_declare_device, may_follow, may_sign};
-ghost use Rattle.sporc_script.specs.Declarations.{names_performers, none_declared};
+ghost use Rattle.sporc_script.specs.Declarations.{change_names_declared, declared_after, is_among};
+ghost use Rattle.sporc_script.specs.Declarations.{is_client, is_declared, is_joiner, is_rogue};
+ghost use Rattle.sporc_script.specs.Declarations.{may_declare, may_declare_device, may_follow};
+ghost use Rattle.sporc_script.specs.Declarations.{may_sign, names_performers, none_declared};
+ghost use Rattle.sporc_script.specs.Declarations.{suffix_names_declared, what_names_declared};
 
 use crate::command::Command;
 use crate::roster_change::RosterChange;
@@ -129,7 +129,7 @@ impl Declared {
         match command {
             Command::Edit(edit) => self.is_client(edit.device),
             Command::Change(edit) => {
-                self.is_client(edit.device) && self.is_known_change(&edit.change)
+                self.is_client(edit.device) && self.change_names_declared(&edit.change)
             }
             Command::Discard(device)
             | Command::Submit(device)
@@ -151,21 +151,21 @@ impl Declared {
     {
         self.is_rogue(forgery.member)
             && self.is_client(forgery.from)
-            && self.is_known_what(&forgery.signed.what)
-            && self.is_known_suffix(&forgery.signed.suffix)
+            && self.what_names_declared(&forgery.signed.what)
+            && self.suffix_names_declared(&forgery.signed.suffix)
     }
 
-    fn is_known_what(&self, what: &What) -> bool
-        ensures value { result ≡ is_known_what self.now what.now }
+    fn what_names_declared(&self, what: &What) -> bool
+        ensures value { result ≡ what_names_declared self.now what.now }
     {
         match what {
-            What::Change(change) => self.is_known_change(change),
+            What::Change(change) => self.change_names_declared(change),
             _ => true,
         }
     }
 
-    fn is_known_change(&self, change: &RosterChange) -> bool
-        ensures value { result ≡ is_known_change self.now change.now }
+    fn change_names_declared(&self, change: &RosterChange) -> bool
+        ensures value { result ≡ change_names_declared self.now change.now }
     {
         match change {
             RosterChange::Add(member) | RosterChange::SetRole(member) => {
@@ -179,8 +179,8 @@ impl Declared {
         }
     }
 
-    fn is_known_suffix(&self, suffix: &Option<Suffix>) -> bool
-        ensures value { result ≡ is_known_suffix self.now suffix.now }
+    fn suffix_names_declared(&self, suffix: &Option<Suffix>) -> bool
+        ensures value { result ≡ suffix_names_declared self.now suffix.now }
     {
         match suffix {
             Some(Suffix::Wrap(member) | Suffix::Drop(member)) => self.is_declared(*member),

@@ -1,13 +1,14 @@
 //! Words that are names.
 
 ghost use Rattle.std.specs.Prelude.{◌≡◌};
+ghost use Rattle.sporc_member.specs.Role.{role_name};
 ghost use Rattle.sporc_script.specs.EditorLines.{editor_word_name, editor_word_of};
 ghost use Rattle.sporc_script.specs.Edits.{roster_word_of, text_word_of};
 ghost use Rattle.sporc_script.specs.Plain.{height_of, keyword_of, role_of, width_of};
 ghost use Rattle.sporc_script.specs.Signs.{lone_word_name, lone_word_of, suffix_word_name};
 ghost use Rattle.sporc_script.specs.Signs.{suffix_word_of, what_word_name, what_word_of};
-ghost use Rattle.sporc_script.specs.Spelling.{height_name, keyword_name, role_name};
-ghost use Rattle.sporc_script.specs.Spelling.{roster_word_name, text_word_name, width_name};
+ghost use Rattle.sporc_script.specs.Spelling.{height_name, keyword_name, roster_word_name};
+ghost use Rattle.sporc_script.specs.Spelling.{text_word_name, width_name};
 
 use crate::command::{Height, Keyword, Width};
 use crate::editor_line::EditorWord;
@@ -15,7 +16,7 @@ use crate::named::{HasName, find_named};
 use crate::roster_change::RosterWord;
 use crate::sign::{LoneWord, SuffixWord, WhatWord};
 use crate::text_edit::TextWord;
-use sporc_member::Role;
+use sporc_member::{Role, role_name};
 
 const KEYWORDS: [Keyword; 21] = [
     Keyword::Tree,
@@ -257,17 +258,6 @@ impl HasName for Role {
 
     fn name(&self) -> &'static [u8] {
         role_name(*self).as_bytes()
-    }
-}
-
-/// The word for a role.
-pub fn role_name(role: Role) -> &'static str
-    ensures value { result.now ≡ role_name role }
-{
-    match role {
-        Role::Reader => "reader",
-        Role::Editor => "editor",
-        Role::Admin => "admin",
     }
 }
 

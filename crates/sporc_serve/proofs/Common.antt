@@ -25,21 +25,20 @@ pub use Rattle.std.proofs.lemmas.List.{drop_all, drop_at, length-drop, length-re
 pub use Rattle.std.proofs.lemmas.List.Elements.{All-cons, All-head, All-nil, All-tail}
 pub use Rattle.std.specs.Io.KnownBytes.{Appends, Consumes}
 pub use Rattle.sporc_bytes.specs.Fields.{counted}
-pub use Rattle.sporc_outside.proofs.Returning.{shut_more, shut_none}
 pub use Rattle.sporc_outside.specs.Nets.{AreShutBehind, NetTold}
 pub use Rattle.sporc_outside.specs.Streams.{Shuts, StreamTold}
 pub use Rattle.sporc_outside.specs.Told.{AppendsItem, IsFalseIfTold, IsTrueIfTold, TakesItem}
 pub use Rattle.sporc_entry.specs.declared.genesis.Genesis.{Genesis}
 pub use Rattle.sporc_head.specs.HeadChecks.{head_fault}
 pub use Rattle.sporc_head.specs.declared.refusal.Refusal.{Refusal}
-pub use Rattle.sporc_serve.specs.Crowds.{IsCrowd}
+pub use Rattle.sporc_serve.specs.Crowds.{IsCrowd, LeavesNet}
 pub use Rattle.sporc_serve.specs.Endings.{Inlet, IsFirst, IsNext, IsNextEnd, IsSendEnd, TakesMessage, Waits, inlet, inlet_at}
 pub use Rattle.sporc_serve.specs.Logs.{IsLogOf, OfDocument, added_of, by_of, entries_in, if_answered, log_of, order_at, placed, placed_by, unless_refused}
 pub use Rattle.sporc_serve.specs.Sending.{CanBeSent, bytes_of, sent_of}
 pub use Rattle.sporc_serve.specs.Traces.{Broken, Carries, Did, Exchange, GoesOn, Grows, IsEnd, Leads, NoneCloses, ServerStand, ServerTrace, answers_of, entries_of, greeted_after, messages_of, stand}
 pub use Rattle.sporc_serve.specs.Traces.{stand_at, step_at}
 pub use Rattle.sporc_serve.specs.Turns.{HasReadLast, IsAnswered, IsTurnEnd, LeavesUnanswered, Looks, SeesAndAdds, TakesTurn, end_of}
-pub use Rattle.sporc_serve.specs.Visits.{AreBehind, AreFrom, IsServedSession, NoneUnkept, TellsOf, Visit, Visits, came, handed_back, visit, with_end}
+pub use Rattle.sporc_serve.specs.Visits.{AreBehind, AreFrom, IsServedSession, NoneUnkept, TellsOf, TookLinks, Visit, Visits, came, handed_back, visit, with_end}
 pub use Rattle.sporc_serve.specs.declared.end.SessionEnd.{SessionEnd}
 pub use Rattle.sporc_serve.specs.declared.end.SessionEnd.TheVariants.{BadFrame, Closed, LinkEnded, LinkFault, Memory, Unkept, Worn}
 pub use Rattle.sporc_serve.specs.declared.fault.ServeFault.{ServeFault}

@@ -5,7 +5,9 @@ use Rattle.sporc_serve.proofs.Common.{Close, SessionEnd, Closed, LinkEnded, Link
 use Rattle.sporc_serve.proofs.Common.{IsNextEnd, IsNext, Exchange, ServerStand, answers_of, NoneCloses, Did, ServerTrace, Broken, IsEnd, GoesOn, FirstFrame, partial, too_long, whole, first_frame}
 use Rattle.sporc_outside.specs.Counts.{Rose}
 use Rattle.sporc_wire.specs.Messages.{next}
-use Rattle.sporc_serve.proofs.Tracing.{did_more, answer_more, trace_taken, trace_fed, trace_unanswered, sent_of-append, none_closes_more}
+use Rattle.sporc_serve.proofs.Tracing.{did_more, answer_more, trace_taken, trace_fed, trace_unanswered}
+use Rattle.std.proofs.SliceLists.{all_by_recursion_push}
+use Rattle.std.proofs.lemmas.Grind.{flat_map-append}
 
 -- a stream that waits for more stays as it is
 pub next_waits : {M : Type 0} (read : List ℕ → Result M ℕ) (s : Unread) → (next read s).answer ≡ Ok None → (next read s).after ≡ s
@@ -113,10 +115,10 @@ module _ (g : Genesis) (a b : ServerStand) (bytes : List ℕ) (xs : List Exchang
     answered : answer ≢ Close → Appends b.written written (bytes_of answer) → ServerTrace g a b' bytes (xs ++ x ∷ [])
     answered no_close sent = record {
       did = did;
-      none_closes = subst NoneCloses (sym answers) (none_closes_more (answers_of g false xs) answer c.none_closes no_close);
+      none_closes = subst NoneCloses (sym answers) (all_by_recursion_push (λ (x : Answer). x ≢ Close) (answers_of g false xs) answer c.none_closes no_close);
       sent = subst (λ (t : List ℕ). Appends a.written written t)
           (ap (λ (t : List ℕ). sent_of (answers_of g false xs) ++ t) (sym (append-nil (bytes_of answer)))
-          ∙ sym (sent_of-append (answers_of g false xs) (answer ∷ [])) ∙ ap sent_of (sym answers))
+          ∙ sym (flat_map-append bytes_of (answers_of g false xs) (answer ∷ [])) ∙ ap sent_of (sym answers))
           (Appends-trans a.written b.written written (sent_of (answers_of g false xs)) (bytes_of answer) c.sent sent);
     }
 

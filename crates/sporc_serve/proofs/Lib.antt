@@ -7,6 +7,7 @@ pub mod Framed
 pub mod Sendable
 pub mod Stepping
 pub mod Waiting
+pub mod Links
 pub mod Crowding
 pub mod Serving
 pub mod Common

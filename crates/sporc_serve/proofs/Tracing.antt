@@ -1,8 +1,8 @@
 -- A session, one message or one piece of its stream after another.
-use Rattle.std.proofs.Common.{◌≡◌, ◌≢◌, ℕ, ◌≤◌, Bool, false, List, [], ◌∷◌, ◌++◌, Option, Some, Ok, refl, ap, ap₂, sym, subst, ◌∙◌, append_assoc, append-nil, arith}
+use Rattle.std.proofs.Common.{◌≡◌, ℕ, ◌≤◌, Bool, false, List, [], ◌∷◌, ◌++◌, Option, Some, Ok, refl, ap, ap₂, sym, subst, ◌∙◌, append_assoc, append-nil, arith}
 use Rattle.sporc_serve.proofs.Common.{Consumes, Consumes-nil, Consumes-trans, Appends-nil, map-append, Genesis, Known, StartsWith, ToServer, Unread, HandsOut, stream_of, fed, next, to_server_of}
-use Rattle.sporc_serve.proofs.Common.{Answer, Close, Item, Placed, order_at, added_of, placed_by, bytes_of, sent_of, IsAnswered, LeavesUnanswered, Exchange, ServerStand, stand, messages_of, step_at}
-use Rattle.sporc_serve.proofs.Common.{greeted_after, answers_of, entries_of, Grows, NoneCloses, Did, ServerTrace, HandsOut-fed, HandsOut-next}
+use Rattle.sporc_serve.proofs.Common.{Answer, Item, Placed, order_at, added_of, placed_by, IsAnswered, LeavesUnanswered, Exchange, ServerStand, stand, messages_of, step_at}
+use Rattle.sporc_serve.proofs.Common.{greeted_after, answers_of, entries_of, Grows, Did, ServerTrace, HandsOut-fed, HandsOut-next}
 
 -- ---- lists that begin with others
 
@@ -12,18 +12,6 @@ starts_same log = ([], sym (append-nil log))
 pub starts_then : (a b c : List Item) → StartsWith b a → StartsWith c b → StartsWith c a
 starts_then a b c first then =
     (first.0 ++ then.0, then.1 ∙ ap (λ (l : List Item). l ++ then.0) first.1 ∙ append_assoc a first.0 then.0)
-
-pub placed_by-append : (n : ℕ) (es fs : List (List ℕ)) → placed_by n (es ++ fs) ≡ placed_by n es ++ placed_by n fs
-placed_by-append n [] fs = refl
-placed_by-append n (e ∷ es) fs = ap (λ (l : List Item). Placed n e ∷ l) (placed_by-append n es fs)
-
-pub sent_of-append : (xs ys : List Answer) → sent_of (xs ++ ys) ≡ sent_of xs ++ sent_of ys
-sent_of-append [] ys = refl
-sent_of-append (x ∷ xs) ys = ap (λ (l : List ℕ). bytes_of x ++ l) (sent_of-append xs ys) ∙ sym (append_assoc (bytes_of x) (sent_of xs) (sent_of ys))
-
-pub none_closes_more : (before : List Answer) (last : Answer) → NoneCloses before → last ≢ Close → NoneCloses (before ++ last ∷ [])
-none_closes_more [] last none here = (here, tt)
-none_closes_more (a ∷ before) last none here = (none.0, none_closes_more before last none.1 here)
 
 -- ---- one exchange more
 
@@ -140,7 +128,7 @@ module _ (g : Genesis) where
         start = h.adds.start ∙ c.did.start;
         mine = h.adds.mine ∙ ap₂ (λ (p q : List Item). p ++ q) c.did.mine same
             ∙ append_assoc a.known.mine (placed_by n (entries_of g false xs)) (placed_by n (added_of (order_at g found) (greeted_after g false xs) m))
-            ∙ ap (λ (l : List Item). a.known.mine ++ l) (sym (placed_by-append n (entries_of g false xs) (added_of (order_at g found) (greeted_after g false xs) m))
+            ∙ ap (λ (l : List Item). a.known.mine ++ l) (sym (map-append (λ (e : List ℕ). Placed n e) (entries_of g false xs) (added_of (order_at g found) (greeted_after g false xs) m))
             ∙ ap (placed_by n) (sym (entries_more false xs x)));
         grows = subst (λ (l : List Item). Grows g n a.known.seen false (xs ++ x ∷ []) l)
             (sym (h.adds.seen ∙ ap (λ (l : List Item). found ++ l) same)) grown;

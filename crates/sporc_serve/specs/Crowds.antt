@@ -17,35 +17,35 @@ use Rattle.sporc_serve.specs.declared.fault.ServeFault.TheVariants.{Unkept}
 use Rattle.sporc_serve.specs.declared.item.Item.{Item}
 use Rattle.sporc_serve.specs.Logs.{OfDocument}
 use Rattle.sporc_serve.specs.Turns.{HasReadLast}
-use Rattle.sporc_serve.specs.Visits.{Visit, Visits, IsServedSession, CameOpen, came, handed_back}
-use Rattle.sporc_serve.specs.Visits.{AreFrom, AreBehind, SomeWorn, NoneUnkept, TellsOf}
+use Rattle.sporc_serve.specs.Visits.{Visit, Visits, IsServedSession, SomeWorn, TookLinks}
 
 -- the sessions that were served, of so many, where the pass that comes back has read this as the
 -- next ticket
 pub record Crowd (genesis : Genesis) (before after : Known Item) (read : ℕ) (old new : NetTold)
     (sessions : ℕ) (result : Result (Unit {0}) ServeFault) (visits : List Visit) : Type 0 where
   pub visits_are : Visits genesis before after visits
-  pub came_open : CameOpen visits
-  pub coming : AreFrom old.coming new.coming (came visits)
-  pub returned : AreBehind old.returned new.returned (handed_back visits)
-  pub result_is : TellsOf sessions old.faults new.faults visits result
+  pub links : TookLinks old new sessions result visits
   pub worn : (ticket : ℕ) → SomeWorn ticket visits → MAX_TICKETS ≤ read
-  pub kept : result ≢ Err Unkept → NoneUnkept visits
 
 abbrev pub IsCrowd : Genesis → Known Item → Known Item
     → ℕ → NetTold → NetTold → ℕ → Result (Unit {0}) ServeFault → Type 0
 IsCrowd genesis before after read old new sessions result =
     (visits : List Visit) × Crowd genesis before after read old new sessions result visits
 
+-- what sessions leave of a net: their links came back shut, it was asked for no other address, as
+-- many links are out, and its count did not fall
+abbrev pub LeavesNet : NetTold → NetTold → Type 0
+LeavesNet old new = AreShutBehind old.returned new.returned × (new.asked ≡ old.asked)
+    × (new.out ≡ old.out) × (old.faults ≤ new.faults)
+
 -- the other sessions, so many, were served at a net by number 0's pass, which knew `before`, and is
--- `after` now: its links came back shut, and nothing else was asked of the net
+-- `after` now
 abbrev pub ServesOthers : {T : Type 0} {tail : Ghosts T} → Turn (Desk T tail) Item → NetTold
     → NetTold → ℕ → Result (Unit {0}) ServeFault → Pass Item → Pass Item → Type 0
 ServesOthers {T} {tail} turn old new sessions result after before =
     IsPassOf turn after × ((known_of after).number ≡ 0) × OfDocument (known_of before).seen
     (λ genesis. IsCrowd genesis (known_of before) (known_of after) (read_of after) old new
-    sessions result) × AreShutBehind old.returned new.returned × (new.asked ≡ old.asked)
-    × (new.out ≡ old.out) × (old.faults ≤ new.faults) × (result ≡ Err Unkept → tail.may_fail)
+    sessions result) × LeavesNet old new × (result ≡ Err Unkept → tail.may_fail)
 
 -- one session was served by another pass, which was `before`, and is `after` now: its link is shut
 abbrev pub ServesOne : {T : Type 0} {tail : Ghosts T} → Turn (Desk T tail) Item → Visit

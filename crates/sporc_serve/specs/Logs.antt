@@ -1,7 +1,7 @@
 -- The log that the sessions of a server share: the document, and its entries with the number of
 -- each one's pass.
-use Rattle.std.specs.Prelude.{◌≡◌, ◌+◌, ℕ, Bool, true, false, List, [], ◌∷◌, length, Option, None}
-use Rattle.std.specs.Prelude.{Some, Result, Ok, Err}
+use Rattle.std.specs.Prelude.{◌≡◌, ◌+◌, ℕ, Bool, true, false, List, [], ◌∷◌, length, map, Option}
+use Rattle.std.specs.Prelude.{Some, None, Result, Ok, Err}
 use Rattle.sporc_entry.specs.declared.genesis.Genesis.{Genesis}
 use Rattle.sporc_head.specs.declared.refusal.Refusal.{Refusal}
 use Rattle.sporc_head.specs.HeadChecks.{head_fault}
@@ -46,8 +46,7 @@ log_of order numbers = Opened order.genesis ∷ placed numbers order.entries
 
 -- entries that one pass adds
 abbrev pub placed_by : ℕ → List (List ℕ) → List Item
-placed_by number [] = []
-placed_by number (e ∷ es) = Placed number e ∷ placed_by number es
+placed_by number entries = map (λ (entry : List ℕ). Placed number entry) entries
 
 -- an entry, unless a check fails
 abbrev pub unless_refused : List ℕ → Option Refusal → List (List ℕ)

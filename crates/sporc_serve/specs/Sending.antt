@@ -1,5 +1,5 @@
 -- What a server sends.
-use Rattle.std.specs.Prelude.{ℕ, List, [], ◌∷◌, ◌++◌}
+use Rattle.std.specs.Prelude.{ℕ, List, [], flat_map}
 use Rattle.sporc_wire.specs.Stream.{frame}
 use Rattle.sporc_wire.specs.ToClient.{to_client_bytes}
 use Rattle.sporc_order.specs.declared.session.Answer.{Answer}
@@ -16,8 +16,7 @@ bytes_of Close = []
 
 -- the bytes of answers
 abbrev pub sent_of : List Answer → List ℕ
-sent_of [] = []
-sent_of (answer ∷ answers) = bytes_of answer ++ sent_of answers
+sent_of answers = flat_map bytes_of answers
 
 -- a message that is to be sent is in range, and fits a frame
 abbrev pub CanBeSent : Reply → Type 0

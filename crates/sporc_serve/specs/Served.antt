@@ -1,6 +1,6 @@
 -- What a server did, whole.
-use Rattle.std.specs.Prelude.{◌≡◌, ◌≢◌, ◌⊎◌, ◌+◌, ◌≤◌, ◌<◌, ℕ, List, [], ◌∷◌, length, drop}
-use Rattle.std.specs.Prelude.{replicate, Result, Err}
+use Rattle.std.specs.Prelude.{◌≡◌, ◌+◌, ◌≤◌, ℕ, List, [], ◌∷◌, length, drop}
+use Rattle.std.specs.Prelude.{replicate, Result}
 use Rattle.std.specs.List.{All}
 use Rattle.sporc_outside.specs.Nets.{NetTold}
 use Rattle.sporc_turn.specs.declared.known.Known.{Known}
@@ -12,9 +12,7 @@ use Rattle.sporc_order.specs.OrderModel.{OrderModel}
 use Rattle.sporc_serve.specs.declared.item.Item.{Item}
 use Rattle.sporc_serve.specs.Logs.{by_of, log_of, order_at}
 use Rattle.sporc_serve.specs.declared.fault.ServeFault.{ServeFault}
-use Rattle.sporc_serve.specs.declared.fault.ServeFault.TheVariants.{Unkept}
-use Rattle.sporc_serve.specs.Visits.{Visit, IsServedSession, IsUnserved, CameOpen, came}
-use Rattle.sporc_serve.specs.Visits.{handed_back, AreFrom, AreBehind, SomeWorn, NoneUnkept, TellsOf}
+use Rattle.sporc_serve.specs.Visits.{Visit, IsServedSession, SomeWorn, TookLinks}
 
 -- the log of an order that is handed in
 abbrev pub log_at_first : OrderModel → List Item
@@ -32,24 +30,20 @@ module _ (genesis : Genesis) (start log : List Item) where
     pub known : StartsWith log last.seen
     pub own_are : own by_of number (length start) log ≡ last.mine
 
-  -- sessions by passes with the numbers from this one on, `next` being the one after theirs; only
-  -- the last link can be unserved, and no pass was split for it
-  abbrev pub Attended : ℕ → List Visit → ℕ → Type 0
-  Attended number [] next = next ≡ number
-  Attended number (v ∷ vs) next = (IsUnserved v × (vs ≡ []) × (next ≡ number))
-      ⊎ ((first : Known Item) × (last : Known Item) × Attends number first last v
-      × Attended (number + 1) vs next)
+  -- sessions by passes with the numbers from this one on
+  abbrev pub Attended : ℕ → List Visit → Type 0
+  Attended number [] = Unit {0}
+  Attended number (v ∷ vs) = (first : Known Item) × (last : Known Item)
+      × Attends number first last v × Attended (number + 1) vs
 
 -- The order that is handed back is that of a log which begins with the order that was handed in.
 -- Each further entry was added by one of the sessions: it has the number of a session's pass.
--- `next` is the number after those.
 pub record Served (before after : OrderModel)
     (visits : List Visit) (log : List Item) : Type 0 where
   pub order_is : after ≡ order_at before.genesis log
   pub begins : StartsWith log (log_at_first before)
-  pub next : ℕ
-  pub sessions : Attended before.genesis (log_at_first before) log 1 visits next
-  pub numbered : All (λ e. (1 ≤ by_of e) × (by_of e < next))
+  pub sessions : Attended before.genesis (log_at_first before) log 1 visits
+  pub numbered : All (λ e. (1 ≤ by_of e) × (by_of e ≤ length visits))
       (drop (length (log_at_first before)) log)
 
 -- a pass that has seen this log has read that every ticket was drawn
@@ -61,12 +55,8 @@ IsWornAt log = (pass : Pass Item) × ((known_of pass).seen ≡ log) × IsWorn pa
 pub record ServesAt (before after : OrderModel) (old new : NetTold) (sessions : ℕ)
     (result : Result (Unit {0}) ServeFault) (visits : List Visit) (log : List Item) : Type 0 where
   pub served : Served before after visits log
-  pub came_open : CameOpen visits
-  pub coming : AreFrom old.coming new.coming (came visits)
-  pub returned : AreBehind old.returned new.returned (handed_back visits)
-  pub result_is : TellsOf sessions old.faults new.faults visits result
+  pub links : TookLinks old new sessions result visits
   pub worn : (ticket : ℕ) → SomeWorn ticket visits → IsWornAt log
-  pub kept : result ≢ Err Unkept → NoneUnkept visits
 
 abbrev pub IsServed : OrderModel → OrderModel
     → NetTold → NetTold → ℕ → Result (Unit {0}) ServeFault → Type 0

@@ -3,6 +3,7 @@
 use Rattle.std.specs.Prelude.{◌≡◌, ◌≢◌, ◌⊎◌, ◌≤◌, ◌<◌, ℕ, Bool, false, List, [], ◌∷◌, ◌++◌, length}
 use Rattle.std.specs.Prelude.{map, take, Option, Some, None, Ok, Err}
 use Rattle.std.specs.Io.KnownBytes.{Consumes, Appends, IsAtEnd}
+use Rattle.std.specs.List.{AllByRecursion}
 use Rattle.sporc_outside.specs.Counts.{Rose}
 use Rattle.sporc_outside.specs.Streams.{StreamTold}
 use Rattle.sporc_turn.specs.declared.known.Known.{Known}
@@ -43,8 +44,7 @@ messages_of xs = map (λ (x : Exchange). x.message) xs
 
 -- none of these answers closes the session
 abbrev pub NoneCloses : List Answer → Type 0
-NoneCloses [] = Unit {0}
-NoneCloses (answer ∷ answers) = (answer ≢ Close) × NoneCloses answers
+NoneCloses answers = AllByRecursion (λ (answer : Answer). answer ≢ Close) answers
 
 module _ (genesis : Genesis) where
   -- the order machine's answer to a message, at the log that it was answered at

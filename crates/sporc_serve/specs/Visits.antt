@@ -1,7 +1,9 @@
 -- The sessions of a server, and what they did to the log together.
-use Rattle.std.specs.Prelude.{◌≡◌, ◌≢◌, ◌⊎◌, ℕ, false, List, [], ◌∷◌, ◌++◌, length, Option, Result}
-use Rattle.std.specs.Prelude.{Ok, Err}
+use Rattle.std.specs.Prelude.{◌≡◌, ◌≢◌, ◌⊎◌, ℕ, false, List, [], ◌∷◌, ◌++◌, length, map, Option}
+use Rattle.std.specs.Prelude.{Result, Ok, Err}
+use Rattle.std.specs.List.{AllByRecursion}
 use Rattle.sporc_outside.specs.Counts.{Rose}
+use Rattle.sporc_outside.specs.Nets.{NetTold}
 use Rattle.sporc_outside.specs.Told.{IsFalseIfTold, IfBoth}
 use Rattle.sporc_outside.specs.Streams.{Shuts, StreamTold}
 use Rattle.sporc_turn.specs.declared.known.Known.{Known}
@@ -27,11 +29,6 @@ pub record Visit : Type 0 where
 abbrev pub visit : StreamTold → StreamTold → SessionEnd → Visit
 visit before after end = record { before = before; after = after; end = end }
 
--- a link whose session ended before its first message, out of memory
-pub record IsUnserved (v : Visit) : Type 0 where
-  pub end_is : v.end ≡ Memory
-  pub shuts : Shuts (record { before = v.before; after = v.after })
-
 module _ (genesis : Genesis) where
   -- a session over a link by a pass that knew this at first and that at last: the link, as the
   -- session came to its end, was as shut as it came, and then it was shut
@@ -47,21 +44,19 @@ module _ (genesis : Genesis) where
   -- number 0 knew this before, and split a pass for each session and joined it back
   abbrev pub Visits : Known Item → Known Item → List Visit → Type 0
   Visits before after [] = after ≡ before
-  Visits before after (v ∷ vs) = (IsUnserved v × (vs ≡ []) × (after ≡ before))
-      ⊎ ((rest : Known Item) × (last : Known Item) × IsServedSession (copied before) last v
+  Visits before after (v ∷ vs) =
+      (rest : Known Item) × (last : Known Item) × IsServedSession (copied before) last v
       × Visits (splitting before) rest vs × (last.number ≡ (copied before).number)
       × (after ≡ joined_with rest last) × StartsWith after.seen rest.seen
-      × StartsWith after.seen last.seen × Agrees by_of after after.seen)
+      × StartsWith after.seen last.seen × Agrees by_of after after.seen
 
 -- no link was shut as it came
 abbrev pub CameOpen : List Visit → Type 0
-CameOpen [] = Unit {0}
-CameOpen (v ∷ vs) = IsFalseIfTold v.before.is_shut × CameOpen vs
+CameOpen visits = AllByRecursion (λ (v : Visit). IsFalseIfTold v.before.is_shut) visits
 
 -- links in the order in which they came, and in which they were handed back
 abbrev pub came : List Visit → List StreamTold
-came [] = []
-came (v ∷ vs) = v.before ∷ came vs
+came visits = map (λ (v : Visit). v.before) visits
 
 abbrev pub handed_back : List Visit → List StreamTold
 handed_back [] = []
@@ -82,8 +77,7 @@ IsWant end = (end ≡ Memory) ⊎ (end ≡ Worn MAX_TICKETS)
 
 -- none of the sessions ended so
 abbrev pub NoneWants : List Visit → Type 0
-NoneWants [] = Unit {0}
-NoneWants (v ∷ vs) = ¬ IsWant v.end × NoneWants vs
+NoneWants visits = AllByRecursion (λ (v : Visit). ¬ IsWant v.end) visits
 
 -- a session ended at this ticket
 abbrev pub SomeWorn : ℕ → List Visit → Type 0
@@ -97,8 +91,7 @@ SomeUnkept (v ∷ vs) = (v.end ≡ Unkept) ⊎ SomeUnkept vs
 
 -- none of them did
 abbrev pub NoneUnkept : List Visit → Type 0
-NoneUnkept [] = Unit {0}
-NoneUnkept (v ∷ vs) = (v.end ≢ Unkept) × NoneUnkept vs
+NoneUnkept visits = AllByRecursion (λ (v : Visit). v.end ≢ Unkept) visits
 
 -- what is answered of these sessions, of so many, where the net's count went from `before` to
 -- `after`
@@ -109,6 +102,17 @@ TellsOf sessions before after visits (Err (faults.Worn ticket)) =
     (ticket ≡ MAX_TICKETS) × SomeWorn ticket visits
 TellsOf sessions before after visits (Err faults.Memory) = Unit {0}
 TellsOf sessions before after visits (Err faults.Unkept) = SomeUnkept visits
+
+-- these links, of so many, came from a net, which told this before and that after, and were handed
+-- back to it; this is answered of their sessions, and unless it is that an entry was not kept, none
+-- of them ended so
+pub record TookLinks (old new : NetTold) (sessions : ℕ) (result : Result (Unit {0}) ServeFault)
+    (visits : List Visit) : Type 0 where
+  pub came_open : CameOpen visits
+  pub coming : AreFrom old.coming new.coming (came visits)
+  pub returned : AreBehind old.returned new.returned (handed_back visits)
+  pub result_is : TellsOf sessions old.faults new.faults visits result
+  pub kept : result ≢ Err faults.Unkept → NoneUnkept visits
 
 -- what is answered once one session more has ended: that an entry was not kept goes before a fault
 -- of the net, that before a ticket's, and that before running out of memory

@@ -1,13 +1,13 @@
 //! The sessions of a server, each in a thread of its own where one can be made.
 
-ghost use Rattle.std.specs.Prelude.{◌≡◌, ◌≢◌, ◌+◌, ◌-◌, ◌^◌, ◌<◌, ◌≤◌, Err, max, IfSome};
+ghost use Rattle.std.specs.Prelude.{◌≡◌, ◌≢◌, ◌+◌, ◌-◌, ◌^◌, ◌<◌, Err, max, IfSome};
 ghost use Rattle.std.specs.Thread.{IsSync, IsSend};
-ghost use Rattle.sporc_outside.specs.Nets.{AreShutBehind};
 ghost use Rattle.sporc_turn.specs.Knowing.{joined_with};
 ghost use Rattle.sporc_turn.specs.Log.{StartsWith, Agrees};
 ghost use Rattle.sporc_turn.specs.Passes.{known_of, read_of, IsPassOf};
 ghost use Rattle.sporc_serve.specs.Logs.{by_of, OfDocument};
-ghost use Rattle.sporc_serve.specs.Crowds.{IsCrowd, IsFirst, IsOther, ServesOne, ServesOthers};
+ghost use Rattle.sporc_serve.specs.Crowds.{IsCrowd, IsFirst, IsOther, LeavesNet, ServesOne};
+ghost use Rattle.sporc_serve.specs.Crowds.{ServesOthers};
 ghost use Rattle.sporc_serve.specs.Visits.{visit, with_end};
 
 use crate::desk::Desk;
@@ -16,7 +16,7 @@ use crate::fault::ServeFault;
 use crate::item::Item;
 use crate::session::serve_link;
 use sporc_order::Tail;
-use sporc_outside::{Gate, Link, Listen};
+use sporc_outside::{Gate, Listen};
 use sporc_turn::{Pass, Turn};
 use std::alloc::Global;
 use std::sync::Wait;
@@ -98,10 +98,7 @@ where
     ensures crowd { OfDocument (known_of first).seen
         (λ genesis. IsCrowd genesis (known_of first) (known_of result.1) (read_of result.1)
         (N.told net.old) (N.told net.new) sessions result.0) }
-    ensures shut { AreShutBehind (N.told net.old).returned (N.told net.new).returned }
-    ensures asked { (N.told net.new).asked ≡ (N.told net.old).asked }
-    ensures links_out { (N.told net.new).out ≡ (N.told net.old).out }
-    ensures kept { (N.told net.old).faults ≤ (N.told net.new).faults }
+    ensures net { LeavesNet (N.told net.old) (N.told net.new) }
     ensures unkept { result.0 ≡ Err ServeFault.Unkept → T.may_fail }
 {
     if sessions == 0 {
@@ -112,11 +109,7 @@ where
     };
     let (first, second) = match turn.split(first) {
         Ok(both) => both,
-        Err((first, _)) => {
-            link.shut();
-            net.take_back(link);
-            return (Err(ServeFault::Memory), first);
-        }
+        Err(_) => unreachable!(),
     };
     let others = sessions - 1;
     let mut first = Some(first);

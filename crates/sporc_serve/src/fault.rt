@@ -1,6 +1,5 @@
 //! Why a server stopped, or didn't begin.
 
-use std::alloc::AllocError;
 use thiserror::Error;
 
 /// What a server answers where not all went well.
@@ -18,15 +17,4 @@ pub enum ServeFault {
     /// The tail did not keep an entry.
     #[error("an entry is not kept")]
     Unkept,
-}
-
-impl From<AllocError> for ServeFault {
-    ghost use Rattle.std.specs.Prelude.{◌≡◌};
-    ghost use Rattle.sporc_serve.specs.declared.fault.ServeFault.TheVariants as faults;
-
-    ghost from_gives = { λ _ e. e ≡ faults.Memory };
-
-    fn from(_: AllocError) -> ServeFault {
-        ServeFault::Memory
-    }
 }

@@ -1,5 +1,5 @@
 -- A receiver and editors that are joined.
-use Rattle.std.proofs.Common.{◌≡◌, ℕ, suc, ◌+◌, List, [], ◌∷◌, length, take, drop, Option, Some, None, Ok, Err, refl, sym, ap, ◌∙◌, subst, arith, inl, inr, ⊎_elim}
+use Rattle.std.proofs.Common.{◌≡◌, ℕ, ◌+◌, List, [], ◌∷◌, length, take, drop, Option, Some, None, Ok, Err, refl, sym, ap, ◌∙◌, subst, arith, inl, inr, ⊎_elim}
 use Rattle.sporc_session.proofs.Common.{Result, ⊤, result_and, result_err, nil_from_length, first_of, EditorLine, Known, Agrees, StartsWith, longer, longer_is, ToClient, AcceptFault, SubmitFault}
 use Rattle.sporc_session.proofs.Common.{Item, by_of, SessionFault, Act, all_of, items_by, Trace, CountsSame, IsAllowedLog, KnowsMore, Stand, stand, LinesDid, AcceptGives, Cause, IsNoMessage}
 use Rattle.sporc_session.proofs.Common.{IsWrongAnswer, SubmitGives, AreLinesDone, LineEnd, IsPoint, Mode, FirstPhase, LinkStand}
@@ -8,10 +8,8 @@ use Rattle.sporc_turn.specs.declared.known.Joined.{Joined}
 use Rattle.sporc_turn.specs.Knowing.{copied, joined_with, splitting}
 use Rattle.sporc_session.specs.declared.fault.SessionFault.TheVariants as faults
 use Rattle.sporc_session.specs.Crowds.{CrowdDid, EditorPart, IsCrowd}
-use Rattle.sporc_session.proofs.Tracing.{stopped_within}
 use Rattle.sporc_session.proofs.Fitting.{fit_all_later}
-use Rattle.sporc_session.proofs.Knowing.{client_later, knows_none, point_later, starts_then}
-use Rattle.sporc_session.proofs.Stepping.{known_stopped}
+use Rattle.sporc_session.proofs.Knowing.{client_later, point_later, starts_then}
 use Rattle.sporc_session.proofs.Lining.{end_later, lines_later}
 
 -- Number 0 knew k as another pass was split from it, k1 before it joined that pass, and k' afterwards
@@ -105,7 +103,7 @@ part_later log log' s start number lines items end p = record {
 
 pub crowd_later : (log log' : List Item) (s : StartsWith log' log) (start number : ℕ) (scripts : List (List EditorLine)) (ends : List (Option SessionFault)) (js : List (Joined Item)) → CrowdDid log start number scripts ends js → CrowdDid log' start number scripts ends js
 crowd_later log log' s start number [] ends js d = d
-crowd_later log log' s start number (script ∷ scripts) [] js d = d
+crowd_later log log' s start number (script ∷ scripts) [] js d = absurd d
 crowd_later log log' s start number (script ∷ scripts) (end ∷ ends) [] d = absurd d
 crowd_later log log' s start number (script ∷ scripts) (end ∷ ends) (j ∷ js) d = (d.0, part_later log log' s start number script j.items end d.1, crowd_later log log' s start (number + 1) scripts ends js d.2)
 
@@ -125,22 +123,6 @@ crowd_last a b rounds scripts receiver none phase same =
       first = refl;
       joined_are = same.joined;
       splits_are = same.splits ∙ omega arith;
-      started = inl refl;
-    })
-
--- no pass could be split
-pub crowd_failed : (k k' : Known Item) (link : LinkStand) (words : Option (List (List ℕ))) (g rounds : ℕ) (scripts : List (List EditorLine)) (script : List EditorLine) (others : List (List EditorLine)) → scripts ≡ script ∷ others → k' ≡ k
-    → IsCrowd (stand k link words g) (stand k' link words g) rounds scripts (Some faults.Memory) None
-crowd_failed k k' link words g rounds scripts script others are same =
-    subst (λ (z : Known Item × List (List EditorLine)). IsCrowd (stand k link words g) (stand z.0 link words g) rounds z.1 (Some faults.Memory) None) (λ i. (sym same i, sym are i)) (record {
-      phase = stopped_within 0 rounds (omega arith) (known_stopped (knows_none k) tt);
-      ends = [];
-      joined = [];
-      did = refl;
-      first = refl;
-      joined_are = refl;
-      splits_are = omega arith;
-      started = inr refl;
     })
 
 -- an editor that was split from number 0, and joined to it after the others
@@ -183,7 +165,6 @@ module _ (k k1 k2 k' : Known Item) (link0 link : LinkStand) (words0 words : Opti
     first = first_and end later crowd.ends crowd.first;
     joined_are = ap (λ (h : Known Item). h.joined) joined_is ∙ ap (λ (js : List (Joined Item)). record { number = k2.number; items = k2.mine } ∷ js) crowd.joined_are;
     splits_are = ap (λ (h : Known Item). h.splits) joined_is ∙ crowd.splits_are ∙ omega arith;
-    started = ⊎_elim (λ e. inl (ap suc e)) (λ e. inr e) crowd.started;
   }
 
   pub crowd_step : (k0 k00 : Known Item) (rounds : ℕ) (all : List (List EditorLine)) (script : List EditorLine) (scripts : List (List EditorLine)) (receiver receiver' end later later' : Result ⊤ SessionFault)

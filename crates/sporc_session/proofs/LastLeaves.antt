@@ -1,5 +1,5 @@
 -- A session that ends because all leaves are drawn names the number of the key's leaves.
-use Rattle.std.proofs.Common.{◌≡◌, ⊎_elim, ℕ, zero, suc, ◌+◌, ◌^◌, List, [], ◌∷◌, ◌++◌, drop, length, take, Option, Some, None, refl, sym, ap, ◌∙◌, subst, arith}
+use Rattle.std.proofs.Common.{◌≡◌, ℕ, zero, suc, ◌+◌, ◌^◌, List, [], ◌∷◌, ◌++◌, drop, length, take, Option, Some, None, refl, sym, ap, ◌∙◌, subst, arith}
 use Rattle.sporc_session.proofs.Common.{Result, Err, IfErr, ⊤, first_of, EditorLine, Known, StartsWith, ToClient, Opening, PlainClient, replay_opening, Item, Past, items_of, SessionFault, Stand, Cause}
 use Rattle.sporc_session.proofs.Common.{SubmitGives, LineCause, Mode, EditorsDid, FirstPhase, IsSession, SecondPhase, SessionEnds, stops}
 use Rattle.lms_leaf.specs.declared.faults.LeafFault.TheVariants as leaves
@@ -43,13 +43,13 @@ module _ (past : Past) where
   line_names log start number mine (line ∷ lines) _ c = tt
 
   editors_name : (log : List Item) (start number : ℕ) (scripts : List (List EditorLine)) (ends : List (Option SessionFault)) (fault : SessionFault)
-      → EditorsDid log start number scripts ends → length ends ≡ length scripts → first_of ends ≡ Some fault → NamesAll past fault
-  editors_name log start number scripts [] fault did all is = absurd cc
-  editors_name log start number [] (end ∷ ends) fault did all is = absurd (omega (arith, all))
-  editors_name log start number (script ∷ scripts) (Some f ∷ ends) fault did all is =
+      → EditorsDid log start number scripts ends → first_of ends ≡ Some fault → NamesAll past fault
+  editors_name log start number scripts [] fault did is = absurd cc
+  editors_name log start number [] (end ∷ ends) fault did is = absurd (omega (arith, ap length did))
+  editors_name log start number (script ∷ scripts) (Some f ∷ ends) fault did is =
       let same : f ≡ fault = cc in
       subst (NamesAll past) same (line_names log start number _ (drop did.0.count script) f did.0.end)
-  editors_name log start number (script ∷ scripts) (None ∷ ends) fault did all is = editors_name log start (number + 1) scripts ends fault did.1 (omega (arith, all)) is
+  editors_name log start number (script ∷ scripts) (None ∷ ends) fault did is = editors_name log start (number + 1) scripts ends fault did.1 is
 
   second_names : (m b : Stand) (rounds until : ℕ) (result : Result ⊤ SessionFault) → StartsWith b.known.seen (items_of past) → SecondPhase m b rounds until result → IfErr result (NamesAll past)
   second_names m b rounds until result begins (stops s) = cause_names m b s.reached s.written s.answers s.words _ begins s.cause
@@ -66,7 +66,7 @@ module _ (past : Past) where
     by_editors : (ends : Option SessionFault) → first_of s.editors ≡ ends → s.receiver ≡ None → SessionEnds s.middle b rounds until ends result → IfErr result (NamesAll past)
     by_editors None is none e = second_names s.middle b rounds until result begins e
     by_editors (Some f) is none e =
-        ended_by f (⊎_elim (λ all. editors_name b.known.seen a.known.start 1 scripts s.editors f s.edited all is) (λ memory. absurd cc) s.started) e.0
+        ended_by f (editors_name b.known.seen a.known.start 1 scripts s.editors f s.edited is) e.0
 
     by_receiver : (receiver : Option SessionFault) → s.receiver ≡ receiver → FirstPhase a s.middle rounds receiver → SessionEnds s.middle b rounds until (first_of (receiver ∷ s.editors)) result
         → IfErr result (NamesAll past)

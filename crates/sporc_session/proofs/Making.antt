@@ -94,9 +94,7 @@ one_or_later log start number k here later = by (number == k) refl
 editors_so : (log : List Item) (start number k : ℕ) (scripts : List (List EditorLine)) (ends : List (Option SessionFault)) → number ≢ 0 → number ≤ k → k < number + length scripts
     → EditorsDid log start number scripts ends → All IsOfItsMaker (own by_of k start log)
 editors_so log start number k [] ends other low high d = absurd (omega (arith, low, high))
-editors_so log start number k (script ∷ scripts) [] other low high d =
-    one_or_later log start number k (subst (All IsOfItsMaker) (sym d.0) (All-nil IsOfItsMaker))
-    (λ differs. editors_so log start (number + 1) k scripts [] (λ e. absurd (omega (arith, e))) (omega (arith, low, differs)) (omega (arith, high)) d.1)
+editors_so log start number k (script ∷ scripts) [] other low high d = absurd d
 editors_so log start number k (script ∷ scripts) (end ∷ ends) other low high d =
     one_or_later log start number k (lines_so log start number [] (take d.0.count script) (own by_of number start log) other d.0.done)
     (λ differs. editors_so log start (number + 1) k scripts ends (λ e. absurd (omega (arith, e))) (omega (arith, low, differs)) (omega (arith, high)) d.1)

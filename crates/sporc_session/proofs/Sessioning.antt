@@ -20,31 +20,26 @@ own_none n m (item ∷ items) low all =
     let rest = filter (λ (x : Item). by_of x == n) items in
     ap (λ b. cond b (item ∷ rest) rest) (ne_eqb (by_of item) n other) ∙ own_none n m items low (All-tail (λ (x : Item). by_of x ≤ m) item items all)
 
-module _ (log : List Item) (start splits : ℕ) (numbers : All (λ item. by_of item ≤ splits) (drop start log)) where
-  none_did : (number : ℕ) (scripts : List (List EditorLine)) → splits < number → EditorsDid log start number scripts []
-  none_did number [] low = tt
-  none_did number (script ∷ scripts) low = (own_none number splits (drop start log) low numbers, none_did (number + 1) scripts (omega (arith, low)))
-
-  -- what each editor did stands in the log under its number
-  editors_did : (number : ℕ) (scripts : List (List EditorLine)) (ends : List (Option SessionFault)) (js : List (Joined Item)) → number + length js ≡ splits + 1
-      → All (λ j. own by_of j.number start log ≡ j.items) js → CrowdDid log start number scripts ends js → EditorsDid log start number scripts ends
-  editors_did number [] ends js count owns d = tt
-  editors_did number (script ∷ scripts) [] js count owns d = none_did number (script ∷ scripts) (omega (arith, count, ap length d))
-  editors_did number (script ∷ scripts) (end ∷ ends) [] count owns d = absurd d
-  editors_did number (script ∷ scripts) (end ∷ ends) (j ∷ js) count owns d =
-      let P : Joined Item → Type 0 = λ x. own by_of x.number start log ≡ x.items in
-      let is : j.items ≡ own by_of number start log = sym (All-head P j js owns) ∙ ap (λ n. own by_of n start log) d.0 in (
-        record {
-          count = d.1.count;
-          done = subst (AreLinesDone log start number [] (take d.1.count script)) is d.1.done;
-          end = subst (λ (m : List Item). LineEnd log start number m (drop d.1.count script) end) is d.1.ended;
-        },
-        editors_did (number + 1) scripts ends js (omega (arith, count)) (All-tail P j js owns) d.2,
-      )
+-- what each editor did stands in the log under its number
+editors_did : (log : List Item) (start number : ℕ) (scripts : List (List EditorLine)) (ends : List (Option SessionFault)) (js : List (Joined Item)) → All (λ j. own by_of j.number start log ≡ j.items) js
+    → CrowdDid log start number scripts ends js → EditorsDid log start number scripts ends
+editors_did log start number [] ends js owns d = d.0
+editors_did log start number (script ∷ scripts) [] js owns d = absurd d
+editors_did log start number (script ∷ scripts) (end ∷ ends) [] owns d = absurd d
+editors_did log start number (script ∷ scripts) (end ∷ ends) (j ∷ js) owns d =
+    let P : Joined Item → Type 0 = λ x. own by_of x.number start log ≡ x.items in
+    let is : j.items ≡ own by_of number start log = sym (All-head P j js owns) ∙ ap (λ n. own by_of n start log) d.0 in (
+      record {
+        count = d.1.count;
+        done = subst (AreLinesDone log start number [] (take d.1.count script)) is d.1.done;
+        end = subst (λ (m : List Item). LineEnd log start number m (drop d.1.count script) end) is d.1.ended;
+      },
+      editors_did log start (number + 1) scripts ends js (All-tail P j js owns) d.2,
+    )
 
 few_joined : (log : List Item) (start number : ℕ) (scripts : List (List EditorLine)) (ends : List (Option SessionFault)) (js : List (Joined Item)) → CrowdDid log start number scripts ends js → length js ≤ length scripts
 few_joined log start number [] ends js d = omega (arith, ap length d.1)
-few_joined log start number (script ∷ scripts) [] js d = omega (arith, ap length d)
+few_joined log start number (script ∷ scripts) [] js d = absurd d
 few_joined log start number (script ∷ scripts) (end ∷ ends) [] d = absurd d
 few_joined log start number (script ∷ scripts) (end ∷ ends) (j ∷ js) d = omega (arith, few_joined log start (number + 1) scripts ends js d.2)
 
@@ -107,8 +102,7 @@ module _ (a middle b : Stand) (rounds until : ℕ) (scripts : List (List EditorL
     receiver = receiver;
     editors = crowd.ends;
     first = crowd.phase;
-    edited = editors_did b.known.seen a.known.start b.known.splits numbers 1 scripts crowd.ends crowd.joined (omega (arith, splits_b)) owns did;
-    started = crowd.started;
+    edited = editors_did b.known.seen a.known.start 1 scripts crowd.ends crowd.joined owns did;
     ends = subst (λ f. SessionEnds middle b rounds until f result) (faults_same receiver) ends;
     past = allowed_b.past;
     log_is = allowed_b.log_is;

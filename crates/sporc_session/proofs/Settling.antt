@@ -1,5 +1,5 @@
 -- The client that a session leaves, if it is Ok or didn't settle.
-use Rattle.std.proofs.Common.{◌≡◌, ⊎_elim, ◌≤◌, ℕ, ◌+◌, true, false, List, [], ◌∷◌, length, drop, Option, Some, None, refl, sym, ap, ◌∙◌, subst, arith, nat_lt}
+use Rattle.std.proofs.Common.{◌≡◌, ◌≤◌, ℕ, ◌+◌, true, false, List, [], ◌∷◌, length, drop, Option, Some, None, refl, sym, ap, ◌∙◌, subst, arith, nat_lt}
 use Rattle.sporc_session.proofs.Common.{Result, Ok, Err, ⊤, ltb-false, take_all, first_of, EditorLine, PlainClient, Item, Past, client_of, items_of, SessionFault, Looked, Stand, Cause, LineCause}
 use Rattle.sporc_session.proofs.Common.{IsClientAt, is_unsettled, EditorsDid, FirstPhase, IsSession, Rounds, SecondPhase, SessionEnds, settles, doesnt_settle, stops}
 use Rattle.std.proofs.lemmas.Bool.{or_parts}
@@ -46,13 +46,13 @@ line_settles log start number mine [] pending at c = c
 line_settles log start number mine (line ∷ lines) pending at c = c
 
 editors_settle : (log : List Item) (start number : ℕ) (scripts : List (List EditorLine)) (ends : List (Option SessionFault)) (pending at : ℕ)
-    → EditorsDid log start number scripts ends → length ends ≡ length scripts → ¬ (first_of ends ≡ Some (faults.NotSettled pending at))
-editors_settle log start number scripts [] pending at did all is = absurd cc
-editors_settle log start number [] (end ∷ ends) pending at did all is = absurd (omega (arith, all))
-editors_settle log start number (script ∷ scripts) (Some f ∷ ends) pending at did all is =
+    → EditorsDid log start number scripts ends → ¬ (first_of ends ≡ Some (faults.NotSettled pending at))
+editors_settle log start number scripts [] pending at did is = absurd cc
+editors_settle log start number [] (end ∷ ends) pending at did is = absurd (omega (arith, ap length did))
+editors_settle log start number (script ∷ scripts) (Some f ∷ ends) pending at did is =
     let same : f ≡ faults.NotSettled pending at = cc in
     line_settles log start number _ (drop did.0.count script) pending at (subst (LineCause log start number _ (drop did.0.count script)) same did.0.end)
-editors_settle log start number (script ∷ scripts) (None ∷ ends) pending at did all is = editors_settle log start (number + 1) scripts ends pending at did.1 (omega (arith, all)) is
+editors_settle log start number (script ∷ scripts) (None ∷ ends) pending at did is = editors_settle log start (number + 1) scripts ends pending at did.1 is
 
 pub session_settled : (past : Past) (a b : Stand) (rounds until : ℕ) (scripts : List (List EditorLine)) → b.known.seen ≡ items_of past → IsSession a b rounds until scripts (Ok tt)
     → (length (client_of past).pending ≡ 0) × (until ≤ length (client_of past).entries)
@@ -71,7 +71,7 @@ session_unsettled past a b rounds until pending at scripts seen s = by_receiver 
     by_editors (Some f) is none e =
         let ends = e.0 in
         let same : f ≡ faults.NotSettled pending at = cc in
-        absurd (⊎_elim (λ all. editors_settle b.known.seen a.known.start 1 scripts s.editors pending at s.edited all (is ∙ ap Some same)) (λ memory. absurd cc) s.started)
+        absurd (editors_settle b.known.seen a.known.start 1 scripts s.editors pending at s.edited (is ∙ ap Some same))
 
     by_receiver : (receiver : Option SessionFault) → s.receiver ≡ receiver → FirstPhase a s.middle rounds receiver → SessionEnds s.middle b rounds until (first_of (receiver ∷ s.editors)) (Err (faults.NotSettled pending at))
         → Settled (client_of past) until (Err (faults.NotSettled pending at))

@@ -1,5 +1,5 @@
 -- What the receiver and the editors did in the first phase, once the editors were joined.
-use Rattle.std.specs.Prelude.{◌≡◌, ◌⊎◌, ℕ, ◌+◌, ◌<◌, ◌^◌, List, [], ◌∷◌, ◌++◌, length, take, drop}
+use Rattle.std.specs.Prelude.{◌≡◌, ℕ, ◌+◌, ◌<◌, ◌^◌, List, [], ◌∷◌, ◌++◌, length, take, drop}
 use Rattle.std.specs.Prelude.{Option, None, Some, Result, IfErr, ⊤}
 use Rattle.std.specs.Result.{result_err}
 use Rattle.sporc_base.specs.FirstFault.{first_of}
@@ -15,7 +15,6 @@ use Rattle.sporc_shared.specs.Items.{Item}
 use Rattle.sporc_shared.specs.Passes.{IsPassOf}
 use Rattle.sporc_session.specs.declared.crowd.Ends.{Ends}
 use Rattle.sporc_session.specs.declared.fault.SessionFault.{SessionFault}
-use Rattle.sporc_session.specs.declared.fault.SessionFault.TheVariants as faults
 use Rattle.sporc_session.specs.Traces.{CountsSame, Stand, stand_at}
 use Rattle.sporc_session.specs.Editing.{LinesDid}
 use Rattle.sporc_session.specs.Lines.{AreLinesDone, LineEnd}
@@ -30,15 +29,14 @@ pub record EditorPart (log : List Item) (start number : ℕ) (lines : List Edito
   pub done : AreLinesDone log start number [] (take count lines) items
   pub ended : LineEnd log start number items (drop count lines) end
 
--- each editor that was started was joined, the last one first
+-- each editor was joined, the last one first
 abbrev pub CrowdDid : List Item → ℕ → ℕ → List (List EditorLine) → List (Option SessionFault)
     → List (Joined Item) → Type 0
 CrowdDid log start number [] ends js = (ends ≡ []) × (js ≡ [])
-CrowdDid log start number (script ∷ scripts) [] js = js ≡ []
-CrowdDid log start number (script ∷ scripts) (end ∷ ends) [] = ⊥
 CrowdDid log start number (script ∷ scripts) (end ∷ ends) (j ∷ js) =
     (j.number ≡ number) × EditorPart log start number script j.items end
     × CrowdDid log start (number + 1) scripts ends js
+CrowdDid log start number (script ∷ scripts) _ _ = ⊥
 
 pub record IsCrowd (a b : Stand) (rounds : ℕ) (scripts : List (List EditorLine))
     (receiver fault : Option SessionFault) : Type 0 where
@@ -49,7 +47,6 @@ pub record IsCrowd (a b : Stand) (rounds : ℕ) (scripts : List (List EditorLine
   pub first : first_of ends ≡ fault
   pub joined_are : b.known.joined ≡ joined ++ a.known.joined
   pub splits_are : b.known.splits ≡ a.known.splits + length joined
-  pub started : (length ends ≡ length scripts) ⊎ (receiver ≡ Some faults.Memory)
 
 -- the receiver's thread took a pass of this client, and gives one back
 abbrev pub CrowdEnds : {D : Type 0} → SharedClient D → Pass Item → Pass Item → Use StreamTold

@@ -1,6 +1,7 @@
 -- What the steps of an editor come to.
-use Rattle.std.specs.Prelude.{◌≡◌, ◌≤◌, ◌^◌, ℕ, ◌+◌, List, [], ◌∷◌, ◌++◌, length, take, drop}
+use Rattle.std.specs.Prelude.{◌≡◌, ◌≤◌, ℕ, ◌+◌, List, [], ◌∷◌, ◌++◌, length, take, drop}
 use Rattle.std.specs.Prelude.{Option, Result, Ok, Err, MatchResult, ⊤}
+use Rattle.sporc_delta.specs.declared.limits.TheConstants.{MAX_COUNT}
 use Rattle.sporc_delta.specs.Marks.{Mark}
 use Rattle.sporc_script.specs.declared.editor_line.EditorLine.{EditorLine}
 use Rattle.sporc_turn.specs.declared.known.Known.{Known}
@@ -40,7 +41,7 @@ pub record IsAtFront (k : Known Item) (events len : ℕ) : Type 0 where
   pub events_are : events ≡ length past.log
   pub len_is : len ≡ length (shown_of (client_of past))
   pub front_is : len ≡ length (shown_after events (client_of past))
-  pub short : len ≤ 2 ^ 36
+  pub short : len ≤ MAX_COUNT
 
 -- it made an edit that is stated at a front, or why not
 abbrev pub StatedDid : Known Item → Known Item → ℕ → ℕ → List Mark → Result ⊤ SessionFault → Type 0

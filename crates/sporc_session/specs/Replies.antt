@@ -58,18 +58,9 @@ checked_of refusal false = Ok tt
 -- the fault of a session in which an editor's line isn't done
 abbrev pub edited_of : ℕ → ℕ → Result ℕ EditFault → Result ⊤ SessionFault
 edited_of editor line (Ok n) = Ok tt
-edited_of editor line (Err edits.Removed) = Err (faults.EditRefused editor line edits.Removed)
-edited_of editor line (Err edits.NoRight) = Err (faults.EditRefused editor line edits.NoRight)
-edited_of editor line (Err (edits.SeenAhead len)) =
-    Err (faults.EditRefused editor line (edits.SeenAhead len))
-edited_of editor line (Err edits.WrongLength) =
-    Err (faults.EditRefused editor line edits.WrongLength)
-edited_of editor line (Err (edits.TooLong len)) =
-    Err (faults.EditRefused editor line (edits.TooLong len))
-edited_of editor line (Err edits.PendingFull) =
-    Err (faults.EditRefused editor line edits.PendingFull)
 edited_of editor line (Err edits.JournalFull) = Err faults.JournalFull
 edited_of editor line (Err edits.Memory) = Err faults.Memory
+edited_of editor line (Err fault) = Err (faults.EditRefused editor line fault)
 
 -- the fault of a session in which the next frame, which begins at this place, is no message
 abbrev pub unread_fault : ℕ → FrameFault → SessionFault

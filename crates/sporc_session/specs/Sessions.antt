@@ -1,5 +1,5 @@
 -- What a session is.
-use Rattle.std.specs.Prelude.{◌≡◌, ◌⊎◌, ℕ, ◌+◌, ◌≤◌, List, [], ◌∷◌, ◌++◌, length, drop, All, Option}
+use Rattle.std.specs.Prelude.{◌≡◌, ℕ, ◌+◌, ◌≤◌, List, [], ◌∷◌, ◌++◌, length, drop, All, Option}
 use Rattle.std.specs.Prelude.{None, Some, Result, Ok, Err, ⊤, true, false}
 use Rattle.sporc_base.specs.FirstFault.{first_of}
 use Rattle.sporc_outside.specs.Chances.{ChanceTold}
@@ -7,7 +7,6 @@ use Rattle.sporc_outside.specs.Streams.{StreamTold}
 use Rattle.sporc_outside.specs.Uses.{Use}
 use Rattle.sporc_script.specs.declared.editor_line.EditorLine.{EditorLine}
 use Rattle.sporc_turn.specs.declared.pass.Pass.{Pass}
-use Rattle.sporc_turn.specs.Log.{own}
 use Rattle.sporc_client.specs.PlainClient.{PlainClient}
 use Rattle.sporc_shared.specs.Calls.{IsLegal}
 use Rattle.sporc_shared.specs.Items.{Item, Past, by_of, items_of}
@@ -42,12 +41,11 @@ pub data SecondPhase (a b : Stand) (rounds until : ℕ) : Result ⊤ SessionFaul
   stops : {fault : SessionFault} → Stopped (is_unsettled until) a b (Between 0) rounds fault
       → SecondPhase a b rounds until (Err fault)
 
--- what each editor did, from this number on; those beyond the list of faults weren't started
+-- what each editor did, from this number on
 abbrev pub EditorsDid : List Item → ℕ → ℕ → List (List EditorLine)
     → List (Option SessionFault) → Type 0
-EditorsDid log start number [] ends = ⊤
-EditorsDid log start number (script ∷ scripts) [] =
-    (own by_of number start log ≡ []) × EditorsDid log start (number + 1) scripts []
+EditorsDid log start number [] ends = ends ≡ []
+EditorsDid log start number (script ∷ scripts) [] = ⊥
 EditorsDid log start number (script ∷ scripts) (end ∷ ends) =
     EditorDid log start number script end × EditorsDid log start (number + 1) scripts ends
 
@@ -66,8 +64,6 @@ pub record IsSession (a b : Stand) (rounds until : ℕ) (scripts : List (List Ed
   pub editors : List (Option SessionFault)
   pub first : FirstPhase a middle rounds receiver
   pub edited : EditorsDid b.known.seen a.known.start 1 scripts editors
-  -- an editor wasn't started only if memory ran out
-  pub started : (length editors ≡ length scripts) ⊎ (receiver ≡ Some faults.Memory)
   pub ends : SessionEnds middle b rounds until (first_of (receiver ∷ editors)) result
   -- the log is legal, and has no other items than those of the receiver and of the editors; after
   -- the first phase, only the receiver's

@@ -67,13 +67,7 @@ pub(crate) fn crowd<
     };
     let (first, second) = match context.shared.split(first) {
         Ok(both) => both,
-        Err((first, _)) => {
-            let ends = Ends {
-                receiver: Err(SessionFault::Memory),
-                editors: Ok(()),
-            };
-            return (ends, first);
-        }
+        Err(_) => unreachable!(),
     };
     let mut first = Some(first);
     let mut second = Some(second);
@@ -86,15 +80,8 @@ pub(crate) fn crowd<
                 (use_of L.told link.entry.now link.exit.now) inbox.entry.now inbox.exit.now
                 (use_of C.told chance.entry.now chance.exit.now) rounds others.entry.now result.0) }
         {
-            crowd(
-                context,
-                link,
-                inbox,
-                chance,
-                first.take().unwrap(),
-                rounds,
-                others,
-            )
+            let pass = first.take().unwrap();
+            crowd(context, link, inbox, chance, pass, rounds, others)
         },
         &mut || -> WithPass<()>
             requires { IsOther context.now.shared.now second }

@@ -1,11 +1,12 @@
 //! An editor's lines.
 
-ghost use Rattle.std.specs.Prelude.{◌≡◌, ◌-◌, ◌≤◌, ◌^◌, min, [], IfErr, IfOk};
+ghost use Rattle.std.specs.Prelude.{◌≡◌, ◌-◌, ◌≤◌, min, [], IfErr, IfOk};
 ghost use Rattle.std.specs.Result.{result_err};
 ghost use Rattle.sporc_member.specs.declared.change.Change.TheVariants.{Add, SetRole, AddDevice};
 ghost use Rattle.sporc_member.specs.declared.change.Change.TheVariants.{DropDevice};
 ghost use Rattle.sporc_script.specs.declared.editor_line.EditorCommand.TheVariants as commands;
 ghost use Rattle.sporc_turn.specs.Passes.{known_of};
+ghost use Rattle.sporc_delta.specs.declared.limits.TheConstants.{MAX_COUNT};
 ghost use Rattle.sporc_delta.specs.Marks.{base_len, insertion, removal};
 ghost use Rattle.sporc_shared.specs.Passes.{IsPassOf};
 ghost use Rattle.sporc_session.specs.Traces.{CountsSame, KnowsMore};
@@ -107,7 +108,7 @@ fn edit_at<R: Wait, D: LeafDisk, G>(
 // The delta of an insertion into a text of this length. No memory holds one of more than MAX_COUNT
 // bytes.
 fn inserted(alloc: Global, len: u64, asked: &Insertion) -> Result<Delta, Memory>
-    requires { len ≤ 2 ^ 36 }
+    requires { len ≤ MAX_COUNT }
     ensures ok { IfOk result
         (λ delta. delta ≡ insertion len (min asked.now.at len) asked.now.text) }
 {
@@ -122,7 +123,7 @@ fn inserted(alloc: Global, len: u64, asked: &Insertion) -> Result<Delta, Memory>
 
 // The delta of a removal from a text of this length.
 fn removed(alloc: Global, len: u64, asked: &Removal) -> Result<Delta, Memory>
-    requires { len ≤ 2 ^ 36 }
+    requires { len ≤ MAX_COUNT }
     ensures ok { IfOk result (λ delta. delta
         ≡ removal len (min asked.now.at len) (min asked.now.count (len - min asked.now.at len))) }
 {

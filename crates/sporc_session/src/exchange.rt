@@ -1,7 +1,8 @@
 //! Messages and their answers.
 
-ghost use Rattle.std.specs.Prelude.{◌≡◌, ◌≢◌, ◌≤◌, ◌<◌, ◌^◌, List, ℕ, length, IfErr, IfNone, IfOk};
+ghost use Rattle.std.specs.Prelude.{◌≡◌, ◌≢◌, ◌≤◌, ◌<◌, List, ℕ, length, IfErr, IfNone, IfOk};
 ghost use Rattle.std.specs.Prelude.{IfSome, Ok};
+ghost use Rattle.sporc_head.specs.declared.limits.TheConstants.{MAX_ENTRIES};
 ghost use Rattle.sporc_wire.specs.declared.cutter.TheConstants.{MAX_BODY};
 ghost use Rattle.sporc_wire.specs.declared.to_server.ToServer.{ToServer};
 ghost use Rattle.sporc_wire.specs.declared.to_server.ToServer.TheVariants as to_server;
@@ -140,7 +141,7 @@ fn ask<L: Link, M: Sent>(
 
 // The entries of an answer to a Pull, if it is one.
 fn entries_of(alloc: Global, from: u32, answer: ToClient) -> Option<Entries>
-    requires { from < 2 ^ 31 }
+    requires { from ≤ MAX_ENTRIES }
     ensures some { IfSome result (λ es. answer ≡ handed_out from es) }
     ensures none { IfNone result ((came : List (List ℕ)) → answer ≢ handed_out from came) }
 {
@@ -164,7 +165,7 @@ pub(crate) fn pull<L: Link>(
     inbox: &mut Inbox,
     from: u32,
 ) -> Result<Entries, SessionFault>
-    requires { from < 2 ^ 31 }
+    requires { from ≤ MAX_ENTRIES }
     ensures pulled { PullEnds
         (link_at (L.told link.old) inbox.old) (link_at (L.told link.new) inbox.new)
         from result }

@@ -3,6 +3,7 @@
 use lms_leaf::LeafFault;
 use sporc_client::EditFault;
 use sporc_head::Refusal;
+use std::alloc::AllocError;
 use thiserror::Error;
 
 /// Why a session ended.
@@ -45,18 +46,19 @@ pub enum SessionFault {
     /// The link ended after so many bytes, before an answer was whole.
     #[error("the link ended after {0} bytes")]
     LinkEnded(u64),
-    /// A call ran out of memory, or an editor's pass could not be split.
+    /// A call ran out of memory, or an editor's line inserts more than
+    /// [`MAX_COUNT`](sporc_delta::MAX_COUNT) bytes.
     #[error("out of memory")]
     Memory,
 }
 
-impl From<sporc_base::Memory> for SessionFault {
+impl From<AllocError> for SessionFault {
     ghost use Rattle.std.specs.Prelude.{◌≡◌};
     ghost use Rattle.sporc_session.specs.declared.fault.SessionFault.TheVariants as faults;
 
     ghost from_gives = { λ _ fault. fault ≡ faults.Memory };
 
-    fn from(_: sporc_base::Memory) -> SessionFault {
+    fn from(_: AllocError) -> SessionFault {
         SessionFault::Memory
     }
 }

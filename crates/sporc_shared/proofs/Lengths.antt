@@ -1,9 +1,11 @@
 -- The shown text of a client is short, since each of its edits is.
-use Rattle.std.proofs.Common.{◌≡◌, ℕ, ◌*◌, ◌^◌, ◌≤◌, Bool, true, false, cond, List, [], ◌∷◌, length, drop, arith}
+use Rattle.std.proofs.Common.{◌≡◌, ℕ, ◌*◌, ◌≤◌, Bool, true, false, cond, List, [], ◌∷◌, length, drop, arith}
 use Rattle.sporc_shared.proofs.Common.{change_in, Logged, Edit, Change, Submit, Dropped, Accept, Discard, Opening, PlainClient, committed_of, opened, shown_of}
 use Rattle.std.proofs.lemmas.Bool.{and_parts}
 use Rattle.std.proofs.Math.Nat.{mul-le-mul_left}
 use Rattle.std.specs.Option.{is_some}
+use Rattle.sporc_delta.specs.declared.limits.TheConstants.{MAX_COUNT}
+use Rattle.sporc_line.specs.declared.limits.TheConstants.{MAX_COMMITTED_LEN}
 use Rattle.sporc_line.proofs.FormLengths.{inserted_len-over}
 use Rattle.sporc_client.specs.declared.limits.TheConstants.{MAX_EDIT_BYTES, MAX_PENDING}
 use Rattle.sporc_client.specs.Allowed.{can_log, can_log_all, is_allowed}
@@ -42,8 +44,8 @@ short_replay : (opening : Opening) (log : List Logged) → is_allowed opening lo
 unfolding replay is_allowed
 short_replay opening log may = short_from (opened opening) log tt may
 
-pub shown_short : (opening : Opening) (log : List Logged) → is_allowed opening log ≡ true → IsSound (replay opening log) → length (committed_of (replay opening log)) ≤ 2 ^ 35
-    → length (replay opening log).pending ≤ MAX_PENDING → length (shown_of (replay opening log)) ≤ 2 ^ 36
+pub shown_short : (opening : Opening) (log : List Logged) → is_allowed opening log ≡ true → IsSound (replay opening log) → length (committed_of (replay opening log)) ≤ MAX_COMMITTED_LEN
+    → length (replay opening log).pending ≤ MAX_PENDING → length (shown_of (replay opening log)) ≤ MAX_COUNT
 shown_short opening log may sound committed few =
     let pending = (replay opening log).pending in
     let bytes : MAX_EDIT_BYTES * length pending ≤ MAX_EDIT_BYTES * MAX_PENDING = mul-le-mul_left MAX_EDIT_BYTES few in

@@ -1,5 +1,6 @@
 -- A client at a glance, whose it is, and the key for an entry.
-use Rattle.std.specs.Prelude.{◌≡◌, ◌≤◌, ◌^◌, ℕ, List, Option, length}
+use Rattle.std.specs.Prelude.{◌≡◌, ◌≤◌, ℕ, List, Option, length}
+use Rattle.sporc_delta.specs.declared.limits.TheConstants.{MAX_COUNT}
 use Rattle.sporc_head.specs.declared.limits.TheConstants.{MAX_ENTRIES}
 use Rattle.sporc_head.specs.Examined.{key_for}
 use Rattle.sporc_head.specs.History.{hash_of, roster_of}
@@ -17,7 +18,7 @@ pub record IsLookAt (past : Past) (look : Look) : Type 0 where
   pub len : look.len ≡ length (shown_of (client_of past))
   -- and so long is the text on which an edit is stated that names the front after all events
   pub front : look.len ≡ length (shown_after (length past.log) (client_of past))
-  pub short : look.len ≤ 2 ^ 36
+  pub short : look.len ≤ MAX_COUNT
   pub hash : look.hash ≡ hash_of past.opening.genesis (client_of past).entries
   pub removed : look.removed ≡ is_out (client_of past)
 

@@ -1,6 +1,7 @@
 //! Clients at a glance.
 
-ghost use Rattle.std.specs.Prelude.{◌≡◌, ◌≤◌, ◌^◌, length};
+ghost use Rattle.std.specs.Prelude.{◌≡◌, ◌≤◌, length};
+ghost use Rattle.sporc_delta.specs.declared.limits.TheConstants.{MAX_COUNT};
 ghost use Rattle.sporc_client.specs.ClientModel.{state_of};
 ghost use Rattle.sporc_client.specs.PlainClient.{shown_after, shown_of};
 ghost use Rattle.sporc_shared.specs.Items.{past_of};
@@ -22,7 +23,7 @@ pub struct Look {
     pub len: u64,
     /// The last value of the history's chain.
     pub hash: Digest32,
-    /// Whether a change removed the member.
+    /// Whether a change removed the member, or dropped the device.
     pub removed: bool,
 }
 
@@ -45,7 +46,7 @@ pub(crate) fn look_at<D: LeafDisk>(client: &Client<D>) -> Look
 fn shown_len<D: LeafDisk>(client: &Client<D>) -> u64
     ensures value { result ≡ length (shown_of (state_of client.now)) }
     ensures front { result ≡ length (shown_after (length client.now.log) (state_of client.now)) }
-    ensures within { result ≤ 2 ^ 36 }
+    ensures within { result ≤ MAX_COUNT }
 {
     let _committed = client.committed_len();
     let _pending = client.pending();

@@ -1,6 +1,6 @@
 //! Clients that threads share.
 
-ghost use Rattle.std.specs.Prelude.{◌≡◌, ◌≢◌, ◌+◌, ◌<◌, ◌≤◌, ◌^◌, max, Err, IfErr, IfOk};
+ghost use Rattle.std.specs.Prelude.{◌≡◌, ◌≢◌, ◌+◌, ◌<◌, ◌≤◌, ◌^◌, max, Err, IfErr, IfOk, IsOk};
 ghost use Rattle.sporc_client.specs.Answers.{accept_fault, change_fault, edit_fault};
 ghost use Rattle.sporc_client.specs.ClientModel.{Rise, leaves_of};
 ghost use Rattle.sporc_client.specs.Log.{Accept as Accepted, Change as Changed, Edit as Edited};
@@ -269,11 +269,12 @@ impl<D: LeafDisk> SharedClient<D> {
     }
 
     /// Number 0 and a new pass, whose number is one more than the last one's. It has seen as much,
-    /// and has no events of its own.
+    /// and has no events of its own. A split takes no memory, so it never fails.
     pub fn split(&self, pass: Pass) -> Result<(Pass, Pass), (Pass, Memory)>
         requires lock { IsPassOf self.now pass }
         requires first { (known_of pass).number ≡ 0 }
         requires limit { (known_of pass).splits + 1 < 2 ^ 32 }
+        ensures ok { IsOk result }
         ensures lock { IfOk result (λ r. IsPassOf self.now r.0 × IsPassOf self.now r.1) }
         ensures old { IfOk result (λ r. known_of r.0 ≡ splitting (known_of pass)) }
         ensures new { IfOk result (λ r. known_of r.1 ≡ copied (known_of pass)) }

@@ -159,27 +159,17 @@ fn append_beside<R: Threads + Wait + Sync, G: Gate + Sync, H: History>(
     let rt = workers.rt;
     let alloc = workers.alloc;
     let gate = workers.gate;
-    let workers = workers.count;
-    let behind = (before + block.len()) as u32;
-    let share = first_share(block.len(), count, workers);
+    let helpers = workers.count - 1;
+    let share = first_share(block.len(), count, workers.count);
+    let behind = (before + block.len() + share) as u32;
     let (own, others) = rest[..count].split_at(share);
     let (found, appended) = join_mut(
         rt,
         &mut || -> Result<Vec<Option<Verdict>>, Memory>
-            requires { IsSync R.row × IsSync G.row × (1 ≤ workers) × (workers ≤ MAX_WORKERS)
-                × (behind + share + length others.now < 2 ^ 32) }
+            requires { IsSync R.row × IsSync G.row × (2 + helpers < 2 ^ 32)
+                × (behind + length others.now < 2 ^ 32) }
             ensures { IfOk result (λ verdicts. AreExact verdicts.items others.entry.now) }
-        {
-            examine_by(
-                rt,
-                alloc,
-                gate,
-                2,
-                workers - 1,
-                behind + share as u32,
-                others,
-            )
-        },
+        { examine_by(rt, alloc, gate, 2, helpers, behind, others) },
         &mut || -> Result<Appended, Memory>
             requires { IsSync R.row × IsSync G.row × (length (H.entries history.now) ≡ before)
                 × (before + length block.now + length own.now < 2 ^ 32) }

@@ -1,6 +1,6 @@
 //! Why a history isn't saved.
 
-use std::alloc::{AllocError, AllocFailed};
+use std::alloc::AllocError;
 use thiserror::Error;
 
 /// Why a history isn't saved.
@@ -21,17 +21,6 @@ impl From<AllocError> for SaveFault {
     ghost from_gives = { λ _ e. e ≡ faults.Memory };
 
     fn from(_: AllocError) -> SaveFault {
-        SaveFault::Memory
-    }
-}
-
-impl<T: Drop> From<AllocFailed<T>> for SaveFault {
-    ghost use Rattle.std.specs.Prelude.{◌≡◌};
-    ghost use Rattle.sporc_store.specs.declared.fault.SaveFault.TheVariants as faults;
-
-    ghost from_gives = { λ _ e. e ≡ faults.Memory };
-
-    fn from(_: AllocFailed<T>) -> SaveFault {
         SaveFault::Memory
     }
 }

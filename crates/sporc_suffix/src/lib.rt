@@ -15,9 +15,8 @@
 //!
 //! Proved: `later_over` gives the delta passed over each form after `from`, in order, in at most
 //! two steps for each binary digit of their number; forms follow one another, each over the text
-//! after the one before. Only tested: deltas behind forms of several numbers and places, as each
-//! form would be passed, and that memory suffices if there is ample. Neither: how long a call
-//! takes, and how many bytes the compositions have.
+//! after the one before. Only tested: that memory suffices if there is ample. Neither: how long a
+//! call takes, and how many bytes the compositions have.
 #![tactic(auto)]
 
 mod blocks;

@@ -1,8 +1,9 @@
 -- Lists of chunks.
 use Rattle.std.proofs.Common.{◌≡◌, ℕ, zero, suc, ◌+◌, ◌-◌, ◌*◌, ◌<◌, ◌≤◌, List, [], ◌∷◌, ◌++◌, length, take, drop, get_or, set, refl, ap, sym, ◌∙◌, append_assoc, append-nil, add-one, arith}
 use Rattle.std.proofs.Common.{length-append, inl, inr}
+use Rattle.std.proofs.Math.Seq.{drop-append-add}
 use Rattle.std.proofs.lemmas.List.Folds.{concat-append}
-use Rattle.sporc_text.proofs.Common.{get_or_default, take-append-drop, cases_lt, concat, MAX_CHUNK, MAX_JOINED, MEAN_CHUNK, AreChunks, Joins}
+use Rattle.sporc_text.proofs.Common.{get_or_default, take-append-drop, cases_lt, concat, MAX_CHUNK, MAX_JOINED, MEAN_CHUNK, AreChunks, IsAt, Joins}
 
 -- chunks are few, and not too few
 pub few_chunks : (cs : List (List ℕ)) → AreChunks cs → MEAN_CHUNK * length cs ≤ length (concat cs) + MEAN_CHUNK
@@ -47,6 +48,22 @@ chunks-set cs i c h l some most front back = absurd (omega arith)
 
 pub concat-at : (cs : List (List ℕ)) (i : ℕ) → concat cs ≡ concat (take i cs) ++ concat (drop i cs)
 concat-at cs i = ap concat (sym (take-append-drop i cs)) ∙ concat-append (take i cs) (drop i cs)
+
+-- behind a place, from the chunk on in which it stands
+pub record IsBehind (text : List ℕ) (place : ℕ) (rest : List ℕ) (offset : ℕ) : Type 0 where
+  pub behind : drop offset rest ≡ drop place text
+  pub len : length rest + place ≡ length text + offset
+  pub within : offset ≤ place
+
+pub behind_at : (cs rest : List (List ℕ)) (place i offset : ℕ) → IsAt cs place i offset → rest ≡ drop i cs → IsBehind (concat cs) place (concat rest) offset
+behind_at cs rest place i offset at is =
+    let front = concat (take i cs) in
+    let text : concat cs ≡ front ++ concat rest = concat-at cs i ∙ ap (λ (l : List (List ℕ)). front ++ concat l) (sym is) in
+    record {
+      behind = sym (ap (λ (t : List ℕ). drop place t) text ∙ ap (λ (k : ℕ). drop k (front ++ concat rest)) (sym at.before) ∙ drop-append-add front (concat rest) offset);
+      len = omega (arith, at.before, ap length text, length-append front (concat rest));
+      within = omega (arith, at.before);
+    }
 
 pub concat-drop : (cs : List (List ℕ)) (i : ℕ) → concat (drop i cs) ≡ get_or cs i [] ++ concat (drop (suc i) cs)
 concat-drop [] zero = refl

@@ -40,6 +40,12 @@ pub record IsEditedTo (parts : List Part) (i : ℕ) (text : List ℕ) (at : ℕ)
 pub edit_begins : (parts : List Part) (text : List ℕ) (at : ℕ) (out : List ℕ) → at + base_len (marks_of parts) ≤ length text → IsEditedTo parts 0 text at out (out ++ apply (marks_of parts) (drop at text))
 edit_begins parts text at out fits = record { reads = fits; writes = refl }
 
+-- and so with the same characters behind a place of another text
+pub edit_moves_on : (parts : List Part) (i : ℕ) (text : List ℕ) (at : ℕ) (rest : List ℕ) (offset : ℕ) (out whole : List ℕ) → IsEditedTo parts i text at out whole → drop offset rest ≡ drop at text
+    → length rest + at ≡ length text + offset → IsEditedTo parts i rest offset out whole
+edit_moves_on parts i text at rest offset out whole h same len =
+    record { reads = omega (arith, h.reads, len); writes = ap (λ (t : List ℕ). out ++ apply (marks_of (drop i parts)) t) same ∙ h.writes }
+
 -- the characters behind the last change are kept
 apply-last : (ms : List Mark) (n : ℕ) (s : List ℕ) → base_len ms + n ≡ length s → apply (ms ++ keep_marks n) s ≡ apply ms s ++ drop (base_len ms) s
 apply-last [] zero [] h = refl

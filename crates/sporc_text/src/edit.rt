@@ -8,6 +8,7 @@ ghost use Rattle.sporc_delta.specs.Parts.{marks_of};
 ghost use Rattle.sporc_text.specs.Edit.{IsBetween, characters_read, characters_written};
 
 use crate::chunk::{Chunk, cut};
+use crate::chunks::find;
 use sporc_base::Memory;
 use sporc_delta::{Delta, Part, Text};
 
@@ -54,11 +55,27 @@ pub(crate) fn edited(
         ≡ before.items ++ apply (marks_of parts.now) (drop from (concat chunks.now))) }
 {
     let mut out = before;
+    let mut rest = chunks;
     let mut at = from;
     for part in parts {
-        at = edit_part(&mut out, chunks, at, part)?;
+        let (others, offset) = from_place(rest, at);
+        at = edit_part(&mut out, others, offset, part)?;
+        rest = others;
     }
     Ok(out)
+}
+
+// The chunks from the first that reaches to a place on, and how many characters they have in front
+// of the place.
+fn from_place(chunks: &[Chunk], place: usize) -> (&[Chunk], usize)
+    requires { place ≤ length (concat chunks.now) }
+    ensures behind { drop result.1 (concat result.0.now) ≡ drop place (concat chunks.now) }
+    ensures len { length (concat result.0.now) + place ≡ length (concat chunks.now) + result.1 }
+    ensures within { result.1 ≤ place }
+{
+    let (i, offset) = find(chunks, place);
+    let (_, others) = chunks.split_at(i);
+    (others, offset)
 }
 
 // Appends what one part makes of the characters from a place on, and says where the next part
@@ -91,6 +108,9 @@ fn push_kept(out: &mut Vec<char>, chunks: &[Chunk], from: usize, count: usize) -
     let mut skipped = from;
     let mut left = count;
     for chunk in chunks {
+        if left == 0 {
+            break;
+        }
         let (_, behind) = cut(chunk.characters(), skipped);
         let (wanted, _) = cut(behind, left);
         out.extend_from_slice(wanted)?;

@@ -18,6 +18,7 @@ pub use Rattle.std.proofs.lemmas.Slice.Eq.{bytes_eq-Decides}
 pub use Rattle.std.specs.Bool.{⊤}
 pub use Rattle.std.specs.List.{AllByRecursion, after_first, before_first}
 pub use Rattle.std.specs.Str.{bytes_eq}
+pub use Rattle.sporc_bytes.specs.Fields.{fault_as}
 pub use Rattle.sporc_outside.specs.Files.{ChangesFile, HasNoFile, IsDiskOf, RemovesFile, TakesBack, TakesFile, file_in, made_in, with_file}
 pub use Rattle.sporc_outside.specs.Folders.{FolderTold}
 pub use Rattle.sporc_outside.specs.LeafDisk.{DiskTold, IsDiskFound, disk_images}
@@ -31,5 +32,5 @@ pub use Rattle.sporc_top.specs.LeafFiles.{AreProgramRuns, FindsLeafFile, GoesOnO
 pub use Rattle.sporc_top.specs.LeafFiles.{by_outcome, file_at, if_over, leaf_name, life_of, over_its_disk, over_leaf_file, signed_over}
 pub use Rattle.sporc_top.specs.Needs.{needs_by, needs_of}
 pub use Rattle.sporc_top.specs.Outcome.{Ends, RunOutcome, UnlessCutOff, command, done, no_command, stopped, unread}
-pub use Rattle.sporc_top.specs.Performing.{GeneratedOutcome, Performs, PlaysEdits, PlaysSource, ServesDocument, ServesDocuments, WorksAsMember, as_program, fault_of_play, names_of, no_files}
+pub use Rattle.sporc_top.specs.Performing.{GeneratedOutcome, Performs, PlaysEdits, PlaysSource, ServesDocument, ServesDocuments, WorksAsMember, fault_of_play, names_of, no_files}
 pub use Rattle.sporc_top.specs.Uses.{IsUnused, OutsideUse, client_use}

@@ -1,5 +1,5 @@
 -- What each command of the program leaves of a leaf file.
-use Rattle.std.proofs.Common.{◌≡◌, ◌⊎◌, inl, inr, ℕ, List, [], ◌∷◌, Bool, true, false, Option, Some, None, IsSome, option_map, Result, Ok, Err, refl, ap, sym, subst, ◌∙◌}
+use Rattle.std.proofs.Common.{◌≡◌, ◌⊎◌, inl, inr, ℕ, ◌+◌, List, [], ◌∷◌, Bool, true, false, Option, Some, None, IsSome, option_map, Result, Ok, Err, refl, ap, sym, subst, ◌∙◌}
 use Rattle.sporc_top.proofs.Common.{⊤, AllByRecursion, ChangesFile, HasNoFile, IsDiskOf, with_file, NamedFile, StreamTold, DiskTold, Device, Client, Command, Keygen, Fault, FileNames}
 use Rattle.sporc_top.proofs.Common.{file_name, names_of_document, FoundOutcome, IsStoreFault, founding_files, by_command, file_at, if_over, leaf_name, over_its_disk, Performs, OutsideUse, client_use}
 use Rattle.sporc_top.proofs.Common.{bytes_eq, bytes_eq-Decides, Use, FolderTold, key_file_bytes, Found, StoresFirst, StoresPrefix, file_with, ClientRun, needs_of}
@@ -15,7 +15,7 @@ use Rattle.sporc_files.specs.declared.fault.Fault.TheVariants as faults
 use Rattle.sporc_files.specs.declared.file.File.{File}
 use Rattle.sporc_files.specs.declared.file.File.TheVariants as files
 use Rattle.sporc_commands.specs.KeyMaking.{IsFilesFault, IsThere, KeygenOutcome, Makes, StoresKey, StoresKeyFile, key_files}
-use Rattle.sporc_docs.specs.Hands.{Both}
+use Rattle.std.specs.List.{AllZip}
 use Rattle.sporc_hosting.specs.Moments.{Moment, at_end, folder_between, sink_between}
 use Rattle.sporc_hosting.specs.Outcomes.{IsRound, KeepsLog, ServeOutcome}
 use Rattle.sporc_hosting.specs.Rounds.{GoWell, Round, Standing}
@@ -24,9 +24,9 @@ use Rattle.sporc_hosting.specs.Hosting.{GivesAllBack, IsRoundOfAll, ServeAllOutc
 use Rattle.sporc_hosting.specs.Loading.{ChangesTails, IsNoTail, with_tail_made, with_tails_made}
 use Rattle.sporc_hosting.specs.OpenLogModel.{OpenLogModel}
 use Rattle.sporc_hosting.specs.Saving.{KeepsLogs}
-use Rattle.sporc_clients.specs.Concluding.{FilesUse, SaveOutcome}
+use Rattle.sporc_clients.specs.Concluding.{SaveOutcome}
 use Rattle.sporc_clients.specs.declared.member_files.MemberFiles.{MemberFiles}
-use Rattle.sporc_clients.specs.Outcome.{ClientOutcome, ClientUse, DiskOutcome, files_of, names_of, no_disk, no_member, not_worked, over_disk, with_folder, worked}
+use Rattle.sporc_clients.specs.Outcome.{ClientOutcome, ClientUse, DiskOutcome, names_of, no_disk, no_member, not_worked, over_disk, with_folder, worked}
 use Rattle.sporc_top.proofs.LeafFiles.{Keeps, kept_back, kept_changes, kept_first, kept_made, kept_prefix, kept_removed, kept_stores, kept_taken, kept_with, not_genesis, not_history, not_key, not_log, not_tail, own_back, own_is, own_tells, rings_others, told_by}
 
 -- ---- told files stay told
@@ -99,16 +99,16 @@ module _ (document : List ℕ) (device : Device) where
   there_kept names key before after (files.Leaf m) there = key_file_kept names key before after there.2
   there_kept names key before after file never = absurd never
 
-  keys_by_fault : (words : Keygen) (key : NewKey) (before after : Option (List NamedFile)) (low high : ℕ) → key.file.device ≡ words.device → IsSome before
-      → (fault : Fault) → IsFilesFault (names_of_document words.name) key before after low high fault → KeysLeave words before after (Err fault)
-  keys_by_fault words key before after low high same told faults.Memory (inl is) = inl (ap (file_at name) is)
-  keys_by_fault words key before after low high same told faults.Memory (inr stores) = inl (key_file_kept (names_of_document words.name) key before after stores)
-  keys_by_fault words key before after low high same told faults.Outside (rose, inl changes) =
-      inl (kept_changes name before after _ told (not_key (names_of_document words.name) document device key.file.device) changes)
-  keys_by_fault words key before after low high same told faults.Outside (rose, inr (between, stores, changes)) =
-      keys_failed words key before after (Err faults.Outside) same between told refl stores changes
-  keys_by_fault words key before after low high same told (faults.Exists f) there = inl (there_kept (names_of_document words.name) key before after f there)
-  keys_by_fault words key before after low high same told fault never = absurd never
+  keys_by_fault : (words : Keygen) (key : NewKey) (folder : Use FolderTold) → key.file.device ≡ words.device → IsSome folder.before.files
+      → (fault : Fault) → IsFilesFault (names_of_document words.name) key folder fault → KeysLeave words folder.before.files folder.after.files (Err fault)
+  keys_by_fault words key folder same told faults.Memory (inl is) = inl (ap (file_at name) is)
+  keys_by_fault words key folder same told faults.Memory (inr stores) = inl (key_file_kept (names_of_document words.name) key folder.before.files folder.after.files stores)
+  keys_by_fault words key folder same told faults.Outside (rose, inl changes) =
+      inl (kept_changes name folder.before.files folder.after.files _ told (not_key (names_of_document words.name) document device key.file.device) changes)
+  keys_by_fault words key folder same told faults.Outside (rose, inr (between, stores, changes)) =
+      keys_failed words key folder.before.files folder.after.files (Err faults.Outside) same between told refl stores changes
+  keys_by_fault words key folder same told (faults.Exists f) there = inl (there_kept (names_of_document words.name) key folder.before.files folder.after.files f there)
+  keys_by_fault words key folder same told fault never = absurd never
 
   of_its_device : (words : Keygen) (chance : Use ChanceTold) (key : NewKey) → Makes words chance key → key.file.device ≡ words.device
   of_its_device words chance key (first, second, draws, is) = ap (λ (k : NewKey). k.file.device) is
@@ -119,18 +119,18 @@ module _ (document : List ℕ) (device : Device) where
       keys_stored words made.key folder.before.files folder.after.files (Ok done) (of_its_device words chance made.key made.makes) made.stores
   keygen_leaves words folder chance out (Err fault) told (inl fails) = inl (ap (file_at name) fails.untouched.stand)
   keygen_leaves words folder chance out (Err fault) told (inr (inl fails)) =
-      keys_by_fault words fails.key folder.before.files folder.after.files _ _ (of_its_device words chance fails.key fails.makes) told fault fails.cause
+      keys_by_fault words fails.key folder (of_its_device words chance fails.key fails.makes) told fault fails.cause
   keygen_leaves words folder chance out (Err fault) told (inr (inr fails)) =
       keys_stored words fails.key folder.before.files folder.after.files (Err fault) (of_its_device words chance fails.key fails.makes) fails.stores
 
   -- ---- found
 
-  stores_kept : (new : List NamedFile) (before after : Option (List NamedFile)) (low high : ℕ) → IsSome before
-      → (StoresFirst new before after → Keeps name before after) → (StoresPrefix new before after → Keeps name before after)
-      → (fault : Fault) → IsStoreFault new before after low high fault → Keeps name before after
-  stores_kept new before after low high told first prefix faults.Memory stores = first stores
-  stores_kept new before after low high told first prefix faults.Outside (rose, stores) = prefix stores
-  stores_kept new before after low high told first prefix fault never = absurd never
+  stores_kept : (new : List NamedFile) (folder : Use FolderTold) → (StoresFirst new folder.before.files folder.after.files → Keeps name folder.before.files folder.after.files)
+      → (StoresPrefix new folder.before.files folder.after.files → Keeps name folder.before.files folder.after.files)
+      → (fault : Fault) → IsStoreFault new folder fault → Keeps name folder.before.files folder.after.files
+  stores_kept new folder first prefix faults.Memory stores = first stores
+  stores_kept new folder first prefix faults.Outside (rose, stores) = prefix stores
+  stores_kept new folder first prefix fault never = absurd never
 
   founding_others : (names : FileNames) (founding : Founding) → AllByRecursion (λ f. bytes_eq f.name name ≡ false) (founding_files names founding)
   founding_others names founding = (not_genesis names document device, rings_others names document device founding.rings)
@@ -145,7 +145,7 @@ module _ (document : List ℕ) (device : Device) where
   found_keeps words folder chance (Err fault) told (inr (inr fails)) =
       let names = names_of_document words.name in
       let others = founding_others names fails.founding in
-      stores_kept (founding_files names fails.founding) folder.before.files folder.after.files _ _ told
+      stores_kept (founding_files names fails.founding) folder
       (kept_first name folder.before.files folder.after.files (founding_files names fails.founding) others)
       (kept_prefix name folder.before.files folder.after.files (founding_files names fails.founding) told others) fault fails.cause
 
@@ -240,17 +240,17 @@ module _ (document : List ℕ) (device : Device) where
       let rest = tails_made ns (with_tail_made n before) after told_then is in
       (rest.0 ∙ one, rest.1)
 
-  tails_given : (names : List (List ℕ)) (logs : List OpenLogModel) (orders : List OrderModel) (saved given : Result ⊤ Fault) (a b : FolderTold)
-      → Both (λ n log. log.name ≡ file_name (names_of_document n) files.Tail) names logs
-      → GivesAllBack logs orders saved a b given → Keeps name a.files b.files
-  tails_given [] [] [] saved given a b named (same, answer) = ap (λ (t : FolderTold). file_at name t.files) same
-  tails_given [] (l ∷ ls) orders saved given a b named gives = absurd named
-  tails_given (n ∷ ns) [] orders saved given a b named gives = absurd named
-  tails_given (n ∷ ns) (l ∷ ls) (o ∷ os) saved given a b named (mid, others, one, rest, gives, answer) =
+  tails_given : (names : List (List ℕ)) (number : ℕ) (logs : List OpenLogModel) (orders : List OrderModel) (saved given : Result ⊤ Fault) (a b : FolderTold)
+      → AllZip (λ n log. log.name ≡ file_name (names_of_document n) files.Tail) names logs
+      → GivesAllBack number logs orders saved a b given → Keeps name a.files b.files
+  tails_given [] number [] [] saved given a b named (same, answer) = ap (λ (t : FolderTold). file_at name t.files) same
+  tails_given [] number (l ∷ ls) orders saved given a b named gives = absurd named
+  tails_given (n ∷ ns) number [] orders saved given a b named gives = absurd named
+  tails_given (n ∷ ns) number (l ∷ ls) (o ∷ os) saved given a b named (mid, others, one, rest, gives, answer) =
       tail_given (names_of_document n) (record { before = mid; after = b }) l.logged o.genesis.document o.entries saved one
       (subst (λ (m : List ℕ). GivesBack m (record { before = mid; after = b }) l.logged o.genesis.document o.entries saved one) named.0 gives)
-      ∙ tails_given ns ls os saved others a mid named.1 rest
-  tails_given names logs orders saved given a b named never = absurd never
+      ∙ tails_given ns (number + 1) ls os saved others a mid named.1 rest
+  tails_given names number logs orders saved given a b named never = absurd never
 
   all_stay : (names : List (List ℕ)) (sessions : ℕ) (a : Standing (List OrderModel)) (r : Round (List OrderModel)) → IsSome a.moment.folder.files
       → IsRoundOfAll names sessions a r → Stays a.moment.folder.files r.after.moment.folder.files
@@ -267,25 +267,25 @@ module _ (document : List ℕ) (device : Device) where
       let one = all_stay names sessions in
       let rounds = rounds_stay (IsRoundOfAll names sessions) one start served.rounds.rounds served.rounds.before made.1 served.rounds.well in
       let last = one served.rounds.before served.last rounds.1 served.rounds.last_is in
-      tails_given names served.logs served.last.after.held served.last.saved served.given served.last.after.moment.folder folder.after served.named served.gives
+      tails_given names 1 served.logs served.last.after.held served.last.saved served.given served.last.after.moment.folder folder.after served.named served.gives
       ∙ last.0 ∙ rounds.0 ∙ made.0
 
   -- ---- client
 
   -- its history is saved, and nothing else changes while the disk is out
-  saved_stays : (past : Past) (other : List ℕ) (u : FilesUse) (saved : Result ⊤ Fault) → IsSome u.before → bytes_eq other name ≡ false → SaveOutcome past other u saved
-      → Stays u.before u.after
-  saved_stays past other u (Ok done) told differs is = with_stays u.before u.after other _ told differs is
-  saved_stays past other u (Err faults.Outside) told differs (rose, changes) = changes_stays u.before u.after other told differs changes
-  saved_stays past other u (Err faults.FullFile) told differs (long, same) = same_stays u.before u.after told same
-  saved_stays past other u (Err faults.Memory) told differs same = same_stays u.before u.after told same
-  saved_stays past other u (Err fault) told differs never = absurd never
+  saved_stays : (past : Past) (other : List ℕ) (folder : Use FolderTold) (saved : Result ⊤ Fault) → IsSome folder.before.files → bytes_eq other name ≡ false → SaveOutcome past other folder saved
+      → Stays folder.before.files folder.after.files
+  saved_stays past other folder (Ok done) told differs is = with_stays folder.before.files folder.after.files other _ told differs is
+  saved_stays past other folder (Err faults.Outside) told differs (rose, changes) = changes_stays folder.before.files folder.after.files other told differs changes
+  saved_stays past other folder (Err faults.FullFile) told differs (long, same) = same_stays folder.before.files folder.after.files told same
+  saved_stays past other folder (Err faults.Memory) told differs same = same_stays folder.before.files folder.after.files told same
+  saved_stays past other folder (Err fault) told differs never = absurd never
 
   module _ {D : Type 0} (disks : D → DiskTold) where
     over_stays : (words : Client) (m : MemberFiles) (did : ClientUse) (first last : D) (answer : Result ⊤ Fault) → IsSome did.folder.before.files
         → DiskOutcome disks words m did first last answer → Stays did.folder.before.files did.folder.after.files
     over_stays words m did first last answer told (worked w) =
-        saved_stays w.past (file_name (names_of words) (files.History words.device)) (files_of did) w.saved told (not_history (names_of words) document device words.device) w.saves
+        saved_stays w.past (file_name (names_of words) (files.History words.device)) did.folder w.saved told (not_history (names_of words) document device words.device) w.saves
     over_stays words m did first last answer told (not_worked why untouched same kept) = same_stays did.folder.before.files did.folder.after.files told untouched.files
 
     -- over another leaf file, or over none
@@ -360,11 +360,11 @@ module _ (document : List ℕ) (device : Device) where
     command_leaves (commands.Serve words) outside answer did unused told lent none =
         inl (serve_keeps (names_of_document words.name) words.sessions words.times outside.folder outside.out _ _ answer told did.outcome)
     command_leaves (commands.Client words) outside answer did unused told lent none = inl (client_keeps words (client_use outside) answer did.outcome told lent none)
-    command_leaves (commands.Check words) outside answer did unused told lent none = inl (ap (file_at name) did.reads.unchanged)
-    command_leaves (commands.Compare words) outside answer did unused told lent none = inl (ap (file_at name) did.reads.unchanged)
+    command_leaves (commands.Check words) outside answer did unused told lent none = inl (ap (file_at name) did.reads.files)
+    command_leaves (commands.Compare words) outside answer did unused told lent none = inl (ap (file_at name) did.reads.files)
     command_leaves (commands.Public words) outside answer did unused told lent none = inl (ap (file_at name) did.unchanged)
-    command_leaves (commands.Text words) outside answer did unused told lent none = inl (ap (file_at name) did.reads.unchanged)
-    command_leaves (commands.Entries words) outside answer did unused told lent none = inl (ap (file_at name) did.reads.unchanged)
+    command_leaves (commands.Text words) outside answer did unused told lent none = inl (ap (file_at name) did.reads.files)
+    command_leaves (commands.Entries words) outside answer did unused told lent none = inl (ap (file_at name) did.reads.files)
     command_leaves (commands.ServeAll words) outside answer did unused told lent none =
         inl (serve_all_keeps words.names words.sessions words.times outside.folder outside.out _ _ answer told did.outcome)
     command_leaves asked outside answer did unused told lent none = inl (ap (file_at name) (unused refl))

@@ -1,7 +1,7 @@
 -- What a source that tells its bytes calls for.
 use Rattle.std.proofs.Common.{◌≡◌, ℕ, ◌+◌, ◌<◌, ◌≤◌, ◌⊎◌, true, List, ◌++◌, length, Option, Some, None, Result, Ok, Err, refl, sym, ap, ◌∙◌, subst, inl, inr, arith, append-nil, length-append}
 use Rattle.sporc_top.proofs.Common.{⊤, IsUnwritten, StreamTold, DiskTold, Command, command_of, Fault, WritesFaultLine, status_of, fault_line, Ends, RunOutcome, UnlessCutOff, command, done, no_command}
-use Rattle.sporc_top.proofs.Common.{stopped, unread, GeneratedOutcome, Performs, PlaysEdits, PlaysSource, as_program, fault_of_play, names_of, no_files, OutsideUse, from, until, same_Some, Use}
+use Rattle.sporc_top.proofs.Common.{stopped, unread, GeneratedOutcome, Performs, PlaysEdits, PlaysSource, fault_as, fault_of_play, names_of, no_files, OutsideUse, from, until, same_Some, Use}
 use Rattle.std.specs.Io.KnownBytes.{Appends, Consumes, IsAtEnd}
 use Rattle.sporc_outside.specs.Counts.{Rose}
 use Rattle.sporc_outside.specs.Writing.{AppendsPrefix}
@@ -58,7 +58,7 @@ told_alone out between fault none line = record {
 -- ---- plays
 
 -- the program's fault is that of a play
-by_cause : (source : Use StreamTold) (out : Use StreamTold) (fault : Fault) (Q : Fault → Type 0) (played : Result ⊤ PlayFault) → Err fault ≡ as_program played → PlayOutcome source out played
+by_cause : (source : Use StreamTold) (out : Use StreamTold) (fault : Fault) (Q : Fault → Type 0) (played : Result ⊤ PlayFault) → Err fault ≡ fault_as fault_of_play played → PlayOutcome source out played
     → ((cause : PlayFault) → PlayOutcome {T = ⊤} source out (Err cause) → Q (fault_of_play cause)) → Q fault
 by_cause source out fault Q (Ok x) same outcome then = absurd cc
 by_cause source out fault Q (Err cause) same outcome then =
@@ -117,7 +117,7 @@ module _ (source : Use StreamTold) (text : List ℕ) (tells : source.before.left
   no_long out above (own, reads, written) = long reads.text MAX_SCRIPT above reads.whole reads.whole.within
 
   -- a play that was done
-  done_is : (out : Use StreamTold) (played : Result ⊤ PlayFault) → PlayOutcome source out played → Ok tt ≡ as_program played → Plays source out
+  done_is : (out : Use StreamTold) (played : Result ⊤ PlayFault) → PlayOutcome source out played → Ok tt ≡ fault_as fault_of_play played → Plays source out
   done_is out (Ok x) plays same = plays
   done_is out (Err fault) plays same = absurd cc
 
@@ -177,7 +177,7 @@ module _ (source : Use StreamTold) (text : List ℕ) (tells : source.before.left
 
 -- ---- generated plays
 
-done_edits : (n : ℕ) (out : Use StreamTold) (played : Result ⊤ PlayFault) → GeneratedOutcome n out played → Ok tt ≡ as_program played → PlaysGenerated n out
+done_edits : (n : ℕ) (out : Use StreamTold) (played : Result ⊤ PlayFault) → GeneratedOutcome n out played → Ok tt ≡ fault_as fault_of_play played → PlaysGenerated n out
 done_edits n out (Ok x) outcome same = outcome
 done_edits n out (Err fault) outcome same = absurd cc
 
@@ -186,7 +186,7 @@ stopped_cause n out playing.Memory P fails = inr (inl refl)
 stopped_cause n out playing.WriteFault P fails = inr (inr refl)
 stopped_cause n out cause P fails = absurd fails
 
-stopped_edits : (n : ℕ) (out : Use StreamTold) (fault : Fault) (P : Type 0) (played : Result ⊤ PlayFault) → GeneratedOutcome n out played → Err fault ≡ as_program played
+stopped_edits : (n : ℕ) (out : Use StreamTold) (fault : Fault) (P : Type 0) (played : Result ⊤ PlayFault) → GeneratedOutcome n out played → Err fault ≡ fault_as fault_of_play played
     → UnlessCutOff (status_of fault) P
 stopped_edits n out fault P (Ok x) outcome same = absurd cc
 stopped_edits n out fault P (Err cause) outcome same =

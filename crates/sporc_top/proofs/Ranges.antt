@@ -21,8 +21,8 @@ use Rattle.sporc_words.specs.declared.command.Verb.{Verb}
 use Rattle.sporc_words.specs.declared.command.Verb.TheVariants as verbs
 use Rattle.sporc_words.specs.declared.standing.Participant.{Participant}
 use Rattle.sporc_words.specs.declared.defaults.TheConstants.{DEFAULT_ROUNDS, DEFAULT_TIMES, DEFAULT_UNTIL}
-use Rattle.sporc_words.specs.Arguments.{check_app, client_app, compare_app, entries_app, found_app, keygen_app, play_app, public_app, serve_all_app, serve_app, taken, text_app}
-use Rattle.sporc_words.specs.Commands.{check_in, client_in, command_by, command_of, compare_in, documents_of, entries_in, found_in, found_or, keygen_in, play_by, play_in, public_in, scripts_of, serve_all_in, serve_in, text_in, work_in}
+use Rattle.sporc_words.specs.Arguments.{taken}
+use Rattle.sporc_words.specs.Commands.{app_for, check_in, client_in, command_by, command_in, command_of, compare_in, documents_of, entries_in, found_in, found_or, keygen_in, play_by, public_in, scripts_of, serve_all_in, serve_in, text_in, work_in}
 use Rattle.sporc_words.specs.Help.{help_in}
 use Rattle.sporc_words.specs.Verbs.{verb_of}
 use Rattle.sporc_words.proofs.HelpLines.{told_by_help}
@@ -176,26 +176,28 @@ play_ranges (Some word) c is =
 
 -- the values of what was read of a command's words
 module _ {A : Type 0} (read : List Row → Option A) (as_command : A → Command) (ranges : (rows : List Row) (asked : A) → read rows ≡ Some asked → IsInRange (as_command asked)) where
-  read_ranges : (found : Option (List Row)) (c : Command) → option_map as_command (then_read found read) ≡ Some c → IsInRange c
-  read_ranges found c is =
-      let made = map_some (then_read found read) as_command c is in
-      let rows = then_some found read made.0 made.1 in
-      subst IsInRange made.2 (ranges rows.0 made.0 rows.2)
+  read_ranges : (rows : List Row) (c : Command) → option_map as_command (read rows) ≡ Some c → IsInRange c
+  read_ranges rows c is =
+      let made = map_some (read rows) as_command c is in
+      subst IsInRange made.2 (ranges rows made.0 made.1)
+
+rows_ranges : (verb : Verb) (rows : List Row) (c : Command) → command_in verb rows ≡ Some c → IsInRange c
+rows_ranges verbs.Play rows c is = play_ranges (first_of (codes "generate") rows) c is
+rows_ranges verbs.Keygen rows c is = read_ranges keygen_in commands.Keygen keygen_ranges rows c is
+rows_ranges verbs.Found rows c is = read_ranges found_in commands.Found found_ranges rows c is
+rows_ranges verbs.Serve rows c is = read_ranges serve_in commands.Serve serve_ranges rows c is
+rows_ranges verbs.Client rows c is = read_ranges client_in commands.Client client_ranges rows c is
+rows_ranges verbs.Check rows c is = read_ranges check_in commands.Check (λ rows asked read. tt) rows c is
+rows_ranges verbs.Compare rows c is = read_ranges compare_in commands.Compare (λ rows asked read. tt) rows c is
+rows_ranges verbs.Public rows c is = read_ranges public_in commands.Public (λ rows asked read. tt) rows c is
+rows_ranges verbs.Text rows c is = read_ranges text_in commands.Text (λ rows asked read. tt) rows c is
+rows_ranges verbs.Entries rows c is = read_ranges entries_in commands.Entries (λ rows asked read. tt) rows c is
+rows_ranges verbs.ServeAll rows c is = read_ranges serve_all_in commands.ServeAll serve_all_ranges rows c is
 
 verb_ranges : (verb : Verb) (words : List Text) (c : Command) → command_by verb words ≡ Some c → IsInRange c
-verb_ranges verbs.Play words c is =
-    let rows = then_some (taken play_app words) play_in c (unfold command_by in is) in
-    play_ranges (first_of (codes "generate") rows.0) c rows.2
-verb_ranges verbs.Keygen words c is = read_ranges keygen_in commands.Keygen keygen_ranges (taken keygen_app words) c (unfold command_by in is)
-verb_ranges verbs.Found words c is = read_ranges found_in commands.Found found_ranges (taken found_app words) c (unfold command_by in is)
-verb_ranges verbs.Serve words c is = read_ranges serve_in commands.Serve serve_ranges (taken serve_app words) c (unfold command_by in is)
-verb_ranges verbs.Client words c is = read_ranges client_in commands.Client client_ranges (taken client_app words) c (unfold command_by in is)
-verb_ranges verbs.Check words c is = read_ranges check_in commands.Check (λ rows asked read. tt) (taken check_app words) c (unfold command_by in is)
-verb_ranges verbs.Compare words c is = read_ranges compare_in commands.Compare (λ rows asked read. tt) (taken compare_app words) c (unfold command_by in is)
-verb_ranges verbs.Public words c is = read_ranges public_in commands.Public (λ rows asked read. tt) (taken public_app words) c (unfold command_by in is)
-verb_ranges verbs.Text words c is = read_ranges text_in commands.Text (λ rows asked read. tt) (taken text_app words) c (unfold command_by in is)
-verb_ranges verbs.Entries words c is = read_ranges entries_in commands.Entries (λ rows asked read. tt) (taken entries_app words) c (unfold command_by in is)
-verb_ranges verbs.ServeAll words c is = read_ranges serve_all_in commands.ServeAll serve_all_ranges (taken serve_all_app words) c (unfold command_by in is)
+verb_ranges verb words c is =
+    let rows = then_some (taken (app_for verb) words) (command_in verb) c (unfold command_by in is) in
+    rows_ranges verb rows.0 c rows.2
 
 -- the command that the first word names
 work_ranges : (words : List Text) (c : Command) → work_in words ≡ Some c → IsInRange c

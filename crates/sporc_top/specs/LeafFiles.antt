@@ -146,14 +146,14 @@ module _ {D : Type 0} (disk_told : D → DiskTold) (name : List ℕ) where
   -- The leaf file as the next run finds it: the one before left it so, or a crash did, of the disk
   -- that was behind the file last. Before the first disk was handed out nothing is asked
   abbrev pub FindsLeafFile : Option D → Option (List NamedFile) → Option (List NamedFile) → Type 0
-  FindsLeafFile None left found = Unit {0}
+  FindsLeafFile None left found = ⊤
   FindsLeafFile (Some last) left found = (file_at name found ≡ file_at name left)
       ⊎ ((image : List ℕ) × disk_images (disk_told last) image × (file_at name found ≡ Some image))
 
   -- a disk that is handed out tells its bytes to its end, and no crash leaves of it what it could
   -- not leave of the one before it
   abbrev pub GoesOnOver : Option D → Option (ClientRun disk_told) → Type 0
-  GoesOnOver behind None = Unit {0}
+  GoesOnOver behind None = ⊤
   GoesOnOver None (Some run) = IsSome (disk_told run.last).stored
   GoesOnOver (Some last) (Some run) = IsSome (disk_told run.last).stored × ((image : List ℕ)
       → disk_images (disk_told run.first) image → disk_images (disk_told last) image)
@@ -166,7 +166,7 @@ module _ {D : Type 0} (disk_told : D → DiskTold) (name : List ℕ) where
   -- Runs whatever their words and their ends. Once a disk was behind the file, none of them is a
   -- `keygen` that makes it at which something outside failed
   abbrev pub AreProgramRuns : Option D → Option (List NamedFile) → List Run → Type 0
-  AreProgramRuns behind left [] = Unit {0}
+  AreProgramRuns behind left [] = ⊤
   AreProgramRuns behind left (run ∷ runs) =
       IsTold disk_told run × FindsLeafFile behind left run.outside.folder.before.files
       × (IsSome behind → MakesLeafFile disk_told name run → run.status ≢ 6)

@@ -1,5 +1,6 @@
 -- What each command does.
 use Rattle.std.specs.Prelude.{◌≡◌, ◌≤◌, ℕ, List, [], ◌∷◌, length, map, Result, Ok, Err, ⊤}
+use Rattle.sporc_bytes.specs.Fields.{fault_as}
 use Rattle.sporc_outside.specs.Uses.{Use}
 use Rattle.sporc_outside.specs.Streams.{IsUnwritten, StreamTold}
 use Rattle.sporc_outside.specs.Folders.{FolderTold}
@@ -75,17 +76,12 @@ fault_of_play playing.WriteFault = faults.Outside
 fault_of_play (playing.LineFault line) = faults.Line line
 fault_of_play playing.TooLong = faults.LongScript
 
--- the answer of a play, as the program's
-abbrev pub as_program : Result ⊤ PlayFault → Result ⊤ Fault
-as_program (Ok done) = Ok done
-as_program (Err fault) = Err (fault_of_play fault)
-
 -- the script of the source was played
 pub record PlaysSource (source : Use StreamTold) (out : Use StreamTold)
     (answer : Result ⊤ Fault) : Type 0 where
   pub played : Result ⊤ PlayFault
   pub outcome : PlayOutcome source out played
-  pub answer_is : answer ≡ as_program played
+  pub answer_is : answer ≡ fault_as fault_of_play played
 
 -- what a generated play did, by its answer
 abbrev pub GeneratedOutcome : ℕ → Use StreamTold → Result ⊤ PlayFault → Type 0
@@ -96,7 +92,7 @@ GeneratedOutcome edits out (Err fault) = GeneratedFault edits out fault
 pub record PlaysEdits (edits : ℕ) (out : Use StreamTold) (answer : Result ⊤ Fault) : Type 0 where
   pub played : Result ⊤ PlayFault
   pub outcome : GeneratedOutcome edits out played
-  pub answer_is : answer ≡ as_program played
+  pub answer_is : answer ≡ fault_as fault_of_play played
 
 -- ---- keys and documents
 

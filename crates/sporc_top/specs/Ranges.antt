@@ -1,5 +1,5 @@
 -- What is so of the values of a command that was read.
-use Rattle.std.specs.Prelude.{◌≤◌, length}
+use Rattle.std.specs.Prelude.{◌≤◌, length, ⊤}
 use Rattle.lms_leaf.specs.LeafFile.{IsLeafHeight}
 use Rattle.lms_tree.specs.LmsType.{height_of}
 use Rattle.sporc_keys.specs.KeyFile.{IsKeyWidth}
@@ -10,19 +10,19 @@ use Rattle.sporc_words.specs.declared.command.Command.TheVariants as commands
 use Rattle.sporc_commands.specs.Founding.{MayFound}
 
 abbrev pub IsInRange : Command → Type 0
-IsInRange commands.Play = Unit {0}
+IsInRange commands.Play = ⊤
 IsInRange (commands.Generate edits) = edits ≤ MAX_GENERATED
 IsInRange (commands.Keygen asked) = IsLeafHeight (height_of asked.height) × IsKeyWidth asked.width
 IsInRange (commands.Found asked) = MayFound asked
 IsInRange (commands.Serve asked) =
     (1 ≤ asked.sessions) × (asked.sessions ≤ MAX_SESSIONS) × (1 ≤ asked.times)
 IsInRange (commands.Client asked) = length asked.scripts ≤ MAX_EDITORS
-IsInRange (commands.Check asked) = Unit {0}
-IsInRange (commands.Compare asked) = Unit {0}
-IsInRange (commands.Help page) = Unit {0}
-IsInRange commands.Version = Unit {0}
-IsInRange (commands.Public asked) = Unit {0}
-IsInRange (commands.Text asked) = Unit {0}
-IsInRange (commands.Entries asked) = Unit {0}
+IsInRange (commands.Check asked) = ⊤
+IsInRange (commands.Compare asked) = ⊤
+IsInRange (commands.Help page) = ⊤
+IsInRange commands.Version = ⊤
+IsInRange (commands.Public asked) = ⊤
+IsInRange (commands.Text asked) = ⊤
+IsInRange (commands.Entries asked) = ⊤
 IsInRange (commands.ServeAll asked) = (length asked.names ≤ MAX_DOCUMENTS) × (1 ≤ asked.sessions)
     × (asked.sessions ≤ MAX_SESSIONS) × (1 ≤ asked.times)

@@ -36,7 +36,7 @@ pub record IsUnused (outside : OutsideUse) : Type 0 where
   pub net : outside.net.after ≡ outside.net.before
   pub chance : outside.chance.after ≡ outside.chance.before
 
--- no count of faults fell, and each link and each disk that was handed out came back
+-- no object's own count of faults fell, and each link and each disk that was handed out came back
 pub record AllKept (outside : OutsideUse) : Type 0 where
   pub source : outside.source.before.faults ≤ outside.source.after.faults
   pub out : outside.out.before.faults ≤ outside.out.after.faults

@@ -1,14 +1,13 @@
 //! What each command does.
 
-ghost use Rattle.std.specs.Prelude.{◌≡◌, ◌+◌, ◌≤◌, false, length};
+ghost use Rattle.std.specs.Prelude.{◌≡◌, ◌+◌, ◌≤◌, false};
 ghost use Rattle.sporc_outside.specs.Uses.{use_of};
 ghost use Rattle.sporc_outside.specs.Reading.{ConsumesAtMost};
 ghost use Rattle.sporc_script.specs.declared.limits.TheConstants.{MAX_GENERATED};
-ghost use Rattle.sporc_wire.specs.declared.limits.TheConstants.{MAX_DOCUMENTS, MAX_SESSIONS};
 ghost use Rattle.sporc_play.specs.declared.playing.TheConstants.{MAX_SCRIPT};
 ghost use Rattle.sporc_top.specs.Needs.{needs_of};
-ghost use Rattle.sporc_top.specs.Performing.{Performs, PlaysEdits, PlaysSource, ServesDocument};
-ghost use Rattle.sporc_top.specs.Performing.{ServesDocuments, fault_of_play, names_of};
+ghost use Rattle.sporc_top.specs.Performing.{Performs, PlaysEdits, PlaysSource, fault_of_play};
+ghost use Rattle.sporc_top.specs.Performing.{names_of};
 ghost use Rattle.sporc_top.specs.Ranges.{IsInRange};
 ghost use Rattle.sporc_top.specs.Uses.{uses};
 
@@ -19,7 +18,7 @@ use sporc_help::{help, version};
 use sporc_hosting::{serve, serve_all};
 use sporc_outside::{Chance, Dial, Folder, Gate, Listen, Sink, Source};
 use sporc_play::{PlayFault, play, play_generated};
-use sporc_words::{Command, Serve, ServeAll};
+use sporc_words::Command;
 use std::alloc::Global;
 use std::sync::Wait;
 use std::thread::Threads;
@@ -77,61 +76,6 @@ fn fault_of_play(cause: PlayFault) -> Fault
     }
 }
 
-// Serves sessions from the log of a document.
-fn serve_document<R: Threads + Wait + Sync, O: Sink, F: Folder, N: Listen + Send, G: Gate + Sync>(
-    rt: &R,
-    alloc: Global,
-    words: &Serve,
-    out: &mut O,
-    files: &mut F,
-    net: &mut N,
-    gate: &G,
-) -> Result<(), Fault>
-where
-    F::Appended: Drop + Send,
-    N::Link: Send,
-    requires positive { 1 ≤ words.now.sessions }
-    requires limit { words.now.sessions ≤ MAX_SESSIONS }
-    requires times_positive { 1 ≤ words.now.times }
-    ensures outcome { ServesDocument words.now (use_of F.told files.old files.new)
-        (use_of O.told out.old out.new) (use_of N.told net.old net.new) result }
-    ensures links_out { (N.told net.new).out ≡ (N.told net.old).out }
-    ensures lent { (F.told files.new).lent ≡ (F.told files.old).lent }
-    ensures files_kept { (F.told files.old).faults ≤ (F.told files.new).faults }
-    ensures net_kept { (N.told net.old).faults ≤ (N.told net.new).faults }
-    ensures out_kept { (O.told out.old).faults ≤ (O.told out.new).faults }
-{
-    serve(rt, alloc, files, net, out, words, gate)
-}
-
-// Serves sessions of several documents from their logs.
-fn serve_documents<R: Threads + Wait + Sync, O: Sink, F: Folder, N: Listen + Send, G: Gate + Sync>(
-    rt: &R,
-    alloc: Global,
-    words: &ServeAll,
-    out: &mut O,
-    files: &mut F,
-    net: &mut N,
-    gate: &G,
-) -> Result<(), Fault>
-where
-    F::Appended: Drop + Send,
-    N::Link: Send,
-    requires documents_limit { length words.now.names ≤ MAX_DOCUMENTS }
-    requires positive { 1 ≤ words.now.sessions }
-    requires limit { words.now.sessions ≤ MAX_SESSIONS }
-    requires times_positive { 1 ≤ words.now.times }
-    ensures outcome { ServesDocuments words.now (use_of F.told files.old files.new)
-        (use_of O.told out.old out.new) (use_of N.told net.old net.new) result }
-    ensures links_out { (N.told net.new).out ≡ (N.told net.old).out }
-    ensures lent { (F.told files.new).lent ≡ (F.told files.old).lent }
-    ensures files_kept { (F.told files.old).faults ≤ (F.told files.new).faults }
-    ensures net_kept { (N.told net.old).faults ≤ (N.told net.new).faults }
-    ensures out_kept { (O.told out.old).faults ≤ (O.told out.new).faults }
-{
-    serve_all(rt, alloc, files, net, out, words, gate)
-}
-
 // Does what a command asks for, and tells no fault.
 pub(crate) fn perform<
     R: Threads + Wait + Sync,
@@ -180,7 +124,7 @@ where
         Command::Generate(edits) => play_edits(alloc, *edits, out),
         Command::Keygen(words) => keygen(rt, alloc, files, chance, out, words),
         Command::Found(words) => found(rt, alloc, files, chance, words),
-        Command::Serve(words) => serve_document(rt, alloc, words, out, files, net, gate),
+        Command::Serve(words) => serve(rt, alloc, files, net, out, words, gate),
         Command::Client(words) => client(platform, words, out, files, net, chance),
         Command::Check(words) => check(rt, alloc, files, out, words, gate),
         Command::Compare(words) => compare(alloc, files, out, words),
@@ -189,6 +133,6 @@ where
         Command::Public(words) => public(rt, alloc, files, out, words),
         Command::Text(words) => text(rt, alloc, files, out, words, gate),
         Command::Entries(words) => list_entries(rt, alloc, files, out, words, gate),
-        Command::ServeAll(words) => serve_documents(rt, alloc, words, out, files, net, gate),
+        Command::ServeAll(words) => serve_all(rt, alloc, files, net, out, words, gate),
     }
 }

@@ -35,21 +35,8 @@ use std::thread::Threads;
 /// | `help`, `version` | nothing |
 /// | `public` | `files` |
 ///
-/// A fault's line is written as far as `out` takes it, and nothing goes anywhere else.
-///
-/// | Status | The fault that was told |
-/// |---|---|
-/// | 0 | none: the command did all its work |
-/// | 1 | memory ran out |
-/// | 2 | the words ask for nothing |
-/// | 3 | a file is missing, there already, too long or malformed, two names are of one document, a script has a line that is not valid, or is too long, or a history has fewer entries than the words ask for |
-/// | 4 | an entry was refused by a check or rejected by the server, or a member's keys do not open the document |
-/// | 5 | the rounds of a session are over, and edits wait or the history is shorter than was asked for |
-/// | 6 | something outside failed, or the link ended before an answer |
-/// | 7 | the device's key has no leaf left |
-/// | 8 | a history, a journal or a file is full, or the tickets of a lock are used up |
-/// | 9 | what the server sent is no message |
-/// | 10 | an edit of an editor's script was refused |
+/// A fault's line is written as far as `out` takes it, and nothing goes anywhere else. The status
+/// is 0 if the command did all its work, and else that of the fault which was told ([`Fault`]).
 pub fn run<
     R: Threads + Wait + Sync,
     S: Source,
@@ -88,17 +75,17 @@ where
 {
     let command = match read_words(alloc, words) {
         Ok(command) => command,
-        Err(fault) => return told(Fault::from(fault), &Names::of_document(""), out),
+        Err(fault) => return tell_fault(Fault::from(fault), &Names::of_document(""), out),
     };
     let platform = Platform { rt, alloc, gate };
     match perform(&platform, &command, source, out, files, net, chance) {
         Ok(()) => 0,
-        Err(fault) => told(fault, &names_of(&command), out),
+        Err(fault) => tell_fault(fault, &names_of(&command), out),
     }
 }
 
 // Writes the line of a fault, and answers its status.
-fn told<O: Sink>(fault: Fault, names: &Names<'_>, out: &mut O) -> u8
+fn tell_fault<O: Sink>(fault: Fault, names: &Names<'_>, out: &mut O) -> u8
     ensures status { result ≡ status_of fault }
     ensures line { WritesFaultLine (use_of O.told out.old out.new) names.now fault }
     ensures kept { (O.told out.old).faults ≤ (O.told out.new).faults }

@@ -1,6 +1,6 @@
 //! The lock.
 
-ghost use Rattle.std.specs.Prelude.{◌≡◌, ◌≢◌, ◌+◌, ◌^◌, ◌<◌, ◌≤◌, max, IfOk, OnOk, IfErr};
+ghost use Rattle.std.specs.Prelude.{◌≡◌, ◌≢◌, ◌+◌, ◌^◌, ◌<◌, ◌≤◌, max, IfOk, OnOk, IfErr, IsOk};
 ghost use Rattle.std.specs.Prelude.{MatchResult, [], length, true};
 ghost use Rattle.sporc_turn.specs.Log.{StartsWith, Extends, Agrees};
 ghost use Rattle.sporc_turn.specs.Knowing.{first_known, seeing, adding, hearing, splitting, copied};
@@ -238,7 +238,7 @@ impl<S: Kept> Turn<S> {
     }
 
     /// Number 0 and a new pass, whose number is one more than the last one's. It has seen as much,
-    /// and has no items of its own.
+    /// and has no items of its own. A split takes no memory, so it never fails.
     pub fn split(
         &self,
         pass: Pass<S::Item>,
@@ -246,6 +246,7 @@ impl<S: Kept> Turn<S> {
         requires lock { IsPassOf self.now pass }
         requires first { (known_of pass).number ≡ 0 }
         requires limit { (known_of pass).splits + 1 < 2 ^ 32 }
+        ensures ok { IsOk result }
         ensures lock { IfOk result (λ r. IsPassOf self.now r.0 × IsPassOf self.now r.1) }
         ensures old { IfOk result (λ r. known_of r.0 ≡ splitting (known_of pass)) }
         ensures new { IfOk result (λ r. known_of r.1 ≡ copied (known_of pass)) }

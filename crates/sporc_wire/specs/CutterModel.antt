@@ -4,7 +4,7 @@ use Rattle.std.specs.Int.{w32, to_be_bytes}
 use Rattle.bytes.specs.Filled.{Filled}
 use Rattle.tokio_util.specs.declared.codec.length_delimited.DecodeState.{DecodeState}
 use Rattle.tokio_util.specs.declared.codec.length_delimited.DecodeState.TheVariants.{Head, Data}
-use Rattle.tokio_util.specs.declared.codec.length_delimited.LengthDelimitedCodec.{LengthDelimitedCodec}
+use Rattle.tokio_util.specs.declared.codec.length_delimited.LengthDelimitedCodec as codec
 use Rattle.tokio_util.specs.Codec.LengthDelimited.{codec_layout}
 use Rattle.tokio_util.specs.Codec.LengthField.{Layout, default_layout}
 use Rattle.sporc_wire.specs.declared.cutter.TheConstants.{MAX_BODY}
@@ -54,6 +54,6 @@ FitsLimit None = Unit {0}
 FitsLimit (Some body) = length body.items ≤ MAX_BODY
 
 -- the codec cuts frames of our layout, and waits for a body within the limit
-pub record IsOurs (c : LengthDelimitedCodec) : Type 0 where
+pub record IsOurs (c : codec.LengthDelimitedCodec) : Type 0 where
   pub layout : codec_layout c ≡ our_layout
   pub within : IsWithin c.state

@@ -3,8 +3,10 @@
 -- | Message | Body |
 -- | Ordered | the byte 1, the position as u32 |
 -- | Rejected | the byte 2, the number of the refusal's check as u8, its detail as u32 |
--- | Entries | the byte 3, the position of the first as u32, how many as u8 (1 to 16), and each entry counted, of any length |
+-- | Entries | the byte 3, the first's position as u32, how many as u8 (1 to 16), and each counted |
 -- | Empty | the byte 4 |
+--
+-- An entry may have any length.
 use Rattle.std.specs.Prelude.{◌≢◌, ℕ, ◌-◌, ◌<◌, ◌≤◌, ◌^◌, ◌==◌, List, [], ◌∷◌, ◌++◌, length, Result}
 use Rattle.std.specs.Prelude.{Ok, Err, if◌then◌else◌}
 use Rattle.std.specs.List.{flat_map}

@@ -1,6 +1,6 @@
 //! Why bytes are no stream of messages, or a message no frame.
 
-use std::alloc::{AllocError, AllocFailed};
+use std::alloc::AllocError;
 use thiserror::Error;
 
 /// Why no message is read or written.
@@ -25,17 +25,6 @@ impl From<AllocError> for FrameFault {
     ghost from_gives = { λ _ e. e ≡ faults.Memory };
 
     fn from(_: AllocError) -> FrameFault {
-        FrameFault::Memory
-    }
-}
-
-impl<T: Drop> From<AllocFailed<T>> for FrameFault {
-    ghost use Rattle.std.specs.Prelude.{◌≡◌};
-    ghost use Rattle.sporc_wire.specs.declared.fault.FrameFault.TheVariants as faults;
-
-    ghost from_gives = { λ _ e. e ≡ faults.Memory };
-
-    fn from(_: AllocFailed<T>) -> FrameFault {
         FrameFault::Memory
     }
 }

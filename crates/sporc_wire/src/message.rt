@@ -5,7 +5,7 @@ ghost use Rattle.sporc_base.specs.Outcome.{GivesUnless};
 ghost use Rattle.sporc_bytes.specs.Fields.{fault_as};
 
 use sporc_bytes::Short;
-use std::alloc::{AllocError, AllocFailed, Global};
+use std::alloc::{AllocError, Global};
 use thiserror::Error;
 
 // Why the body of a frame gives no message.
@@ -36,17 +36,6 @@ impl From<AllocError> for BodyFault {
     ghost from_gives = { λ _ e. e ≡ faults.Memory };
 
     fn from(_: AllocError) -> BodyFault {
-        BodyFault::Memory
-    }
-}
-
-impl<T: Drop> From<AllocFailed<T>> for BodyFault {
-    ghost use Rattle.std.specs.Prelude.{◌≡◌};
-    ghost use Rattle.sporc_wire.specs.declared.message.BodyFault.TheVariants as faults;
-
-    ghost from_gives = { λ _ e. e ≡ faults.Memory };
-
-    fn from(_: AllocFailed<T>) -> BodyFault {
         BodyFault::Memory
     }
 }

@@ -8,8 +8,7 @@ pub use Rattle.std.proofs.lemmas.Option.{same_Some}
 pub use Rattle.std.specs.Prelude.{if◌then◌else◌, ⊤}
 pub use Rattle.sporc_script.proofs.Exact.{IsExact, map_some, named_exact}
 pub use Rattle.sporc_script.specs.Readers.{member_of, then_read}
-pub use Rattle.sporc_words.specs.Arguments.{check_app, client_app, compare_app, entries_app, found_app, grammar_of, keygen_app, named, public_app, rule_for, serve_all_app, serve_app, taken, text_app}
-pub use Rattle.sporc_words.specs.Arguments.{with_all}
+pub use Rattle.sporc_words.specs.Arguments.{grammar_of, named, rule_for, with_all}
 pub use Rattle.sporc_words.specs.Commands.{app_for, command_of}
 pub use Rattle.sporc_words.specs.Values.{all_participants, has_twice}
 pub use Rattle.sporc_words.specs.Verbs.{verb_name, verb_of}

@@ -1,5 +1,4 @@
 pub mod Added
-pub mod ByVerb
 pub mod Chained
 pub mod Examples
 pub mod HelpLines

@@ -150,26 +150,7 @@ command_in verbs.ServeAll rows = option_map commands.ServeAll (serve_all_in rows
 
 -- what the words ask for, of which the first is this
 unfoldable pub command_by : Verb → List Text → Option Command
-command_by verbs.Play words = then_read (taken play_app words) play_in
-command_by verbs.Keygen words =
-    option_map commands.Keygen (then_read (taken keygen_app words) keygen_in)
-command_by verbs.Found words =
-    option_map commands.Found (then_read (taken found_app words) found_in)
-command_by verbs.Serve words =
-    option_map commands.Serve (then_read (taken serve_app words) serve_in)
-command_by verbs.Client words =
-    option_map commands.Client (then_read (taken client_app words) client_in)
-command_by verbs.Check words =
-    option_map commands.Check (then_read (taken check_app words) check_in)
-command_by verbs.Compare words =
-    option_map commands.Compare (then_read (taken compare_app words) compare_in)
-command_by verbs.Public words =
-    option_map commands.Public (then_read (taken public_app words) public_in)
-command_by verbs.Text words = option_map commands.Text (then_read (taken text_app words) text_in)
-command_by verbs.Entries words =
-    option_map commands.Entries (then_read (taken entries_app words) entries_in)
-command_by verbs.ServeAll words =
-    option_map commands.ServeAll (then_read (taken serve_all_app words) serve_all_in)
+command_by verb words = then_read (taken (app_for verb) words) (command_in verb)
 
 -- what they ask for, by the command that the first names
 unfoldable pub work_in : List Text → Option Command

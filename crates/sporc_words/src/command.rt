@@ -20,17 +20,17 @@ pub enum Command {
     /// `play --generate N` performs the generated run of so many edits, from 1 to
     /// `sporc_script::MAX_GENERATED`.
     Generate(u32),
-    /// `keygen NAME M HEIGHT W` makes a member's key.
+    /// `keygen NAME M HEIGHT W` makes a device's key.
     Keygen(Keygen),
     /// `found NAME M:ROLE ..` makes a document.
     Found(Found),
     /// `serve NAME ADDRESS --sessions K --times T` serves sessions.
     Serve(Serve),
-    /// `client NAME M ADDRESS --rounds R --until P SCRIPT ..` runs a member's session.
+    /// `client NAME M ADDRESS --rounds R --until P SCRIPT ..` runs a session of a member's device.
     Client(Client),
-    /// `check NAME M` examines a member's history.
+    /// `check NAME M` examines a device's history.
     Check(Check),
-    /// `compare NAME M N` compares the histories of two members.
+    /// `compare NAME M N` compares the histories of two devices.
     Compare(Compare),
     /// `help`, `help COMMAND` or `COMMAND --help` shows a page of the help.
     Help(Page),
@@ -38,9 +38,9 @@ pub enum Command {
     Version,
     /// `public NAME M` prints the public key of a key that is there.
     Public(Public),
-    /// `text NAME M --at POS` writes the committed text of a member's history.
+    /// `text NAME M --at POS` writes the committed text of a device's history.
     Text(TextAt),
-    /// `entries NAME M --from POS` lists the entries of a member's history.
+    /// `entries NAME M --from POS` lists the entries of a device's history.
     Entries(EntriesFrom),
     /// `serve-all ADDRESS --sessions K --times T NAME ..` serves sessions of several documents.
     ServeAll(ServeAll),

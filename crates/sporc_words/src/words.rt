@@ -3,10 +3,9 @@
 ghost use Rattle.std.specs.Prelude.{◌≡◌, ◌≢◌, map, IfOk, MatchOption, Err, None, Some};
 ghost use Rattle.std.specs.Prelude.{string_bytes};
 ghost use Rattle.clap.specs.Words.{found_of, rows_of};
-ghost use Rattle.sporc_script.specs.Readers.{then_read};
 ghost use Rattle.sporc_words.specs.declared.command.Verb.{Verb};
 ghost use Rattle.sporc_words.specs.declared.fault.WordsFault.{WordsFault};
-ghost use Rattle.sporc_words.specs.Arguments.{grammar_of, taken};
+ghost use Rattle.sporc_words.specs.Arguments.{grammar_of};
 ghost use Rattle.sporc_words.specs.Commands.{app_for, command_by, command_in, command_of, work_in};
 ghost use Rattle.sporc_words.specs.Verbs.{verb_name, verb_of};
 
@@ -64,23 +63,15 @@ fn find_work(alloc: Global, words: &[String]) -> Result<Option<Command>, Memory>
     let Some(verb) = parse_verb(first.as_str()) else {
         return Ok(None);
     };
-    read_command(alloc, verb, words)
-}
-
-// The command, of which the first word is this.
-#[tactic(auto, using(crate::proofs::ByVerb::by_verb))]
-fn read_command(alloc: Global, verb: Verb, words: &[String]) -> Result<Option<Command>, Memory>
-    ensures ok { IfOk result
-        (λ found. found ≡ command_by verb (map (λ w. string_bytes w) words.now)) }
-{
     read_by(alloc, verb, words)
 }
 
-// The command of this verb, from the words behind it: its arguments first, and then what is made of
-// their values.
+// The command of this verb, from all words: its arguments first, and then what is made of their
+// values.
+#[tactic(auto, unfolding(crate::specs::Commands::command_by))]
 fn read_by(alloc: Global, verb: Verb, words: &[String]) -> Result<Option<Command>, Memory>
-    ensures ok { IfOk result (λ found. found ≡ then_read
-        (taken (app_for verb) (map (λ w. string_bytes w) words.now)) (command_in verb)) }
+    ensures ok { IfOk result
+        (λ found. found ≡ command_by verb (map (λ w. string_bytes w) words.now)) }
 {
     let command = command_for(alloc, verb)?;
     let Some(matches) = read_matches(command, words)? else {

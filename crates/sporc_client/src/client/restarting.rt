@@ -1,9 +1,10 @@
 //! Clients that begin with a history, and clients that go back.
 
 ghost use Rattle.std.specs.Prelude.{◌≡◌, ◌+◌, ◌≤◌, ◌∷◌, ◌++◌, [], length, take, None, IfOk, IfErr};
-ghost use Rattle.std.specs.Prelude.{OnOk, OnErr};
+ghost use Rattle.std.specs.Prelude.{IfSome, OnOk, OnErr};
 ghost use Rattle.sporc_base.specs.FirstFault.{AnswersUnless};
 ghost use Rattle.sporc_head.specs.declared.limits.TheConstants.{MAX_ENTRIES};
+ghost use Rattle.sporc_head.specs.Examined.{IsExact};
 ghost use Rattle.sporc_line.specs.Document.{forms_of};
 ghost use Rattle.sporc_line.specs.Good.{Good};
 ghost use Rattle.sporc_line.specs.LineChecks.{first_fault};
@@ -18,7 +19,7 @@ use crate::fault::RestartFault;
 use crate::workspace::Workspace;
 use lms_sign::Signer;
 use sporc_base::Memory;
-use sporc_head::Refusal;
+use sporc_head::{Refusal, Verdict};
 use sporc_line::Line;
 use sporc_outside::LeafDisk;
 use std::alloc::{AllocError, Global};
@@ -123,7 +124,7 @@ fn first_entries(line: &Line, k: u32) -> Result<Line, Memory>
     Ok(first)
 }
 
-// Appends an entry that fails no check.
+// Appends an entry that fails no check. Its signature is not verified again.
 fn take_next(line: &mut Line, bytes: &[u8]) -> Result<(), Memory>
     requires { first_fault line.old.genesis line.old.kit line.old.entries
         (length line.old.entries + 1) bytes.now ≡ None }
@@ -132,9 +133,24 @@ fn take_next(line: &mut Line, bytes: &[u8]) -> Result<(), Memory>
     ensures entries { OnOk result (line.new.entries ≡ line.old.entries ++ bytes.now ∷ []) }
 {
     let place = line.len() + 1;
-    match line.accept(place, bytes) {
+    let verdict = good_verdict(line, bytes);
+    match line.accept_known(place, bytes, verdict.as_ref()) {
         Ok(()) => Ok(()),
         Err(Refusal::Memory) => Err(AllocError),
         Err(_) => unreachable!(),
+    }
+}
+
+// What verifying the signature of an entry that fails no check finds, under the key by which its
+// check verifies it.
+#[tactic(auto, using(crate::proofs::GoodVerdicts::verifies_there))]
+fn good_verdict(line: &Line, bytes: &[u8]) -> Option<Verdict>
+    requires { first_fault line.now.genesis line.now.kit line.now.entries
+        (length line.now.entries + 1) bytes.now ≡ None }
+    ensures { IfSome result (λ verdict. IsExact verdict bytes.now) }
+{
+    match line.key_for(bytes) {
+        Some(key) => Some(Verdict { key, good: true }),
+        None => None,
     }
 }

@@ -68,7 +68,7 @@ impl<D: LeafDisk> Client<D> {
         Some(self.own.shown_len_at(seen as u32))
     }
 
-    /// The key of the last epoch. None if a change removed the member.
+    /// The key of the last epoch. None if a change removed the member, or dropped the device.
     pub fn key(&self) -> Option<&[u8; 32]>
         ensures value { option_copied result
             ≡ epoch_key self.now.opening.genesis self.now.opening.kit (state_of self.now).entries

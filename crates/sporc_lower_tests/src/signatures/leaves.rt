@@ -3,7 +3,7 @@ ghost use Rattle.lms_leaf.specs.LeafFile.{IsLeafHeight};
 
 use crate::calls::{failing, has_calls};
 use crate::checks::check;
-use lms_leaf::{LeafFault, Leaves, blank, laws};
+use lms_leaf::{LeafFault, Leaves, blank};
 use sporc_base::is_same;
 use sporc_memory::MemoryDisk;
 use sporc_outside::Counted;
@@ -71,7 +71,6 @@ fn a_file_is_blank_at_first_and_is_drawn_by_blocks(rt: HostRuntime) {
         is_same(disk.as_slice(), b"\0\x09\x01\0\0\0\0\0"),
     );
     has_calls(&rt, disk.log(), &CALLS);
-    laws::no_leaf_is_drawn_twice::<MemoryDisk>();
 }
 
 // ---- crashes

@@ -20,20 +20,14 @@ fn is_short(delta: &Delta) -> bool
     delta.base_len() <= 10_000 && delta.out_len() <= 10_000
 }
 
-// A delta of a text of `len` characters that changes one of them, by its number in a list of forms.
-fn numbered(rt: &impl Abort, alloc: Global, number: u32, len: u64) -> Delta
+// A delta of a text of `len` characters that inserts a letter at 0.
+fn letter(rt: &impl Abort, alloc: Global, len: u64) -> Delta
     ensures base { base_len result ≡ len }
     ensures len_within { len ≤ 10000 }
     ensures within { inserted_len result ≤ 10000 }
 {
-    assert!(rt; 0 < len && len <= 9_999);
-    let made = match number % 4 {
-        0 => Delta::insert_at(alloc, len, 0, "a"),
-        1 => Delta::insert_at(alloc, len, len, "b"),
-        2 => Delta::remove_at(alloc, len, len / 2, 1),
-        _ => Delta::insert_at(alloc, len, len / 2, "c"),
-    };
-    let delta = made.expect(rt, "memory");
+    assert!(rt; len <= 9_999);
+    let delta = Delta::insert_at(alloc, len, 0, "a").expect(rt, "memory");
     assert!(rt; delta.base_len() == len && is_short(&delta));
     delta
 }
@@ -73,8 +67,8 @@ fn append(rt: &impl Abort, blocks: &mut Blocks, form: Delta)
     push_anyway(rt, blocks, form);
 }
 
-// So many forms over `xyz`: each inserts a letter at 0, or each is the one of its number.
-fn forms(rt: &impl Abort, alloc: Global, count: u32, at_front: bool) -> Blocks
+// So many forms over `xyz`, each of which inserts a letter at 0.
+fn forms(rt: &impl Abort, alloc: Global, count: u32) -> Blocks
     ensures len { length result.forms ≡ count }
     ensures within { length result.forms ≤ 10000 }
     ensures follow { Follow result.base result.forms }
@@ -83,20 +77,19 @@ fn forms(rt: &impl Abort, alloc: Global, count: u32, at_front: bool) -> Blocks
     assert!(rt; count <= 10_000);
     let mut blocks = Blocks::new(alloc, 3).expect(rt, "memory");
     let mut len = 3;
-    for i in 0..count {
-        let form = numbered(rt, alloc, if at_front { 0 } else { i }, len);
+    for _ in 0..count {
+        let form = letter(rt, alloc, len);
         len = form.out_len();
         append(rt, &mut blocks, form);
     }
     blocks
 }
 
-// The delta of a number, stated on the text after the first `from` forms, behind all of them.
+// A letter at 0 of the text after the first `from` forms, behind all of them.
 fn behind_all<L: Ledger>(
     rt: &impl Abort,
     alloc: Global,
     blocks: &Blocks,
-    number: u32,
     from: u32,
     steps: &mut Steps<L>,
 ) -> Delta
@@ -107,15 +100,15 @@ fn behind_all<L: Ledger>(
     // With 4,096 forms it passes from the second on in at most 24 steps.
     ensures steps { length blocks.now.forms ≡ 4096 → from ≡ 1 → steps.new ≤ steps.old + 24 }
 {
-    let delta = numbered(rt, alloc, number, blocks.form(from).base_len());
+    let delta = letter(rt, alloc, blocks.form(from).base_len());
     blocks.later_over(&delta, from, steps).expect(rt, "memory")
 }
 
-// What the numbered delta becomes behind the forms, form by form.
-fn walked(rt: &impl Abort, alloc: Global, blocks: &Blocks, number: u32, from: u32) -> Delta
+// What it becomes behind the forms, form by form.
+fn walked(rt: &impl Abort, alloc: Global, blocks: &Blocks, from: u32) -> Delta
     requires { from < length blocks.now.forms }
 {
-    let mut delta = numbered(rt, alloc, number, blocks.form(from).base_len());
+    let mut delta = letter(rt, alloc, blocks.form(from).base_len());
     for place in from..blocks.len() {
         delta = passed(rt, alloc, &delta, blocks.form(place));
     }
@@ -144,28 +137,14 @@ fn passes_as_walked<L: Ledger>(
     requires inserted_limit { all_inserted blocks.now.forms ≤ 10000 * length blocks.now.forms }
 {
     let mut steps: Steps<L> = Steps::new(blank);
-    let found = behind_all(rt, alloc, blocks, from + 3, from, &mut steps);
-    let plain = walked(rt, alloc, blocks, from + 3, from);
+    let found = behind_all(rt, alloc, blocks, from, &mut steps);
+    let plain = walked(rt, alloc, blocks, from);
     check(rt, "forms one by one", found.is_same(&plain));
-}
-
-// Numbers of forms around the powers of two, from each place on.
-const COUNTS: [u32; 9] = [1, 2, 3, 4, 7, 8, 21, 64, 101];
-
-#[test]
-fn runs_are_passed_as_their_forms_are(rt: HostRuntime) {
-    let alloc = rt.alloc();
-    for count in &COUNTS {
-        let blocks = forms(&rt, alloc, *count, false);
-        for from in 0..blocks.len() {
-            passes_as_walked::<Brand>(&rt, Blank::new(1), alloc, &blocks, from);
-        }
-    }
 }
 
 #[test]
 fn letters_at_the_front_are_passed_in_few_steps(rt: HostRuntime) {
     let alloc = rt.alloc();
-    let blocks = forms(&rt, alloc, 4096, true);
+    let blocks = forms(&rt, alloc, 4096);
     passes_as_walked::<Brand>(&rt, Blank::new(1), alloc, &blocks, 1);
 }

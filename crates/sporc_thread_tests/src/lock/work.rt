@@ -68,7 +68,7 @@ fn crowd<R: Threads + Wait + Sync>(
     }
     let (first, other) = match turn.split(first) {
         Ok(both) => both,
-        Err((first, _)) => return first,
+        Err(_) => unreachable!(),
     };
     let (first, other) = join(
         rt,
@@ -109,7 +109,7 @@ pub fn opened(rt: &impl Abort, alloc: Global) -> (Turn<Tally>, Pass<u32>, Pass<u
         panic!(rt; "memory");
     };
     let Ok((first, second)) = turn.split(first) else {
-        panic!(rt; "memory");
+        unreachable!()
     };
     (turn, first, second)
 }

@@ -150,7 +150,7 @@ fn passed_by_two<R: Abort + Wait, D: LeafDisk + Drop>(
     requires limit { (known_of first).splits + 1 < 2 ^ 32 }
 {
     let Ok((first, second)) = shared.split(first) else {
-        panic!(rt; "memory");
+        unreachable!()
     };
     let first = edit_and_accept(rt, alloc, &shared, first, second, sample);
     let outcome = closed(rt, alloc, shared, first, Ok(()));

@@ -11,7 +11,7 @@ returns-in_err-chains-clause-outcome g c =
     compares c.args.asked.now.first c.args.asked.now.second _ _ (c.of_document-names.ensures.value ∙ ap names_of_document c.as_str.ensures.value) _ _ _ (record {
       content = content;
       are = are;
-      reads = record { unchanged = c.in_err-chains.ensures.files; may_ask = c.in_err-chains.ensures.may_ask };
+      reads = c.in_err-chains.ensures.reads;
       writes = not_found (IsVerdictLine c.args.asked.now.first c.args.asked.now.second) _ _ _ both_chains _ _ (failed.1 ∙ ap Err failed.2) tells (record { written = refl; faults = refl });
     })
 
@@ -22,7 +22,7 @@ returns-in_err-line-clause-outcome g c =
     compares c.args.asked.now.first c.args.asked.now.second _ _ (c.of_document-names.ensures.value ∙ ap names_of_document c.as_str.ensures.value) _ _ _ (record {
       content = content;
       are = are;
-      reads = record { unchanged = c.in_ok-chains.ensures.files; may_ask = c.in_ok-chains.ensures.may_ask };
+      reads = c.in_ok-chains.ensures.reads;
       writes = no_memory (IsVerdictLine c.args.asked.now.first c.args.asked.now.second) _ _ _ _ (failed.1 ∙ ap Err failed.2) (record { written = refl; faults = refl });
     })
 
@@ -33,7 +33,7 @@ returns-in_err-write_all-clause-outcome g c =
     compares c.args.asked.now.first c.args.asked.now.second _ _ (c.of_document-names.ensures.value ∙ ap names_of_document c.as_str.ensures.value) _ _ _ (record {
       content = content;
       are = are;
-      reads = record { unchanged = c.in_ok-chains.ensures.files; may_ask = c.in_ok-chains.ensures.may_ask };
+      reads = c.in_ok-chains.ensures.reads;
       writes = line_cut (IsVerdictLine c.args.asked.now.first c.args.asked.now.second) _ _ _ (both_chains c.in_ok-chains.chains) c.as_bytes.result.now _ (failed.1 ∙ ap Err failed.2) tells (verdict_says c.args.asked.now.first c.args.asked.now.second _ _ _ _ _ _ c.as_slice.ensures.value c.as_slice-2.ensures.value c.as_bytes.ensures.value c.in_ok-line.ensures) c.in_err-write_all.ensures.err c.in_err-write_all.ensures.count.failed;
     })
 
@@ -43,6 +43,6 @@ returns-clause-outcome g c =
     compares c.args.asked.now.first c.args.asked.now.second _ _ (c.of_document-names.ensures.value ∙ ap names_of_document c.as_str.ensures.value) _ _ _ (record {
       content = content;
       are = are;
-      reads = record { unchanged = c.in_ok-chains.ensures.files; may_ask = c.in_ok-chains.ensures.may_ask };
+      reads = c.in_ok-chains.ensures.reads;
       writes = line_written (IsVerdictLine c.args.asked.now.first c.args.asked.now.second) _ _ _ (both_chains c.in_ok-chains.chains) c.as_bytes.result.now tells (verdict_says c.args.asked.now.first c.args.asked.now.second _ _ _ _ _ _ c.as_slice.ensures.value c.as_slice-2.ensures.value c.as_bytes.ensures.value c.in_ok-line.ensures) c.in_ok-write_all.ensures.ok;
     })

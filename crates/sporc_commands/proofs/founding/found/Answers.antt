@@ -14,24 +14,24 @@ returns-in_err-write_founding-clause-outcome g c =
     let p = err_from_is_err_and c.from_residual-in_err-write_founding.result c.from_residual-in_err-write_founding.ensures.1 in
     write_fails c.from_residual-in_err-write_founding.result c.args.asked.now
     (use_of g.F.Folder.told c.args.files.now c.write_founding.new.files)
-    (use_of g.C.Chance.told c.args.chance.now c.make_founding.new.chance) _ _ p.1 p.2 c.of_document-names.result c.as_slice.result.now _ _ c.in_ok-named.named.items c.in_ok-founding.founding
-    (c.of_document-names.ensures.value ∙ ap names_of_document c.as_str.ensures.value) c.as_slice.ensures.value c.read_founders.ensures.files c.read_founders.ensures.kept
+    (use_of g.C.Chance.told c.args.chance.now c.make_founding.new.chance) _ _ p.1 p.2 c.of_document-names.result c.as_slice.result.now (g.F.Folder.told c.read_founders.new.files) c.in_ok-named.named.items c.in_ok-founding.founding
+    (c.of_document-names.ensures.value ∙ ap names_of_document c.as_str.ensures.value) c.as_slice.ensures.value c.read_founders.ensures.reads.files c.read_founders.ensures.reads.kept
     c.in_ok-named.ensures.ok (rw c.as_slice-2.ensures.value at c.in_ok-founding.ensures.ok) c.in_err-write_founding.ensures.err
 
 pub returns-in_err-named-clause-may_ask : goal.returns-in_err-named-clause-may_ask
 returns-in_err-named-clause-may_ask g c =
-    found_asks_keys c.of_document-names.result (names_of_document c.args.asked.now.name) c.as_slice.result.now c.args.asked.now.participants _ (c.of_document-names.ensures.value ∙ ap names_of_document c.as_str.ensures.value) c.as_slice.ensures.value _ c.read_founders.ensures.may_ask
+    found_asks_keys c.of_document-names.result (names_of_document c.args.asked.now.name) c.as_slice.result.now c.args.asked.now.participants _ (c.of_document-names.ensures.value ∙ ap names_of_document c.as_str.ensures.value) c.as_slice.ensures.value _ c.read_founders.ensures.reads.may_ask
 
 pub returns-in_err-founding-clause-may_ask : goal.returns-in_err-founding-clause-may_ask
 returns-in_err-founding-clause-may_ask g c =
-    found_asks_keys c.of_document-names.result (names_of_document c.args.asked.now.name) c.as_slice.result.now c.args.asked.now.participants _ (c.of_document-names.ensures.value ∙ ap names_of_document c.as_str.ensures.value) c.as_slice.ensures.value _ c.read_founders.ensures.may_ask
+    found_asks_keys c.of_document-names.result (names_of_document c.args.asked.now.name) c.as_slice.result.now c.args.asked.now.participants _ (c.of_document-names.ensures.value ∙ ap names_of_document c.as_str.ensures.value) c.as_slice.ensures.value _ c.read_founders.ensures.reads.may_ask
 
 pub returns-in_err-write_founding-clause-may_ask : goal.returns-in_err-write_founding-clause-may_ask
 returns-in_err-write_founding-clause-may_ask g c =
     found_asks_all c.of_document-names.result (names_of_document c.args.asked.now.name) c.as_slice.result.now c.args.asked.now.participants _ (c.of_document-names.ensures.value ∙ ap names_of_document c.as_str.ensures.value) c.as_slice.ensures.value
-    _ c.in_ok-named.named.items _ _ c.in_ok-founding.founding _ _ c.in_ok-named.ensures.ok (rw c.as_slice-2.ensures.value at c.in_ok-founding.ensures.ok) c.read_founders.ensures.may_ask c.write_founding.ensures.may_ask
+    _ c.in_ok-named.named.items _ _ c.in_ok-founding.founding _ _ c.in_ok-named.ensures.ok (rw c.as_slice-2.ensures.value at c.in_ok-founding.ensures.ok) c.read_founders.ensures.reads.may_ask c.write_founding.ensures.may_ask
 
 pub returns-clause-may_ask : goal.returns-clause-may_ask
 returns-clause-may_ask g c =
     found_asks_all c.of_document-names.result (names_of_document c.args.asked.now.name) c.as_slice.result.now c.args.asked.now.participants _ (c.of_document-names.ensures.value ∙ ap names_of_document c.as_str.ensures.value) c.as_slice.ensures.value
-    _ c.in_ok-named.named.items _ _ c.in_ok-founding.founding _ _ c.in_ok-named.ensures.ok (rw c.as_slice-2.ensures.value at c.in_ok-founding.ensures.ok) c.read_founders.ensures.may_ask c.write_founding.ensures.may_ask
+    _ c.in_ok-named.named.items _ _ c.in_ok-founding.founding _ _ c.in_ok-named.ensures.ok (rw c.as_slice-2.ensures.value at c.in_ok-founding.ensures.ok) c.read_founders.ensures.reads.may_ask c.write_founding.ensures.may_ask

@@ -8,7 +8,8 @@ pub returns-clause-err : goal.returns-clause-err
 returns-clause-err g c =
     let first = rw (c.as_slice.ensures.value, c.in_ok-bytes.ensures.ok) at c.in_ok-write_whole_file.ensures.ok in
     let rest = rw c.as_slice-2.ensures.value at c.write_rings.ensures.err in
-    behind_err (file_with c.args.names.now files.Genesis (genesis_bytes c.args.founding.now.genesis)) (map (ring_of_founding c.args.names.now) c.args.founding.now.rings) _ _ _ _ _ _
+    behind_err (file_with c.args.names.now files.Genesis (genesis_bytes c.args.founding.now.genesis)) (map (ring_of_founding c.args.names.now) c.args.founding.now.rings)
+    (g.F.Folder.told c.args.files.now) (g.F.Folder.told c.write_whole_file.new.files) (g.F.Folder.told c.write_rings.new.files)
     first c.write_whole_file.ensures.kept c.write_rings.result rest
 
 pub returns-in_err-bytes-clause-may_ask : goal.returns-in_err-bytes-clause-may_ask

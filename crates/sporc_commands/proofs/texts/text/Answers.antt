@@ -7,23 +7,23 @@ pub returns-in_err-line-clause-outcome : goal.returns-in_err-line-clause-outcome
 returns-in_err-line-clause-outcome g c =
     let failed = err_from_is_err_and c.from_residual.result c.from_residual.ensures.1 in
     none_examined IsJust (text_at c.args.asked.now.at) _ _ (c.of_document-names.ensures.value ∙ ap names_of_document c.as_str.ensures.value) _ _ _ _ _ (failed.1 ∙ ap Err failed.2) c.in_err-line.ensures.found
-    (record { unchanged = c.in_err-line.ensures.files; may_ask = c.in_err-line.ensures.may_ask }) (record { written = refl; faults = refl })
+    c.in_err-line.ensures.reads (record { written = refl; faults = refl })
 
 pub returns-in_err-text-clause-outcome : goal.returns-in_err-text-clause-outcome
 returns-in_err-text-clause-outcome g c =
     let failed = err_from_is_err_and c.from_residual-in_err-text.result c.from_residual-in_err-text.ensures.1 in
     examined_for_none IsJust (text_at c.args.asked.now.at) _ _ (c.of_document-names.ensures.value ∙ ap names_of_document c.as_str.ensures.value) _ _ _ c.in_ok-line.line c.in_ok-line.ensures.found
-    (record { unchanged = c.in_ok-line.ensures.files; may_ask = c.in_ok-line.ensures.may_ask }) (string_bytes {Z = Global}) _ _ (failed.1 ∙ ap Err failed.2) c.in_err-text.ensures.value (record { written = refl; faults = refl })
+    c.in_ok-line.ensures.reads (string_bytes {Z = Global}) _ _ (failed.1 ∙ ap Err failed.2) c.in_err-text.ensures.value (record { written = refl; faults = refl })
 
 pub returns-in_err-write_all-clause-outcome : goal.returns-in_err-write_all-clause-outcome
 returns-in_err-write_all-clause-outcome g c =
     let failed = err_from_is_err_and c.from_residual-in_err-write_all.result c.from_residual-in_err-write_all.ensures.1 in
     examined_to_cut IsJust (text_at c.args.asked.now.at) _ _ (c.of_document-names.ensures.value ∙ ap names_of_document c.as_str.ensures.value) _ _ _ c.in_ok-line.line c.in_ok-line.ensures.found
-    (record { unchanged = c.in_ok-line.ensures.files; may_ask = c.in_ok-line.ensures.may_ask })
+    c.in_ok-line.ensures.reads
     _ c.as_bytes.result.now _ (failed.1 ∙ ap Err failed.2) c.in_ok-text.ensures.value c.as_bytes.ensures.value c.in_err-write_all.ensures.err c.in_err-write_all.ensures.count.failed
 
 pub returns-clause-outcome : goal.returns-clause-outcome
 returns-clause-outcome g c =
     examined_to_write IsJust (text_at c.args.asked.now.at) _ _ (c.of_document-names.ensures.value ∙ ap names_of_document c.as_str.ensures.value) _ _ _ c.in_ok-line.line c.in_ok-line.ensures.found
-    (record { unchanged = c.in_ok-line.ensures.files; may_ask = c.in_ok-line.ensures.may_ask })
+    c.in_ok-line.ensures.reads
     _ c.as_bytes.result.now c.in_ok-text.ensures.value c.as_bytes.ensures.value c.in_ok-write_all.ensures.ok

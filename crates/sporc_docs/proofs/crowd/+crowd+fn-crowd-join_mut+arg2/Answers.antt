@@ -1,20 +1,22 @@
-use Rattle.std.proofs.Common.{◌≡◌, ◌∷◌, List, Option, rules, sym, subst, subst₂}
-use Rattle.sporc_docs.proofs.Common.{AreShutBehind, StreamTold, visit, Hand, IsCrowd, AllHands, HavePasses, LogsBegin, Sits}
+use Rattle.std.proofs.Common.{◌≡◌, ◌∷◌, List, Ok, Err, arith, rules, refl, sym, subst, subst₂}
+use Rattle.sporc_docs.proofs.Common.{visit, Hand, IsCrowd, AllHands, HavePasses, LogsBegin, Sits}
 use Rattle.sporc_outside.specs.Told.{IsTrueIfTold}
-use Rattle.sporc_outside.proofs.Returning.{shut_more}
-use Rattle.sporc_docs.proofs.Crowding.{crowd_none, crowd_failed, crowd_more}
+use Rattle.sporc_serve.specs.Crowds.{LeavesNet}
+use Rattle.sporc_serve.proofs.Links.{leaves_none, leaves_more}
+use Rattle.sporc_serve.specs.declared.fault.ServeFault.TheVariants as faults
+use Rattle.sporc_docs.proofs.Crowding.{crowd_none, crowd_more}
 use Rattle.sporc_docs.proofs.crowd.+crowd+fn-crowd-join_mut+arg2.Goals as goal
 
 pub returns-in_default-clause-crowd : goal.returns-in_default-clause-crowd
 returns-in_default-clause-crowd g t c logs =
-    crowd_none c.args.turns.now c.args.documents.now c.args.hands.now
-    (g.N.Links.told c.args.net.now) c.in_default.ensures.cases
+    crowd_none c.args.turns.now c.args.documents.now c.args.hands.now c.args.hands.now
+    (g.N.Links.told c.args.net.now) (g.N.Links.told c.args.net.now) (Ok tt) refl refl refl (sym c.in_default.ensures.cases, tt)
 
 pub returns-in_default-accept-clause-crowd : goal.returns-in_default-accept-clause-crowd
 returns-in_default-accept-clause-crowd g t c logs =
-    crowd_failed c.args.turns.now c.args.documents.now c.args.hands.now _
+    crowd_none c.args.turns.now c.args.documents.now c.args.hands.now _
     (g.N.Links.told c.args.net.now)
-    (g.N.Links.told c.accept.new.self) (sym c.in-Some.ensures.cases.0)
+    (g.N.Links.told c.accept.new.self) (Err faults.ListenFault) (sym c.in-Some.ensures.cases.0)
     c.in_default-accept.ensures.did.coming_unchanged c.accept.ensures.did.returned c.in_default-accept.ensures.did.count.failed
 
 pub returns-clause-crowd : goal.returns-clause-crowd
@@ -47,15 +49,22 @@ returns-clause-crowd g t c logs =
     logs'.0 sits crowd c.in-Ok.ensures.did.next c.in-Ok.ensures.did.not_shut c.accept.ensures.did.returned c.accept.ensures.did.count.kept c.take_back.ensures.coming c.take_back.ensures.returned
     c.take_back.ensures.kept c.with_end.ensures.value)
 
-pub returns-clause-shut : goal.returns-clause-shut
-returns-clause-shut g t c =
+pub returns-in_default-clause-net : goal.returns-in_default-clause-net
+returns-in_default-clause-net g t c = leaves_none (g.N.Links.told c.args.net.now) (g.N.Links.told c.args.net.now) refl refl refl (omega arith)
+
+pub returns-in_default-accept-clause-net : goal.returns-in_default-accept-clause-net
+returns-in_default-accept-clause-net g t c =
+    leaves_none (g.N.Links.told c.args.net.now) (g.N.Links.told c.accept.new.self) c.accept.ensures.did.returned c.accept.ensures.asked
+    c.in_default-accept.ensures.did.out_unchanged c.accept.ensures.did.count.kept
+
+pub returns-clause-net : goal.returns-clause-net
+returns-clause-net g t c =
     let link = c.link-3-1.given.0 in
     let net = c.net-1.given.0 in
     let same_link : link ≡ c.join_mut-rest.new.g.5.now = search rules in
     let same_net : net ≡ c.join_mut-rest.new.f.2.now = search rules in
     let shut = subst (λ (l : g.row.N-Link.Denot). IsTrueIfTold (g.N.Link.Stream.told l).is_shut) (sym same_link) c.join_mut-rest.ensures.1.met.1.2 in
-    let rest = subst (λ (n : g.row.N.Denot). AreShutBehind (g.N.Links.told c.accept.new.self).returned (g.N.Links.told n).returned) (sym same_net)
-    c.join_mut-rest.ensures.0.met.1.2 in
-    let before = subst (λ (r : Option (List StreamTold)). AreShutBehind r (g.N.Links.told net).returned) c.accept.ensures.did.returned rest in
-    shut_more (g.N.Links.told c.args.net.now).returned (g.N.Links.told net).returned (g.N.Links.told c.take_back.new.self).returned (g.N.Link.Stream.told link) before
-    c.take_back.ensures.returned shut
+    let rest = subst (λ (n : g.row.N.Denot). LeavesNet (g.N.Links.told c.accept.new.self) (g.N.Links.told n)) (sym same_net) c.join_mut-rest.ensures.0.met.1.2 in
+    leaves_more (g.N.Links.told c.args.net.now) (g.N.Links.told c.accept.new.self) (g.N.Links.told net) (g.N.Links.told c.take_back.new.self) (g.N.Link.Stream.told link)
+    c.accept.ensures.did.returned c.accept.ensures.asked c.in-Ok.ensures.did.out c.accept.ensures.did.count.kept rest c.take_back.ensures.returned shut
+    c.take_back.ensures.asked c.take_back.ensures.out c.take_back.ensures.kept

@@ -1,6 +1,6 @@
 use Rattle.std.proofs.Common.{◌≡◌, ◌∷◌, ◌∙◌, ◌+◌, [], None, List, ap, length, length-append, replicate, sym, subst, arith}
 use Rattle.sporc_docs.proofs.Common.{Hand, AllHands}
-use Rattle.sporc_docs.proofs.Opening.{hands_more}
+use Rattle.std.proofs.SliceLists.{all_by_recursion_push}
 use Rattle.sporc_docs.proofs.hands.empty_hands.Goals as goal
 
 pub loop-preserved : goal.loop-preserved
@@ -15,5 +15,5 @@ loop-preserved c =
       count = size ∙ one ∙ ap (λ n. n + 1) before;
       room = omega (arith, room, same);
       empty = subst (λ (hs : List Hand). AllHands (λ passes. passes ≡ replicate c.args.len None) hs) (sym items)
-          (hands_more (λ passes. passes ≡ replicate c.args.len None) c.loop.hands.items c.in_ok-hand.hand c.loop.invariant.empty c.in_ok-hand.ensures);
+          (all_by_recursion_push (λ (hand : Hand). hand.passes.items ≡ replicate c.args.len None) c.loop.hands.items c.in_ok-hand.hand c.loop.invariant.empty c.in_ok-hand.ensures);
     }

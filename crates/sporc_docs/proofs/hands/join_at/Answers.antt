@@ -7,9 +7,9 @@ returns-clause-joins g c =
     let taken = c.take-2.ensures.value in
     let some = c.unwrap-pass.ensures in
     let taken' = c.take.ensures.value in
-    let some' = c.in-Some.is in
+    let some' = c.unwrap-other.ensures in
     let first : Some c.unwrap-pass.result ≡ c.args.first.now = cc in
-    let place : Some c.in-Some.other ≡ c.args.place.now = cc in
+    let place : Some c.unwrap-other.result ≡ c.args.place.now = cc in
     subst₂ (λ (f q : Option (Pass Item)). JoinsAt f (q ∷ []) (Some c.join.result)) first place (
       c.join.result,
       record { known_is = c.join.ensures.known; read_is = c.join.ensures.read; first = c.join.ensures.first; other = c.join.ensures.other },

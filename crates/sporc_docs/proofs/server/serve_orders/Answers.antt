@@ -1,6 +1,7 @@
 use Rattle.std.proofs.Common.{◌≡◌, ◌∙◌, ◌++◌, ℕ, List, [], length, map, reverse, Err, refl, ap, sym, subst, arith}
-use Rattle.sporc_docs.proofs.Common.{OrderModel, Hand, AllHands, Both, IsEmpty, KnowsFirst, AreEnding}
+use Rattle.sporc_docs.proofs.Common.{OrderModel, Hand, AllHands, AllZip, IsEmpty, KnowsFirst, AreEnding}
 use Rattle.sporc_serve.specs.declared.fault.ServeFault.TheVariants as faults
+use Rattle.sporc_serve.proofs.Links.{leaves_none}
 use Rattle.sporc_docs.proofs.Opening.{empty_all, kept_length}
 use Rattle.sporc_docs.proofs.Served.{serves_none, serves_opened, serves_all, room_first, open_lengths, opened_back, opened_all, room_back, ok_then}
 use Rattle.sporc_docs.proofs.server.serve_orders.Goals as goal
@@ -50,7 +51,7 @@ serve-answer-requires-clause-empty g c κs within =
     let count = c.len-count.ensures in
     let ok = c.args.orders.now.ok in
     let size : length c.open.new.self.turns.items ≡ c.len-count.result = omega (arith, all.1, turns, count, ok) in
-    subst (λ (hs : List Hand). AllHands (Both IsEmpty c.open.new.self.turns.items) hs) (sym c.deref_mut.ensures.value)
+    subst (λ (hs : List Hand). AllHands (AllZip IsEmpty c.open.new.self.turns.items) hs) (sym c.deref_mut.ensures.value)
     (empty_all c.open.new.self.turns.items c.len-count.result c.in-Ok.hands.items size c.in-Ok.ensures.empty)
 
 pub serve-answer-requires-clause-one_length : goal.serve-answer-requires-clause-one_length
@@ -61,7 +62,7 @@ pub close-requires-2-clause-back : goal.close-requires-2-clause-back
 close-requires-2-clause-back g c =
     let rest = ok_then c.open.result c.is_err.result (c.open.new.orders.items ≡ []) c.is_err.ensures.value c.if-is_err.false c.open.ensures.ok in
     let all = opened_all c.args.orders.now.items c.open.new.orders.items c.open.ensures.open.0 rest c.open.ensures.open.1 in
-    let known = subst (λ (os : List OrderModel). Both KnowsFirst os c.open.new.self.firsts.items) all.0 c.open.ensures.open.2.known in
+    let known = subst (λ (os : List OrderModel). AllZip KnowsFirst os c.open.new.self.firsts.items) all.0 c.open.ensures.open.2.known in
     let documents = c.open.ensures.open.2.documents_are ∙ ap (λ (os : List OrderModel). map (λ (o : OrderModel). o.genesis.document) os) all.0 in
     (c.serve-answer.ensures.ending c.args.orders.now.items c.requires.apart documents known).1.back
 
@@ -85,7 +86,7 @@ pub returns-clause-served : goal.returns-clause-served
 returns-clause-served g c =
     let rest = ok_then c.open.result c.is_err.result (c.open.new.orders.items ≡ []) c.is_err.ensures.value c.if-is_err.false c.open.ensures.ok in
     let all = opened_all c.args.orders.now.items c.open.new.orders.items c.open.ensures.open.0 rest c.open.ensures.open.1 in
-    let known = subst (λ (os : List OrderModel). Both KnowsFirst os c.open.new.self.firsts.items) all.0 c.open.ensures.open.2.known in
+    let known = subst (λ (os : List OrderModel). AllZip KnowsFirst os c.open.new.self.firsts.items) all.0 c.open.ensures.open.2.known in
     let documents = c.open.ensures.open.2.documents_are ∙ ap (λ (os : List OrderModel). map (λ (o : OrderModel). o.genesis.document) os) all.0 in
     let ending = c.serve-answer.ensures.ending c.args.orders.now.items c.requires.apart documents known in
     let hands = ap length c.deref_mut.ensures.value in
@@ -95,3 +96,12 @@ returns-clause-served g c =
     serves_all (g.N.Links.told c.args.net.now) (g.N.Links.told c.serve-answer.new.net) c.args.sessions c.serve-answer.result c.args.orders.now.items c.close-2.new.orders.items closed.0 c.serve-answer.new.self.firsts.items
     (subst (λ (n : ℕ). AreEnding c.args.orders.now.items c.serve-answer.new.self.firsts.items (g.N.Links.told c.args.net.now) (g.N.Links.told c.serve-answer.new.net) n c.serve-answer.result) count ending)
     (closed.1 ∙ ap (λ (l : List OrderModel). l ++ reverse closed.0) rest) closed.2
+
+pub returns-in_default-clause-net : goal.returns-in_default-clause-net
+returns-in_default-clause-net g c = leaves_none (g.N.Links.told c.args.net.now) (g.N.Links.told c.args.net.now) refl refl refl (omega arith)
+
+pub returns-in_default-with_capacity-clause-net : goal.returns-in_default-with_capacity-clause-net
+returns-in_default-with_capacity-clause-net g c = leaves_none (g.N.Links.told c.args.net.now) (g.N.Links.told c.args.net.now) refl refl refl (omega arith)
+
+pub returns-then-is_err-clause-net : goal.returns-then-is_err-clause-net
+returns-then-is_err-clause-net g c = leaves_none (g.N.Links.told c.args.net.now) (g.N.Links.told c.args.net.now) refl refl refl (omega arith)

@@ -1,6 +1,7 @@
 use Rattle.std.proofs.Common.{rules, arith}
 use Rattle.sporc_hosting.proofs.Common.{KeepsBehind}
 use Rattle.sporc_hosting.proofs.Back.{front_left, last_keeps, one_left, others_keep}
+use Rattle.sporc_hosting.proofs.Rooms.{numbers_left}
 use Rattle.sporc_hosting.proofs.Saved.{as_many_left}
 use Rattle.sporc_hosting.proofs.giving.+give_back_all.Goals as goal
 
@@ -10,7 +11,8 @@ give_back_all-others-requires g t c κs within =
     c.in-Some.ensures.cases.0 c.in-Some-split_first.ensures.cases.0 c.requires.one_length in
     let tails = others_keep (KeepsBehind g.F.Appended.AppendFile.told) c.args.tails.now.items c.args.orders.now c.in-Some-split_first.order.now
     c.in-Some-split_first.more_orders.now c.in-Some-split_first.ensures.cases.0 c.requires.tails in
-    (search rules, (within.0, (within.1.0, (within.1.1, (each, tails)))))
+    let numbers = numbers_left c.args.logs.now c.in-Some.log.now c.in-Some.more_logs.now c.in-Some.ensures.cases.0 _ _ c.requires.numbers_limit in
+    (search rules, (within.0, (within.1.0, (within.1.1, (each, (numbers, tails))))))
 
 pub returns-in_default-pop-clause-gives : goal.returns-in_default-pop-clause-gives
 returns-in_default-pop-clause-gives g t c =

@@ -6,8 +6,7 @@ use Rattle.sporc_hosting.proofs.hosting.serve_all.Goals as goal
 
 pub serve_rounds-last-requires-clause-tails : goal.serve_rounds-last-requires-clause-tails
 serve_rounds-last-requires-clause-tails g c κs within =
-    let more = opened_first g.F.Appended.AppendFile.told (g.F.Folder.told c.args.files.now).files c.as_slice-names.result.now (g.F.Folder.told c.args.files.now).faults
-    (g.F.Folder.told c.open_documents.new.files).faults (Ok tt) c.new.result c.open_documents.new.held.docs c.new-2.result.items c.open_documents.new.held.tails.items
+    let more = opened_first g.F.Appended.AppendFile.told (use_of g.F.Folder.told c.args.files.now c.open_documents.new.files) c.as_slice-names.result.now (Ok tt) c.new.result c.open_documents.new.held.docs c.new-2.result.items c.open_documents.new.held.tails.items
     c.new-3.result.items c.open_documents.new.held.logs.items c.new.ensures.value c.new-2.ensures.items c.new-3.ensures.items c.in-Ok.ensures.opens in
     record {
       one_length = (all_open g.F.Appended.AppendFile.told c.as_slice-names.result.now more.opened more.held more.contents _ _ _ more.all more.are_open).0;
@@ -16,8 +15,7 @@ serve_rounds-last-requires-clause-tails g c κs within =
 
 pub give_back-requires-clause-one_length : goal.give_back-requires-clause-one_length
 give_back-requires-clause-one_length g c =
-    let more = opened_first g.F.Appended.AppendFile.told (g.F.Folder.told c.args.files.now).files c.as_slice-names.result.now (g.F.Folder.told c.args.files.now).faults
-    (g.F.Folder.told c.open_documents.new.files).faults (Ok tt) c.new.result c.open_documents.new.held.docs c.new-2.result.items c.open_documents.new.held.tails.items
+    let more = opened_first g.F.Appended.AppendFile.told (use_of g.F.Folder.told c.args.files.now c.open_documents.new.files) c.as_slice-names.result.now (Ok tt) c.new.result c.open_documents.new.held.docs c.new-2.result.items c.open_documents.new.held.tails.items
     c.new-3.result.items c.open_documents.new.held.logs.items c.new.ensures.value c.new-2.ensures.items c.new-3.ensures.items c.in-Ok.ensures.opens in
     more.are_open.each ∙ sym (all_open g.F.Appended.AppendFile.told c.as_slice-names.result.now more.opened more.held more.contents _ _ _ more.all more.are_open).0
     ∙ c.serve_rounds-last.ensures.tails.one_length
@@ -27,22 +25,19 @@ give_back-requires-clause-tails g c = c.serve_rounds-last.ensures.tails.tails_ke
 
 pub give_back-requires-in-Err-clause-one_length : goal.give_back-requires-in-Err-clause-one_length
 give_back-requires-in-Err-clause-one_length g c =
-    let more = opened_first g.F.Appended.AppendFile.told (g.F.Folder.told c.args.files.now).files c.as_slice-names.result.now (g.F.Folder.told c.args.files.now).faults
-    (g.F.Folder.told c.open_documents.new.files).faults (Err c.in-Err.fault) c.new.result c.open_documents.new.held.docs c.new-2.result.items c.open_documents.new.held.tails.items
+    let more = opened_first g.F.Appended.AppendFile.told (use_of g.F.Folder.told c.args.files.now c.open_documents.new.files) c.as_slice-names.result.now (Err c.in-Err.fault) c.new.result c.open_documents.new.held.docs c.new-2.result.items c.open_documents.new.held.tails.items
     c.new-3.result.items c.open_documents.new.held.logs.items c.new.ensures.value c.new-2.ensures.items c.new-3.ensures.items c.in-Err.ensures.opens in
     more.are_open.each
 
 pub give_back-requires-in-Err-clause-tails : goal.give_back-requires-in-Err-clause-tails
 give_back-requires-in-Err-clause-tails g c =
-    let more = opened_first g.F.Appended.AppendFile.told (g.F.Folder.told c.args.files.now).files c.as_slice-names.result.now (g.F.Folder.told c.args.files.now).faults
-    (g.F.Folder.told c.open_documents.new.files).faults (Err c.in-Err.fault) c.new.result c.open_documents.new.held.docs c.new-2.result.items c.open_documents.new.held.tails.items
+    let more = opened_first g.F.Appended.AppendFile.told (use_of g.F.Folder.told c.args.files.now c.open_documents.new.files) c.as_slice-names.result.now (Err c.in-Err.fault) c.new.result c.open_documents.new.held.docs c.new-2.result.items c.open_documents.new.held.tails.items
     c.new-3.result.items c.open_documents.new.held.logs.items c.new.ensures.value c.new-2.ensures.items c.new-3.ensures.items c.in-Err.ensures.opens in
     more.are_open.kept
 
 pub returns-in-Err-clause-outcome : goal.returns-in-Err-clause-outcome
 returns-in-Err-clause-outcome g c =
-    let more = opened_first g.F.Appended.AppendFile.told (g.F.Folder.told c.args.files.now).files c.as_slice-names.result.now (g.F.Folder.told c.args.files.now).faults
-    (g.F.Folder.told c.open_documents.new.files).faults (Err c.in-Err.fault) c.new.result c.open_documents.new.held.docs c.new-2.result.items c.open_documents.new.held.tails.items
+    let more = opened_first g.F.Appended.AppendFile.told (use_of g.F.Folder.told c.args.files.now c.open_documents.new.files) c.as_slice-names.result.now (Err c.in-Err.fault) c.new.result c.open_documents.new.held.docs c.new-2.result.items c.open_documents.new.held.tails.items
     c.new-3.result.items c.open_documents.new.held.logs.items c.new.ensures.value c.new-2.ensures.items c.new-3.ensures.items c.in-Err.ensures.opens in
     subst (λ (ns : List (List ℕ)). ServeAllOutcome ns c.args.asked.now.sessions c.args.asked.now.times
     (use_of g.F.Folder.told c.args.files.now c.give_back-in-Err.new.files) (use_of g.O.Stream.told c.args.out.now c.args.out.now)
@@ -51,13 +46,17 @@ returns-in-Err-clause-outcome g c =
       contents = more.contents;
       are = more.are;
       fault = c.in-Err.fault;
+      logs = c.open_documents.new.held.logs.items;
+      orders = c.open_documents.new.held.docs;
+      begun = g.F.Folder.told c.open_documents.new.files;
       given = c.give_back-in-Err.result;
+      gives = c.give_back-in-Err.ensures.gives;
       answer_is = c.after_last-in-Err.ensures.value;
       fails = tells_longer (g.F.Folder.told c.args.files.now).faults (g.F.Folder.told c.open_documents.new.files).faults
           (g.F.Folder.told c.give_back-in-Err.new.files).faults c.in-Err.fault (orders_in 1 [] more.contents) c.give_back-in-Err.ensures.kept more.found;
       changes = tails_then c.as_slice-names.result.now _ _ _ c.in-Err.ensures.changes
           (tails_front c.as_slice-names.result.now more.opened more.rest _ _ more.names_are
-          (back_changes more.opened c.open_documents.new.held.logs.items c.open_documents.new.held.docs
+          (back_changes more.opened 1 c.open_documents.new.held.logs.items c.open_documents.new.held.docs
           c.in-Err.fault (g.F.Folder.told c.open_documents.new.files) (g.F.Folder.told c.give_back-in-Err.new.files) c.give_back-in-Err.result more.are_open.named c.give_back-in-Err.ensures.gives));
       net = refl;
       unwritten = record { written = refl; faults = refl };
@@ -81,8 +80,7 @@ returns-in-Ok-clause-net_may_ask g c =
 
 pub returns-in-Ok-clause-outcome : goal.returns-in-Ok-clause-outcome
 returns-in-Ok-clause-outcome g c =
-    let more = opened_first g.F.Appended.AppendFile.told (g.F.Folder.told c.args.files.now).files c.as_slice-names.result.now (g.F.Folder.told c.args.files.now).faults
-    (g.F.Folder.told c.open_documents.new.files).faults (Ok tt) c.new.result c.open_documents.new.held.docs c.new-2.result.items c.open_documents.new.held.tails.items
+    let more = opened_first g.F.Appended.AppendFile.told (use_of g.F.Folder.told c.args.files.now c.open_documents.new.files) c.as_slice-names.result.now (Ok tt) c.new.result c.open_documents.new.held.docs c.new-2.result.items c.open_documents.new.held.tails.items
     c.new-3.result.items c.open_documents.new.held.logs.items c.new.ensures.value c.new-2.ensures.items c.new-3.ensures.items c.in-Ok.ensures.opens in
     let open_all = all_open g.F.Appended.AppendFile.told c.as_slice-names.result.now more.opened more.held more.contents c.open_documents.new.held.docs c.open_documents.new.held.tails.items
     c.open_documents.new.held.logs.items more.all more.are_open in

@@ -7,7 +7,7 @@ use Rattle.sporc_hosting.proofs.loading.+open_documents.Goals as goal
 
 pub returns-in_default-clause-opens : goal.returns-in_default-clause-opens
 returns-in_default-clause-opens g t c = λ first begun opens.
-    none_opened g.F.Appended.AppendFile.told (g.F.Folder.told c.args.files.now).files c.args.names.now c.args.number _ first begun _ _ _ _
+    none_opened g.F.Appended.AppendFile.told (g.F.Folder.told c.args.files.now) c.args.names.now c.args.number _ first begun (g.F.Folder.told c.args.files.now) _ _
     c.in_default.ensures.cases opens
 
 pub returns-in_default-clause-made : goal.returns-in_default-clause-made
@@ -33,7 +33,7 @@ open_documents-requires-clause-numbers_limit g t c κs within =
 pub returns-in_err-open_document-clause-opens : goal.returns-in_err-open_document-clause-opens
 returns-in_err-open_document-clause-opens g t c = λ first begun opens.
     let failed = err_from_is_err_and c.from_residual.result c.from_residual.ensures.1 in
-    first_fails g.F.Appended.AppendFile.told (g.F.Folder.told c.args.files.now).files c.args.names.now c.args.number _ first begun _ _ _ _ _
+    first_fails g.F.Appended.AppendFile.told (g.F.Folder.told c.args.files.now) c.args.names.now c.args.number _ first begun (g.F.Folder.told c.open_document.new.files) _ _ _
     c.in-Some.name.now c.in-Some.others.now _ _ c.in-Some.ensures.cases.0 (failed.1 ∙ ap Err failed.2) (c.in_err-open_document.ensures.opens first begun opens)
 
 pub returns-in_err-open_document-clause-changes : goal.returns-in_err-open_document-clause-changes
@@ -46,9 +46,8 @@ returns-in_err-open_document-clause-may_ask g t c =
 
 pub returns-clause-opens : goal.returns-clause-opens
 returns-clause-opens g t c = λ first begun opens.
-    others_opened g.F.Appended.AppendFile.told (g.F.Folder.told c.args.files.now).files c.args.names.now c.args.number _ first begun
-    (g.F.Folder.told c.args.files.now).faults (g.F.Folder.told c.open_document.new.files).faults (g.F.Folder.told c.open_documents.new.files).faults _ _ _ _ _ _
-    (g.F.Folder.told c.open_document.new.files).files c.in-Some.name.now c.in-Some.others.now c.open_documents.result c.in-Some.ensures.cases.0 c.in_ok-open_document.ensures.made
+    others_opened g.F.Appended.AppendFile.told (g.F.Folder.told c.args.files.now) c.args.names.now c.args.number _ first begun
+    (g.F.Folder.told c.open_document.new.files) (g.F.Folder.told c.open_documents.new.files) _ _ _ _ _ _ c.in-Some.name.now c.in-Some.others.now c.open_documents.result c.in-Some.ensures.cases.0 c.in_ok-open_document.ensures.made
     c.in_ok-open_document.ensures.kept (c.in_ok-open_document.ensures.opens first begun opens) c.open_documents.ensures.opens
 
 pub returns-clause-made : goal.returns-clause-made

@@ -9,7 +9,7 @@ use Rattle.sporc_hosting.proofs.loading.open_document.Goals as goal
 pub returns-in_err-make_room-clause-opens : goal.returns-in_err-make_room-clause-opens
 returns-in_err-make_room-clause-opens g c = λ first begun opens.
     let failed = err_from_is_err_and c.from_residual.result c.from_residual.ensures.1 in
-    none_tried g.F.Appended.AppendFile.told (g.F.Folder.told c.args.files.now).files c.args.name.now c.args.number _ _ _ _ _ _ first begun _
+    none_tried g.F.Appended.AppendFile.told (g.F.Folder.told c.args.files.now) (g.F.Folder.told c.args.files.now) c.args.name.now c.args.number _ _ _ _ first begun _
     (failed.1 ∙ ap Err failed.2)
     (still_open g.F.Appended.AppendFile.told first begun _ _ _ _ _ _ c.make_room.ensures.docs c.make_room.ensures.tails c.make_room.ensures.logs opens)
 
@@ -19,10 +19,9 @@ returns-in_err-make_room-clause-changes g c = tails_same (c.args.name.now ∷ []
 pub returns-in-Ok-clause-opens : goal.returns-in-Ok-clause-opens
 returns-in-Ok-clause-opens g c = λ first begun opens.
     let same = c.of_document-names.ensures.value ∙ ap names_of_document c.as_str.ensures.value in
-    document_adds g.F.Appended.AppendFile.told (g.F.Folder.told c.args.files.now).files c.args.name.now c.args.number
-    (g.F.Folder.told c.args.files.now).faults (g.F.Folder.told c.add.new.files).faults c.args.held.now.docs c.add.new.held.docs c.add.new.held.tails.items c.add.new.held.logs.items first begun
+    document_adds g.F.Appended.AppendFile.told (g.F.Folder.told c.args.files.now) (g.F.Folder.told c.add.new.files) c.args.name.now c.args.number c.args.held.now.docs c.add.new.held.docs c.add.new.held.tails.items c.add.new.held.logs.items first begun
     (λ (it : OpenedOrder g.row.F-Appended.Denot). it.kept.order) (λ (it : OpenedOrder g.row.F-Appended.Denot). it.logged) c.of_document-names.result c.orders.result.now same (c.orders.ensures.value ∙ c.make_room.ensures.docs)
-    (g.F.Folder.told c.open_unless_held.new.files).faults c.in-Ok.opened c.add.result c.add.ensures.kept c.in-Ok.ensures.found
+    (g.F.Folder.told c.open_unless_held.new.files) c.in-Ok.opened c.add.result c.in-Ok.ensures.found
     (subst (λ (os : List OrderModel). AnswersUnlessOutside (λ (docs : List OrderModel). docs) ⊥ (opened_to c.add.result c.add.new.held.docs) (added c.args.number os c.in-Ok.opened.kept.order)) c.make_room.ensures.docs
     c.add.ensures.value)
     (added_open g.F.Appended.AppendFile.told c.add.result c.make_room.new.held.docs c.add.new.held.docs c.make_room.new.held.tails.items
@@ -53,8 +52,7 @@ returns-in-Ok-clause-may_ask g c =
 
 pub returns-in-Err-clause-opens : goal.returns-in-Err-clause-opens
 returns-in-Err-clause-opens g c = λ first begun opens.
-    document_fails g.F.Appended.AppendFile.told (g.F.Folder.told c.args.files.now).files c.args.name.now c.args.number
-    (g.F.Folder.told c.args.files.now).faults (g.F.Folder.told c.open_unless_held.new.files).faults c.args.held.now.docs c.make_room.new.held.docs c.make_room.new.held.tails.items
+    document_fails g.F.Appended.AppendFile.told (g.F.Folder.told c.args.files.now) (g.F.Folder.told c.open_unless_held.new.files) c.args.name.now c.args.number c.args.held.now.docs c.make_room.new.held.docs c.make_room.new.held.tails.items
     c.make_room.new.held.logs.items first begun (λ (it : OpenedOrder g.row.F-Appended.Denot). it.kept.order) (λ (it : OpenedOrder g.row.F-Appended.Denot). it.logged) c.of_document-names.result c.orders.result.now
     (c.of_document-names.ensures.value ∙ ap names_of_document c.as_str.ensures.value) (c.orders.ensures.value ∙ c.make_room.ensures.docs) c.in-Err.fault c.among.result _ refl
     c.among.ensures.value c.in-Err.ensures.found

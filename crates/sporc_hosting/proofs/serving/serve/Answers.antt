@@ -1,9 +1,10 @@
 use Rattle.std.proofs.Common.{ℕ, List, Err, [], ◌∷◌, refl, ap, map, sym, subst, ◌∙◌, inl, inr}
 use Rattle.sporc_hosting.proofs.Common.{err_from_is_err_and, use_of, FileNames, file_name, names_of_document, AsksOnly, asks_again, OpenedOrder, ServeOutcome, AsksAtMost, ends, served_files}
-use Rattle.sporc_hosting.proofs.Common.{GivesBack}
+use Rattle.sporc_hosting.proofs.Common.{GivesBack, OrderModel, Rose}
 use Rattle.sporc_files.specs.declared.file.File.TheVariants as files
 use Rattle.sporc_hosting.specs.Moments.{moment_of}
-use Rattle.sporc_hosting.proofs.Logs.{to_begin}
+use Rattle.sporc_hosting.specs.Serving.{order_in}
+use Rattle.sporc_hosting.proofs.Loaded.{other_view}
 use Rattle.sporc_hosting.proofs.serving.serve.Goals as goal
 
 pub returns-in_err-opened-clause-outcome : goal.returns-in_err-opened-clause-outcome
@@ -16,8 +17,11 @@ returns-in_err-opened-clause-outcome g c =
     (c.of_document-names.ensures.value ∙ ap names_of_document c.as_str.ensures.value) (inl (record {
       content = content;
       are = are;
+      fault = c.in_err-opened.field-0.0;
+      answer_is = failed.1 ∙ ap Err failed.2;
+      fails = other_view (λ (it : OpenedOrder g.row.F-Appended.Denot). it.kept.order) (λ (o : OrderModel). o)
+          (Rose (g.F.Folder.told c.args.files.now).faults (g.F.Folder.told c.open_order.new.files).faults) c.in_err-opened.field-0.0 (order_in content) tells;
       changes = c.in_err-opened.ensures.changes;
-      fails = to_begin (λ (it : OpenedOrder g.row.F-Appended.Denot). it.kept.order) _ _ _ _ _ (failed.1 ∙ ap Err failed.2) tells;
       net = refl;
       unwritten = record { written = refl; faults = refl };
     }))

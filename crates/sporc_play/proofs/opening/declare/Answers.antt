@@ -5,35 +5,35 @@ use Rattle.sporc_play.proofs.Becoming.{ok_then}
 use Rattle.sporc_play.proofs.Declared.{all_declared, cast_same, founded, joined, none_declared, parted, rogues_more, rogues_same, seats_more, seats_same}
 use Rattle.sporc_play.proofs.opening.declare.Goals as goal
 
-pub returns-in_ok-name-in-Member : goal.returns-in_ok-name-in-Member
-returns-in_ok-name-in-Member c =
+pub returns-in_ok-add_declared-in-Member : goal.returns-in_ok-add_declared-in-Member
+returns-in_ok-add_declared-in-Member c =
     let line = c.args.line.now in
     let m = c.in-Member.founder in
     let is = c.in-Member.is in
     let cast = c.args.cast.now in
     let sat = c.in_ok-key-in-Member.ensures in
-    let sits : Device → Type 0 = λ who. HasSat cast.tree who c.args.seats.now.items c.sit.new.seats.items in
+    let sits : Device → Type 0 = λ who. HasSat cast.tree who c.args.seats.now.items c.add_seat.new.seats.items in
     record {
-      ok = ok_then c.found.result _ _ c.found.ensures.founders (λ founders tree lines known. all_declared _ _ _ _ _
-          (founded tree lines line (commands.Member m) m c.in_ok-key-in-Member.key cast c.name.new.cast c.found.new.cast known.cast_is is refl refl refl
-          (sat.key ∙ ap (public_of cast.tree) c.first.ensures.value) c.in_ok-name-in-Member.ensures founders c.found.ensures.tree c.found.ensures.declared c.found.ensures.unpaired)
-          (seats_more tree cast.tree lines line (commands.Member m) (first_device m.member) c.args.seats.now.items c.sit.new.seats.items known.seats_are known.cast_is.tree_is is refl (subst sits c.first.ensures.value sat.seats))
+      ok = ok_then c.add_founder.result _ _ c.add_founder.ensures.founders (λ founders tree lines known. all_declared _ _ _ _ _
+          (founded tree lines line (commands.Member m) m c.in_ok-key-in-Member.key cast c.add_declared.new.cast c.add_founder.new.cast known.cast_is is refl refl refl
+          (sat.key ∙ ap (public_of cast.tree) c.first.ensures.value) c.in_ok-add_declared-in-Member.ensures founders c.add_founder.ensures.tree c.add_founder.ensures.declared c.add_founder.ensures.unpaired)
+          (seats_more tree cast.tree lines line (commands.Member m) (first_device m.member) c.args.seats.now.items c.add_seat.new.seats.items known.seats_are known.cast_is.tree_is is refl (subst sits c.first.ensures.value sat.seats))
           (rogues_same tree lines line (commands.Member m) c.args.rogues.now.items known.rogues_are is refl));
     }
 
-pub returns-in_ok-name-in-Rogue : goal.returns-in_ok-name-in-Rogue
-returns-in_ok-name-in-Rogue c =
+pub returns-in_ok-add_declared-in-Rogue : goal.returns-in_ok-add_declared-in-Rogue
+returns-in_ok-add_declared-in-Rogue c =
     let line = c.args.line.now in
     let m = c.in-Rogue.founder in
     let is = c.in-Rogue.is in
     let cast = c.args.cast.now in
-    let found = c.found-in-Rogue in
+    let found = c.add_founder-in-Rogue in
     record {
       ok = ok_then found.result _ _ found.ensures.founders (λ founders tree lines known. all_declared _ _ _ _ _
-          (founded tree lines line (commands.Rogue m) m c.in_ok-key-in-Rogue.key cast c.name-in-Rogue.new.cast found.new.cast known.cast_is is refl refl refl
-          c.in_ok-key-in-Rogue.ensures.key c.in_ok-name-in-Rogue.ensures founders found.ensures.tree found.ensures.declared found.ensures.unpaired)
+          (founded tree lines line (commands.Rogue m) m c.in_ok-key-in-Rogue.key cast c.add_declared-in-Rogue.new.cast found.new.cast known.cast_is is refl refl refl
+          c.in_ok-key-in-Rogue.ensures.key c.in_ok-add_declared-in-Rogue.ensures founders found.ensures.tree found.ensures.declared found.ensures.unpaired)
           (seats_same tree lines line (commands.Rogue m) c.args.seats.now.items known.seats_are is refl)
-          (rogues_more tree cast.tree lines line (commands.Rogue m) (first_device m.member) c.args.rogues.now.items c.employ.new.rogues.items known.rogues_are known.cast_is.tree_is is refl c.in_ok-key-in-Rogue.ensures.rogues));
+          (rogues_more tree cast.tree lines line (commands.Rogue m) (first_device m.member) c.args.rogues.now.items c.add_rogue.new.rogues.items known.rogues_are known.cast_is.tree_is is refl c.in_ok-key-in-Rogue.ensures.rogues));
     }
 
 pub returns-in_ok-key-in-Joiner : goal.returns-in_ok-key-in-Joiner
@@ -43,16 +43,16 @@ returns-in_ok-key-in-Joiner c =
     let is = c.in-Joiner.is in
     let cast = c.args.cast.now in
     let sat = c.in_ok-key-in-Joiner.ensures in
-    let sits : Device → Type 0 = λ who. HasSat cast.tree who c.args.seats.now.items c.sit-in-Joiner.new.seats.items in
+    let sits : Device → Type 0 = λ who. HasSat cast.tree who c.args.seats.now.items c.add_seat-in-Joiner.new.seats.items in
     record {
-      ok = ok_then c.name-in-Joiner.result _ _ c.name-in-Joiner.ensures (λ named tree lines known. all_declared _ _ _ _ _
-          (joined tree lines line m c.in_ok-key-in-Joiner.key cast c.name-in-Joiner.new.cast known.cast_is is (sat.key ∙ ap (public_of cast.tree) c.first-in-Joiner.ensures.value) named)
-          (seats_more tree cast.tree lines line (commands.Joiner m) (first_device m) c.args.seats.now.items c.sit-in-Joiner.new.seats.items known.seats_are known.cast_is.tree_is is refl (subst sits c.first-in-Joiner.ensures.value sat.seats))
+      ok = ok_then c.add_declared-in-Joiner.result _ _ c.add_declared-in-Joiner.ensures (λ named tree lines known. all_declared _ _ _ _ _
+          (joined tree lines line m c.in_ok-key-in-Joiner.key cast c.add_declared-in-Joiner.new.cast known.cast_is is (sat.key ∙ ap (public_of cast.tree) c.first-in-Joiner.ensures.value) named)
+          (seats_more tree cast.tree lines line (commands.Joiner m) (first_device m) c.args.seats.now.items c.add_seat-in-Joiner.new.seats.items known.seats_are known.cast_is.tree_is is refl (subst sits c.first-in-Joiner.ensures.value sat.seats))
           (rogues_same tree lines line (commands.Joiner m) c.args.rogues.now.items known.rogues_are is refl));
     }
 
-pub returns-in_ok-sit-in-Device : goal.returns-in_ok-sit-in-Device
-returns-in_ok-sit-in-Device c =
+pub returns-in_ok-add_seat-in-Device : goal.returns-in_ok-add_seat-in-Device
+returns-in_ok-add_seat-in-Device c =
     let line = c.args.line.now in
     let who = c.in-Device.device in
     let is = c.in-Device.is in
@@ -60,7 +60,7 @@ returns-in_ok-sit-in-Device c =
     record {
       ok = λ tree lines known. all_declared _ _ _ _ _
           (cast_same tree lines line (commands.Device who) cast known.cast_is is refl refl refl)
-          (seats_more tree cast.tree lines line (commands.Device who) who c.args.seats.now.items c.sit-in-Device.new.seats.items known.seats_are known.cast_is.tree_is is refl c.in_ok-sit-in-Device.ensures.seats)
+          (seats_more tree cast.tree lines line (commands.Device who) who c.args.seats.now.items c.add_seat-in-Device.new.seats.items known.seats_are known.cast_is.tree_is is refl c.in_ok-add_seat-in-Device.ensures.seats)
           (rogues_same tree lines line (commands.Device who) c.args.rogues.now.items known.rogues_are is refl);
     }
 

@@ -1,9 +1,9 @@
 use Rattle.std.proofs.Common.{Err, ◌++◌, sym, ap, subst, arith}
-use Rattle.sporc_play.proofs.Common.{err_from_is_err_and, Scene, scene_at, StandsFor}
+use Rattle.sporc_play.proofs.Common.{err_from_is_err_and, Scene, StandsFor}
 use Rattle.std.proofs.KnownBytes.{Appends-trans}
 use Rattle.sporc_play.proofs.Founders.{are_declared, has_admin_later}
 use Rattle.sporc_play.proofs.Ready.{next_can}
-use Rattle.sporc_play.proofs.Reported.{reports_all, reports_failed, reports_more, reports_none, scene_more}
+use Rattle.sporc_play.proofs.Reported.{reports_all, reports_failed, reports_more, reports_none, scene_at, scene_more}
 use Rattle.sporc_play.proofs.playing.write_report.Goals as goal
 
 pub new-requires : goal.new-requires

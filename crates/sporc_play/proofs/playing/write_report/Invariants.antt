@@ -1,5 +1,6 @@
 use Rattle.std.proofs.Common.{ℕ, ◌≤◌, List, take}
-use Rattle.sporc_play.proofs.Common.{Appends, setup_of, ReportsFrom, opening, scene_at, StandsFor}
+use Rattle.sporc_play.proofs.Common.{Appends, setup_of, ReportsFrom, opening, StandsFor}
+use Rattle.sporc_play.proofs.Reported.{scene_at}
 use Rattle.sporc_play.proofs.playing.write_report.Given as goal
 
 abbrev pub invariant-loop-line : goal.invariant-loop-line

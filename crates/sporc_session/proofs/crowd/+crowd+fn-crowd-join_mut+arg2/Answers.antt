@@ -1,17 +1,12 @@
-use Rattle.std.proofs.Common.{rules, ap}
-use Rattle.sporc_session.proofs.Common.{result_err, known_of, LinesDid, link_at}
-use Rattle.sporc_session.proofs.Crowding.{crowd_failed, crowd_last, crowd_step}
+use Rattle.std.proofs.Common.{rules}
+use Rattle.sporc_session.proofs.Common.{result_err, known_of, LinesDid}
+use Rattle.sporc_session.proofs.Crowding.{crowd_last, crowd_step}
 use Rattle.sporc_session.proofs.Wearing.{read_join}
 use Rattle.sporc_session.proofs.crowd.+crowd+fn-crowd-join_mut+arg2.Goals as goal
 
 pub returns-in_default-clause-crowd : goal.returns-in_default-clause-crowd
 returns-in_default-clause-crowd g c' c =
     crowd_last _ _ c.args.rounds c.args.scripts.now (result_err c.first_phase-receiver.result.0) c.in_default.ensures.cases c.first_phase-receiver.ensures.phase c.first_phase-receiver.ensures.counts
-
-pub returns-in-Err-clause-crowd : goal.returns-in-Err-clause-crowd
-returns-in-Err-clause-crowd g c' c =
-    crowd_failed (known_of c.args.first) _ (link_at (g.L.Stream.told c.args.link.now) c.args.inbox.now) (g.C.Chance.told c.args.chance.now).given (g.C.Chance.told c.args.chance.now).faults
-    c.args.rounds c.args.scripts.now c.in-Some.script.now c.in-Some.others.now c.in-Some.ensures.cases.0 (ap known_of c.in-Err.ensures.returned)
 
 pub returns-clause-crowd : goal.returns-clause-crowd
 returns-clause-crowd g c' c =

@@ -2,7 +2,13 @@ use Rattle.sporc_top.proofs.Working.{by_client, by_serve, by_serve_all}
 use Rattle.sporc_top.proofs.performing.perform.Goals as goal
 
 pub returns-in-Serve-clause-outcome : goal.returns-in-Serve-clause-outcome
-returns-in-Serve-clause-outcome g c = by_serve _ _ c.args.command.now c.in-Serve.words c.serve_document.result c.in-Serve.is c.serve_document.ensures.outcome
+returns-in-Serve-clause-outcome g c =
+    by_serve _ _ c.args.command.now c.in-Serve.words c.serve.result c.in-Serve.is (record {
+      outcome = c.serve.ensures.outcome;
+      files_may_ask = c.serve.ensures.files_may_ask;
+      net_may_ask = c.serve.ensures.net_may_ask;
+      shut = c.serve.ensures.shut;
+    })
 
 pub returns-in-Client-clause-outcome : goal.returns-in-Client-clause-outcome
 returns-in-Client-clause-outcome g c =
@@ -16,4 +22,9 @@ returns-in-Client-clause-outcome g c =
 
 pub returns-in-ServeAll-clause-outcome : goal.returns-in-ServeAll-clause-outcome
 returns-in-ServeAll-clause-outcome g c =
-    by_serve_all _ _ c.args.command.now c.in-ServeAll.words c.serve_documents.result c.in-ServeAll.is c.serve_documents.ensures.outcome
+    by_serve_all _ _ c.args.command.now c.in-ServeAll.words c.serve_all.result c.in-ServeAll.is (record {
+      outcome = c.serve_all.ensures.outcome;
+      files_may_ask = c.serve_all.ensures.files_may_ask;
+      net_may_ask = c.serve_all.ensures.net_may_ask;
+      shut = c.serve_all.ensures.shut;
+    })

@@ -9,10 +9,10 @@ returns-in-Err-clause-outcome g c = record {
   outcome = by_words _ _ _ c.in-Err.fault c.from.result c.of_document.result _
       (record { source = refl; folder = refl; net = refl; chance = refl })
       (λ same. c.in-Err.ensures.err (ap Err same)) c.from.ensures c.of_document.ensures.value
-      c.told.ensures.line c.told.ensures.status;
+      c.tell_fault.ensures.line c.tell_fault.ensures.status;
   kept = record {
     source = omega arith;
-    out = c.told.ensures.kept;
+    out = c.tell_fault.ensures.kept;
     folder = omega arith;
     net = omega arith;
     chance = omega arith;
@@ -42,7 +42,7 @@ returns-in-Ok-perform-clause-outcome g c =
 pub returns-clause-outcome : goal.returns-clause-outcome
 returns-clause-outcome g c =
     let did = c.in-Err-perform.ensures in
-    let told = c.told-in-Err-perform.ensures in record {
+    let told = c.tell_fault-in-Err-perform.ensures in record {
       outcome = by_fault _ _ _ c.in-Ok.command c.in-Err-perform.fault _ c.names_of.result _ c.in-Ok.ensures.ok did.outcome c.names_of.ensures.value
           did.out_kept told.line told.kept told.status;
       kept = record {

@@ -1,5 +1,5 @@
--- What commands have in common: how they use a folder, and how they write one line.
-use Rattle.std.specs.Prelude.{◌≡◌, ◌⊎◌, ℕ, List, map, Result, Ok, Err}
+-- What commands have in common: how they write one line.
+use Rattle.std.specs.Prelude.{◌≡◌, ◌⊎◌, ℕ, List, Result, Ok, Err}
 use Rattle.std.specs.Io.KnownBytes.{Appends}
 use Rattle.sporc_outside.specs.Counts.{Rose}
 use Rattle.sporc_outside.specs.Uses.{Use}
@@ -8,18 +8,6 @@ use Rattle.sporc_outside.specs.Streams.{IsUnwritten, StreamTold}
 use Rattle.sporc_outside.specs.Folders.{FolderTold}
 use Rattle.sporc_files.specs.declared.fault.Fault.{Fault}
 use Rattle.sporc_files.specs.declared.fault.Fault.TheVariants as faults
-use Rattle.sporc_files.specs.declared.file.File.{File}
-use Rattle.sporc_files.specs.Names.{FileNames, file_name}
-use Rattle.sporc_files.specs.Uses.{AsksOnly}
-
--- ---- folders
-
--- these files of a document alone were asked for, and none was changed
-pub record OnlyReads (names : FileNames) (read : List File) (folder : Use FolderTold) : Type 0 where
-  pub unchanged : folder.after.files ≡ folder.before.files
-  pub may_ask : AsksOnly (map (file_name names) read) folder.before.asked folder.after.asked
-
--- ---- one line
 
 -- what a command did that writes a line of what it found in files, by its answer: the line, or why
 -- there is none
