@@ -14,11 +14,11 @@ use crate::desk::Desk;
 use crate::end::SessionEnd;
 use crate::fault::ServeFault;
 use crate::item::Item;
+use crate::service::Service;
 use crate::session::serve_link;
 use sporc_order::Tail;
 use sporc_outside::{Gate, Listen};
 use sporc_turn::{Pass, Turn};
-use std::alloc::Global;
 use std::sync::Wait;
 use std::thread::{Threads, join_mut};
 
@@ -79,21 +79,18 @@ fn joined<T: Tail>(
 // made, this one takes them after its session. So no thread's stack has more than one session, but
 // in that case.
 pub(crate) fn crowd<R: Threads + Wait + Sync, N: Listen, G: Gate + Sync, T: Tail + Send>(
-    rt: &R,
-    alloc: Global,
+    service: &Service<'_, R, G, T>,
     net: &mut N,
-    turn: &Turn<Desk<T>>,
-    gate: &G,
     first: Pass<Item>,
     sessions: u32,
 ) -> (Result<(), ServeFault>, Pass<Item>)
 where
     N: Send,
     N::Link: Send,
-    requires lock { IsPassOf turn.now first }
+    requires lock { IsPassOf service.now.turn.now first }
     requires first { (known_of first).number ≡ 0 }
     requires limit { (known_of first).splits + sessions < 2 ^ 32 }
-    ensures lock { IsPassOf turn.now result.1 }
+    ensures lock { IsPassOf service.now.turn.now result.1 }
     ensures first { (known_of result.1).number ≡ 0 }
     ensures crowd { OfDocument (known_of first).seen
         (λ genesis. IsCrowd genesis (known_of first) (known_of result.1) (read_of result.1)
@@ -104,10 +101,10 @@ where
     if sessions == 0 {
         return (Ok(()), first);
     }
-    let Ok(mut link) = net.accept(rt) else {
+    let Ok(mut link) = net.accept(service.rt) else {
         return (Err(ServeFault::ListenFault), first);
     };
-    let (first, second) = match turn.split(first) {
+    let (first, second) = match service.turn.split(first) {
         Ok(both) => both,
         Err(_) => unreachable!(),
     };
@@ -115,19 +112,20 @@ where
     let mut first = Some(first);
     let mut second = Some(second);
     let (rest, session) = join_mut(
-        rt,
+        service.rt,
         &mut || -> (Result<(), ServeFault>, Pass<Item>)
             requires { IsSync R.row × IsSync G.row × IsSend N.row × IsSend N.Link.row × IsSend T.row
-                × IsFirst turn.now first others }
-            ensures { IfSome first.entry (ServesOthers turn.entry.now (N.told net.entry.now)
-                (N.told net.exit.now) others result.0 result.1) }
-        { crowd(rt, alloc, net, turn, gate, first.take().unwrap(), others) },
+                × IsFirst service.now.turn.now first others }
+            ensures { IfSome first.entry (ServesOthers service.entry.now.turn.now
+                (N.told net.entry.now) (N.told net.exit.now) others result.0 result.1) }
+        { crowd(service, net, first.take().unwrap(), others) },
         &mut || -> (SessionEnd, Pass<Item>)
-            requires { IsSync R.row × IsSync G.row × IsSend T.row × IsOther turn.now second }
-            ensures { IfSome second.entry (ServesOne turn.entry.now
+            requires { IsSync R.row × IsSync G.row × IsSend T.row
+                × IsOther service.now.turn.now second }
+            ensures { IfSome second.entry (ServesOne service.entry.now.turn.now
                 (visit (N.Link.told link.entry) (N.Link.told link.exit) result.0) result.1) }
-        { serve_link(rt, alloc, turn, gate, &mut link, second.take().unwrap()) },
+        { serve_link(service, &mut link, second.take().unwrap()) },
     );
     net.take_back(link);
-    joined(turn, rest, session)
+    joined(service.turn, rest, session)
 }

@@ -42,14 +42,19 @@ pub(crate) fn send<R: Wait, L: Link, G: Gate>(
 {
     match reply {
         Reply::Message(message) => {
-            if let ToClient::Ordered { pos } = message {
-                gate.after_accept(rt, *pos);
-            }
+            tell_gate(rt, gate, message);
             write(alloc, link, message)
         }
         Reply::Frame(frame) => write_frame(link, frame.as_slice()),
         Reply::Silent => None,
         Reply::Close => Some(SessionEnd::Closed),
+    }
+}
+
+// Calls the gate if an entry was ordered.
+fn tell_gate<R: Wait, G: Gate>(rt: &R, gate: &G, message: &ToClient) {
+    if let ToClient::Ordered { pos } = message {
+        gate.after_accept(rt, *pos);
     }
 }
 

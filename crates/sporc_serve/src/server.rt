@@ -10,6 +10,7 @@ use crate::crowd::crowd;
 use crate::fault::ServeFault;
 use crate::kept_order::KeptOrder;
 use crate::opening::{close_kept, open_kept};
+use crate::service::Service;
 use sporc_order::{NoTail, Order, Tail};
 use sporc_outside::{Gate, Listen};
 use std::alloc::Global;
@@ -97,7 +98,13 @@ where
         Ok(both) => both,
         Err(kept) => return (kept, Err(ServeFault::Memory)),
     };
-    let (answer, first) = crowd(rt, alloc, net, &turn, gate, first, sessions);
+    let service = Service {
+        rt,
+        alloc,
+        turn: &turn,
+        gate,
+    };
+    let (answer, first) = crowd(&service, net, first, sessions);
     match close_kept(turn, first) {
         Ok(kept) => (kept, answer),
         Err(_) => unreachable!(),

@@ -13,7 +13,6 @@ ghost use Rattle.sporc_serve.specs.Endings.{inlet_at, IsNext};
 ghost use Rattle.sporc_serve.specs.Turns.{HasReadLast};
 ghost use Rattle.sporc_serve.specs.Visits.{visit, IsServedSession};
 
-use crate::desk::Desk;
 use crate::end::SessionEnd;
 use crate::item::Item;
 use crate::replying::reply_to;
@@ -21,9 +20,8 @@ use crate::sending::send;
 use crate::service::Service;
 use sporc_order::{Session, Tail};
 use sporc_outside::{Gate, Link};
-use sporc_turn::{Pass, Turn};
+use sporc_turn::Pass;
 use sporc_wire::{FrameFault, Frames, ToServer};
-use std::alloc::Global;
 use std::sync::Wait;
 
 // The most bytes that one call asks for.
@@ -204,15 +202,12 @@ pub fn serve_from<R: Wait, L: Link, G: Gate, T: Tail>(
 
 // A session over a link, at a lock that was chosen before its first message.
 pub(crate) fn serve_link<R: Wait, L: Link, G: Gate, T: Tail>(
-    rt: &R,
-    alloc: Global,
-    turn: &Turn<Desk<T>>,
-    gate: &G,
+    service: &Service<'_, R, G, T>,
     link: &mut L,
     pass: Pass<Item>,
 ) -> (SessionEnd, Pass<Item>)
-    requires lock { IsPassOf turn.now pass }
-    ensures lock { IsPassOf turn.now result.1 }
+    requires lock { IsPassOf service.now.turn.now pass }
+    ensures lock { IsPassOf service.now.turn.now result.1 }
     ensures number { (known_of result.1).number ≡ (known_of pass).number }
     ensures session { OfDocument (known_of pass).seen (λ genesis. IsServedSession genesis
         (known_of pass) (known_of result.1) (visit (L.told link.old) (L.told link.new) result.0)) }
@@ -220,15 +215,9 @@ pub(crate) fn serve_link<R: Wait, L: Link, G: Gate, T: Tail>(
     ensures unkept { result.0 ≡ SessionEnd.Unkept → T.may_fail }
     ensures shut { IsTrueIfTold (L.told link.new).is_shut }
 {
-    let mut frames = Frames::new(alloc);
+    let mut frames = Frames::new(service.alloc);
     let mut session = Session::new();
-    let service = Service {
-        rt,
-        alloc,
-        turn,
-        gate,
-    };
-    let (end, pass) = go_on(&service, link, &mut frames, &mut session, pass);
+    let (end, pass) = go_on(service, link, &mut frames, &mut session, pass);
     link.shut();
     (end, pass)
 }

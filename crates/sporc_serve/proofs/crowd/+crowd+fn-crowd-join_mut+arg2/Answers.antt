@@ -27,8 +27,8 @@ returns-clause-crowd g t c genesis log =
     let others = c.args.sessions - 1 in
     let came = g.N.Links.told c.accept.new.self in
     let left = g.N.Links.told net in
-    let same_link : link ≡ c.join_mut-rest.new.g.4.now = search rules in
-    let same_net : net ≡ c.join_mut-rest.new.f.2.now = search rules in
+    let same_link : link ≡ c.join_mut-rest.new.g.1.now = search rules in
+    let same_net : net ≡ c.join_mut-rest.new.f.1.now = search rules in
     let session = subst (λ (l : g.row.N-Link.Denot). OfDocument (known_of c.in-Ok-split.both.1).seen (λ h. IsServedSession h (known_of c.in-Ok-split.both.1) (known_of r.1.1) (visit (g.N.Link.Stream.told c.in-Ok.link) (g.N.Link.Stream.told l) r.1.0))) (sym same_link) c.join_mut-rest.ensures.1.met.1.2 in
     let number : (known_of r.1.1).number ≡ (known_of c.in-Ok-split.both.1).number = search rules in
     let crowd = subst (λ (n : g.row.N.Denot). OfDocument (known_of c.in-Ok-split.both.0).seen (λ h. IsCrowd h (known_of c.in-Ok-split.both.0) (known_of r.0.1) (read_of r.0.1) came (g.N.Links.told n) others r.0.0)) (sym same_net) c.join_mut-rest.ensures.0.met.1.2 in
@@ -52,8 +52,8 @@ pub returns-clause-net : goal.returns-clause-net
 returns-clause-net g t c =
     let link = c.link-3-1.given.0 in
     let net = c.net-1.given.0 in
-    let same_link : link ≡ c.join_mut-rest.new.g.4.now = search rules in
-    let same_net : net ≡ c.join_mut-rest.new.f.2.now = search rules in
+    let same_link : link ≡ c.join_mut-rest.new.g.1.now = search rules in
+    let same_net : net ≡ c.join_mut-rest.new.f.1.now = search rules in
     let shut = subst (λ (l : g.row.N-Link.Denot). IsTrueIfTold (g.N.Link.Stream.told l).is_shut) (sym same_link) c.join_mut-rest.ensures.1.met.1.3 in
     let rest = subst (λ (n : g.row.N.Denot). LeavesNet (g.N.Links.told c.accept.new.self) (g.N.Links.told n)) (sym same_net) c.join_mut-rest.ensures.0.met.1.3 in
     leaves_more (g.N.Links.told c.args.net.now) (g.N.Links.told c.accept.new.self) (g.N.Links.told net) (g.N.Links.told c.take_back.new.self) (g.N.Link.Stream.told link)
