@@ -2,10 +2,12 @@
 
 ghost use Rattle.std.specs.Prelude.{◌≡◌, ◌++◌, OnErr, OnOk, string_bytes};
 ghost use Rattle.std.specs.Fmt.{decimal};
+ghost use Rattle.sporc_member.specs.Role.{role_name};
 ghost use Rattle.sporc_report.specs.Appending.{BeginsWith};
 
 use itoa::Buffer;
 use sporc_base::Memory;
+use sporc_member::{Role, role_name};
 
 // Appends a word.
 pub fn push_word(out: &mut String, word: &str) -> Result<(), Memory>
@@ -32,4 +34,22 @@ pub fn push_counted(out: &mut String, word: &str, number: u64) -> Result<(), Mem
 {
     push_word(out, word)?;
     push_decimal(out, number)
+}
+
+// Appends a number with a word before it and one behind it.
+pub fn push_between(out: &mut String, before: &str, number: u64, behind: &str) -> Result<(), Memory>
+    ensures ok { OnOk result (string_bytes out.new
+        ≡ string_bytes out.old ++ (before.now ++ (decimal number ++ behind.now))) }
+    ensures memory { OnErr result (BeginsWith (string_bytes out.new) (string_bytes out.old)) }
+{
+    push_counted(out, before, number)?;
+    push_word(out, behind)
+}
+
+// Appends the word for a role.
+pub fn push_role_name(out: &mut String, role: Role) -> Result<(), Memory>
+    ensures ok { OnOk result (string_bytes out.new ≡ string_bytes out.old ++ role_name role) }
+    ensures memory { OnErr result (BeginsWith (string_bytes out.new) (string_bytes out.old)) }
+{
+    push_word(out, role_name(role))
 }

@@ -1,10 +1,12 @@
 //! The lines of a history's entries.
 
 ghost use Rattle.std.specs.Prelude.{◌≡◌, ◌-◌, ◌≤◌, ◌++◌, length, Ok, IsOk, OnErr, OnOk};
-ghost use Rattle.std.specs.Prelude.{string_bytes};
+ghost use Rattle.std.specs.Prelude.{codes, string_bytes};
+ghost use Rattle.std.specs.Fmt.{decimal};
 ghost use Rattle.std.specs.Option.{option_copied};
 ghost use Rattle.sporc_entry.specs.Entry.{author_device, entry_of};
 ghost use Rattle.sporc_line.specs.Good.{Good};
+ghost use Rattle.sporc_script.specs.Spelling.{device_text};
 ghost use Rattle.sporc_report.specs.Appending.{BeginsWith};
 ghost use Rattle.sporc_report.specs.EntryLines.{committed_by, done_by, entry_line, entry_lines};
 ghost use Rattle.sporc_report.specs.EntryLines.{lines_left, origin_text, what_text};
@@ -21,6 +23,7 @@ use std::alloc::{AllocError, Global};
 /// Appends a line for each entry of a history from a position on: its position, its author's
 /// device, number and base, and what it did. Of an edit that is its form, so that the text can be
 /// followed by the lines alone.
+#[tactic(auto, using(crate::proofs::Beginnings::begins_more))]
 pub fn push_entries(alloc: Global, out: &mut String, line: &Line, from: u32) -> Result<(), Memory>
     ensures ok { OnOk result (string_bytes out.new
         ≡ string_bytes out.old ++ entry_lines from line.now.genesis line.now.kit line.now.entries) }
@@ -80,9 +83,7 @@ fn push_view(
     ensures memory { OnErr result (BeginsWith (string_bytes out.new) (string_bytes out.old)) }
 {
     push_origin(out, position, entry.header())?;
-    push_word(out, " ")?;
-    push_done(alloc, out, entry.change(), form)?;
-    push_word(out, "\n")
+    push_told(alloc, out, entry.change(), form)
 }
 
 // Appends where an entry stands, whose it is, and behind how many it was made.
@@ -93,9 +94,35 @@ fn push_origin(out: &mut String, position: u32, header: &Header) -> Result<(), M
 {
     push_decimal(out, u64::from(position))?;
     push_word(out, " ")?;
+    push_author(out, header)
+}
+
+// Appends whose an entry is, its number, and behind how many it was made.
+fn push_author(out: &mut String, header: &Header) -> Result<(), Memory>
+    ensures ok { OnOk result (string_bytes out.new ≡ string_bytes out.old
+        ++ (device_text (author_device header.now) ++ (codes " "
+        ++ (decimal header.now.number ++ (codes " " ++ decimal header.now.base))))) }
+    ensures memory { OnErr result (BeginsWith (string_bytes out.new) (string_bytes out.old)) }
+{
     push_device(out, header.author_device())?;
     push_counted(out, " ", u64::from(header.number))?;
     push_counted(out, " ", u64::from(header.base))
+}
+
+// Appends the rest of the line of an entry with this form, from the space behind its base on.
+fn push_told(
+    alloc: Global,
+    out: &mut String,
+    change: Option<&ChangeBody>,
+    form: &Delta,
+) -> Result<(), Memory>
+    ensures ok { OnOk result (string_bytes out.new ≡ string_bytes out.old ++ (codes " "
+        ++ (what_text (done_by (option_copied change.entry) form.now) ++ codes "\n"))) }
+    ensures memory { OnErr result (BeginsWith (string_bytes out.new) (string_bytes out.old)) }
+{
+    push_word(out, " ")?;
+    push_done(alloc, out, change, form)?;
+    push_word(out, "\n")
 }
 
 // Appends what an entry with this form did.

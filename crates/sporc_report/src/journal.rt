@@ -2,19 +2,20 @@
 
 ghost use Rattle.std.specs.Prelude.{◌≡◌, ◌++◌, codes, OnErr, OnOk, flat_map, string_bytes};
 ghost use Rattle.std.specs.Fmt.{decimal};
+ghost use Rattle.hex.specs.Hex.{encode_lower};
 ghost use Rattle.sporc_client.specs.declared.event.Event.TheVariants as events;
 ghost use Rattle.sporc_member.specs.Role.{role_name};
 ghost use Rattle.sporc_report.specs.Appending.{BeginsWith};
 ghost use Rattle.sporc_report.specs.JournalLines.{change_text, delta_text, event_text};
 ghost use Rattle.sporc_report.specs.JournalLines.{journal_lines, part_text, spaced_part};
 
-use crate::appending::{push_counted, push_word};
+use crate::appending::{push_between, push_counted, push_role_name, push_word};
 use crate::quoted::push_quoted;
 use crate::showing::push_digits;
 use sporc_base::Memory;
 use sporc_client::Event;
 use sporc_delta::{Delta, Part};
-use sporc_member::{Change, ChangeFault, Role, role_name};
+use sporc_member::{Change, ChangeFault, Role};
 use std::alloc::Global;
 
 /// Appends a line for each event.
@@ -50,8 +51,16 @@ fn push_edit(out: &mut String, by: u32, seen: u64, delta: &Delta) -> Result<(), 
     ensures memory { OnErr result (BeginsWith (string_bytes out.new) (string_bytes out.old)) }
 {
     push_counted(out, "edit ", u64::from(by))?;
-    push_counted(out, " ", seen)?;
-    push_word(out, " ")?;
+    push_stated(out, seen, delta)
+}
+
+// How many events its editor had seen, and its delta.
+fn push_stated(out: &mut String, seen: u64, delta: &Delta) -> Result<(), Memory>
+    ensures ok { OnOk result (string_bytes out.new ≡ string_bytes out.old
+        ++ (codes " " ++ (decimal seen ++ (codes " " ++ delta_text delta.now)))) }
+    ensures memory { OnErr result (BeginsWith (string_bytes out.new) (string_bytes out.old)) }
+{
+    push_between(out, " ", seen, " ")?;
     push_delta(out, delta)
 }
 
@@ -60,8 +69,7 @@ fn push_asked(alloc: Global, out: &mut String, by: u32, change: &Change) -> Resu
         (string_bytes out.new ≡ string_bytes out.old ++ event_text (events.Change by change.now)) }
     ensures memory { OnErr result (BeginsWith (string_bytes out.new) (string_bytes out.old)) }
 {
-    push_counted(out, "change ", u64::from(by))?;
-    push_word(out, " ")?;
+    push_between(out, "change ", u64::from(by), " ")?;
     push_change(alloc, out, change)
 }
 
@@ -70,8 +78,7 @@ fn push_submitted(alloc: Global, out: &mut String, by: u32, entry: &[u8]) -> Res
         (string_bytes out.new ≡ string_bytes out.old ++ event_text (events.Submit by entry.now)) }
     ensures memory { OnErr result (BeginsWith (string_bytes out.new) (string_bytes out.old)) }
 {
-    push_counted(out, "submit ", u64::from(by))?;
-    push_word(out, " ")?;
+    push_between(out, "submit ", u64::from(by), " ")?;
     push_digits(alloc, out, entry)
 }
 
@@ -80,8 +87,7 @@ fn push_dropped(out: &mut String, by: u32, fault: ChangeFault) -> Result<(), Mem
         (string_bytes out.new ≡ string_bytes out.old ++ event_text (events.Dropped by fault)) }
     ensures memory { OnErr result (BeginsWith (string_bytes out.new) (string_bytes out.old)) }
 {
-    push_counted(out, "dropped ", u64::from(by))?;
-    push_word(out, " ")?;
+    push_between(out, "dropped ", u64::from(by), " ")?;
     push_word(out, fault.name())
 }
 
@@ -101,20 +107,18 @@ pub(crate) fn push_change(alloc: Global, out: &mut String, change: &Change) -> R
 {
     match change {
         Change::Add { member, role, key } => {
-            push_role(out, "add", *member, *role)?;
-            push_word(out, " ")?;
-            push_digits(alloc, out, key)
+            push_role(out, "add ", *member, *role)?;
+            push_key(alloc, out, key)
         }
         Change::Remove { member } => push_counted(out, "remove ", u64::from(*member)),
-        Change::SetRole { member, role } => push_role(out, "role", *member, *role),
+        Change::SetRole { member, role } => push_role(out, "role ", *member, *role),
         Change::AddDevice {
             member,
             device,
             key,
         } => {
             push_device_words(out, "device ", *member, *device)?;
-            push_word(out, " ")?;
-            push_digits(alloc, out, key)
+            push_key(alloc, out, key)
         }
         Change::DropDevice { member, device } => {
             push_device_words(out, "drop-device ", *member, *device)
@@ -123,16 +127,24 @@ pub(crate) fn push_change(alloc: Global, out: &mut String, change: &Change) -> R
     }
 }
 
-// A word, a member and a role.
-fn push_role(out: &mut String, word: &str, member: u16, role: Role) -> Result<(), Memory>
-    ensures ok { OnOk result (string_bytes out.new ≡ string_bytes out.old
-        ++ (word.now ++ (codes " " ++ (decimal member ++ (codes " " ++ role_name role))))) }
+// A key, with a space before it.
+fn push_key(alloc: Global, out: &mut String, key: &[u8]) -> Result<(), Memory>
+    ensures ok { OnOk result
+        (string_bytes out.new ≡ string_bytes out.old ++ (codes " " ++ encode_lower key.now)) }
     ensures memory { OnErr result (BeginsWith (string_bytes out.new) (string_bytes out.old)) }
 {
-    push_word(out, word)?;
-    push_counted(out, " ", u64::from(member))?;
     push_word(out, " ")?;
-    push_word(out, role_name(role))
+    push_digits(alloc, out, key)
+}
+
+// A word, a member and a role.
+fn push_role(out: &mut String, word: &str, member: u16, role: Role) -> Result<(), Memory>
+    ensures ok { OnOk result (string_bytes out.new
+        ≡ string_bytes out.old ++ (word.now ++ (decimal member ++ (codes " " ++ role_name role)))) }
+    ensures memory { OnErr result (BeginsWith (string_bytes out.new) (string_bytes out.old)) }
+{
+    push_between(out, word, u64::from(member), " ")?;
+    push_role_name(out, role)
 }
 
 // A word, and a device as two words.

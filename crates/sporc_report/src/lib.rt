@@ -15,7 +15,7 @@
 //! names no `Memory` of the faults that it takes; after out of memory the text begins with what it
 //! was; the text of a history can be followed by the lines of its entries ([`laws`]). Only tested:
 //! that the calls succeed with ample memory (`sporc_top_tests`). Neither: how long they take.
-#![tactic(auto, using(crate::proofs::Beginnings::begins_then, crate::proofs::Beginnings::begins_last, crate::proofs::Beginnings::begins_more))]
+#![tactic(auto, using(crate::proofs::Beginnings::begins_then, crate::proofs::Beginnings::begins_last))]
 
 mod appending;
 mod entries;

@@ -15,12 +15,12 @@ ghost use Rattle.sporc_report.specs.ClientLines.{hash_line, if_removed, members_
 ghost use Rattle.sporc_report.specs.ClientLines.{place_text, show_line, text_of_member};
 ghost use Rattle.sporc_script.specs.Quoted.{quoted};
 
-use crate::appending::{push_counted, push_decimal, push_word};
+use crate::appending::{push_between, push_counted, push_decimal, push_role_name, push_word};
 use crate::quoted::push_quoted;
 use sporc_base::Memory;
 use sporc_client::Client;
 use sporc_hash::{Digest32, Verdict};
-use sporc_member::{Device, FIRST_DEVICE, Role, Roster, role_name};
+use sporc_member::{Device, FIRST_DEVICE, Role, Roster};
 use sporc_outside::LeafDisk;
 use std::alloc::Global;
 
@@ -31,10 +31,8 @@ pub fn push_show<D: LeafDisk>(out: &mut String, client: &Client<D>) -> Result<()
     ensures memory { OnErr result (BeginsWith (string_bytes out.new) (string_bytes out.old)) }
 {
     push_place(out, client)?;
-    push_word(out, " text ")?;
-    push_shown(out, client)?;
-    push_removed(out, client.removed())?;
-    push_word(out, "\n")
+    push_text(out, client)?;
+    push_end(out, client.removed())
 }
 
 // Appends how many entries a client has accepted, and how many of its items are pending.
@@ -48,6 +46,16 @@ fn push_place<D: LeafDisk>(out: &mut String, client: &Client<D>) -> Result<(), M
     push_counted(out, " pending ", u64::from(client.pending()))
 }
 
+// Appends that the text follows, and the text.
+fn push_text<D: LeafDisk>(out: &mut String, client: &Client<D>) -> Result<(), Memory>
+    ensures ok { OnOk result (string_bytes out.new
+        ≡ string_bytes out.old ++ (codes " text " ++ quoted (shown_of (state_of client.now)))) }
+    ensures memory { OnErr result (BeginsWith (string_bytes out.new) (string_bytes out.old)) }
+{
+    push_word(out, " text ")?;
+    push_shown(out, client)
+}
+
 // Appends the text that a client shows, in quotes.
 fn push_shown<D: LeafDisk>(out: &mut String, client: &Client<D>) -> Result<(), Memory>
     ensures ok { OnOk result
@@ -58,15 +66,16 @@ fn push_shown<D: LeafDisk>(out: &mut String, client: &Client<D>) -> Result<(), M
     push_quoted(out, text.as_str())
 }
 
-// Appends whether a member is removed.
-fn push_removed(out: &mut String, removed: bool) -> Result<(), Memory>
-    ensures ok { OnOk result (string_bytes out.new ≡ string_bytes out.old ++ if_removed removed) }
+// Appends whether a member is removed, and ends the line.
+fn push_end(out: &mut String, removed: bool) -> Result<(), Memory>
+    ensures ok { OnOk result
+        (string_bytes out.new ≡ string_bytes out.old ++ (if_removed removed ++ codes "\n")) }
     ensures memory { OnErr result (BeginsWith (string_bytes out.new) (string_bytes out.old)) }
 {
     if removed {
-        push_word(out, " removed")
+        push_word(out, " removed\n")
     } else {
-        Ok(())
+        push_word(out, "\n")
     }
 }
 
@@ -99,9 +108,8 @@ pub fn push_number(out: &mut String, device: Device, words: &str, number: u64) -
         ++ (device_text device ++ (words.now ++ (decimal number ++ codes "\n")))) }
     ensures memory { OnErr result (BeginsWith (string_bytes out.new) (string_bytes out.old)) }
 {
-    push_start(out, device, words)?;
-    push_decimal(out, number)?;
-    push_word(out, "\n")
+    push_device(out, device)?;
+    push_between(out, words, number, "\n")
 }
 
 // The device that a client is of.
@@ -158,9 +166,8 @@ fn push_member(out: &mut String, number: u16, role: Role) -> Result<(), Memory>
         ++ (codes " " ++ (decimal number ++ (codes "=" ++ role_name role)))) }
     ensures memory { OnErr result (BeginsWith (string_bytes out.new) (string_bytes out.old)) }
 {
-    push_counted(out, " ", u64::from(number))?;
-    push_word(out, "=")?;
-    push_word(out, role_name(role))
+    push_between(out, " ", u64::from(number), "=")?;
+    push_role_name(out, role)
 }
 
 // Appends the numbers of a member's live devices, unless there is the first one alone.
