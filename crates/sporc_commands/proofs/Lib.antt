@@ -2,6 +2,7 @@ mod Examples
 pub mod Compared
 pub mod Examined
 pub mod Lines
+pub mod Printed
 pub mod Prefixes
 pub mod Taken
 pub mod KeyFiles

@@ -2,11 +2,9 @@
 use Rattle.std.proofs.Common.{◌≡◌, ◌∙◌, ℕ, List, Result, Ok, Err, inl, inr, ap, subst}
 use Rattle.sporc_commands.proofs.Common.{◌>>=◌, Rose, Use, Fault, AnswersUnlessOutside, FileNames, LineModel, Device, AreCheckedFiles, CheckedFiles, CheckedLine, FindsLine, checked_files}
 use Rattle.sporc_commands.proofs.Common.{checked_line, line_in, Examines, fails_first, tells_alone, tells_behind, FolderTold, IsUnwritten, StreamTold}
-use Rattle.std.specs.Io.KnownBytes.{Appends}
-use Rattle.sporc_outside.specs.Writing.{AppendsPrefix}
 use Rattle.sporc_files.specs.declared.fault.Fault.TheVariants as faults
 use Rattle.sporc_files.specs.Uses.{OnlyReads}
-use Rattle.sporc_commands.specs.Lines.{WritesLine}
+use Rattle.sporc_commands.specs.Lines.{Prints, WritesLine}
 
 module _ {Y : Type 0} (Says : Y → List ℕ → Type 0) (folder : Use FolderTold) (out : Use StreamTold) (found : Result Y Fault) where
   -- nothing was found
@@ -23,13 +21,10 @@ module _ {Y : Type 0} (Says : Y → List ℕ → Type 0) (folder : Use FolderTol
   pub no_memory : (r : Result (Unit {0}) Fault) → r ≡ Err faults.Memory → IsUnwritten out → WritesLine Says folder out found r
   no_memory r is none = rw is none
 
-  -- the line was written, or a prefix of it
-  pub line_written : (y : Y) (line : List ℕ) → found ≡ Ok y → Says y line → Appends out.before.written out.after.written line → WritesLine Says folder out found {T = Unit {0}} (Ok tt)
-  line_written y line is says written = record { value = y; line = line; found_is = is; says = says; written = written }
-
-  pub line_cut : (y : Y) (line : List ℕ) (r : Result (Unit {0}) Fault) → r ≡ Err faults.Outside → found ≡ Ok y → Says y line → AppendsPrefix out.before.written out.after.written line
-      → Rose out.before.faults out.after.faults → WritesLine Says folder out found r
-  line_cut y line r r_is is says written rose = rw r_is (inr (rose, record { value = y; line = line; found_is = is; says = says; written = written }))
+  -- the line was printed
+  pub line_printed : (y : Y) (line : List ℕ) (r : Result (Unit {0}) Fault) → found ≡ Ok y → Says y line → Prints out line r → WritesLine Says folder out found r
+  line_printed y line (Ok done) is says written = record { value = y; line = line; found_is = is; says = says; written = written }
+  line_printed y line (Err fault) is says (outside, rose, written) = rw outside (inr (rose, record { value = y; line = line; found_is = is; says = says; written = written }))
 
 -- ---- what is made of a history that was examined
 
@@ -83,12 +78,7 @@ module _ {Y : Type 0} (Says : Y → List ℕ → Type 0) (made : CheckedLine →
         → IsUnwritten out → Does r
     examined_for_none view fault r is told none = does found.0 r found.1 reads (not_made Says folder out (line_in device found.0) made line found.2 view fault r is told none)
 
-    -- what was made of it was written, or a prefix of that
-    pub examined_to_write : (y : Y) (bytes : List ℕ) → made (checked_line line) ≡ Ok y → Says y bytes → Appends out.before.written out.after.written bytes → Does (Ok tt)
-    examined_to_write y bytes is says written = does found.0 (Ok tt) found.1 reads
-        (line_written Says folder out (line_in device found.0 >>= made) y bytes (is_made (line_in device found.0) made line found.2 y is) says written)
-
-    pub examined_to_cut : (y : Y) (bytes : List ℕ) (r : Result (Unit {0}) Fault) → r ≡ Err faults.Outside → made (checked_line line) ≡ Ok y → Says y bytes
-        → AppendsPrefix out.before.written out.after.written bytes → Rose out.before.faults out.after.faults → Does r
-    examined_to_cut y bytes r r_is is says written rose = does found.0 r found.1 reads
-        (line_cut Says folder out (line_in device found.0 >>= made) y bytes r r_is (is_made (line_in device found.0) made line found.2 y is) says written rose)
+    -- what was made of it was printed
+    pub examined_to_print : (y : Y) (bytes : List ℕ) (r : Result (Unit {0}) Fault) → made (checked_line line) ≡ Ok y → Says y bytes → Prints out bytes r → Does r
+    examined_to_print y bytes r is says prints = does found.0 r found.1 reads
+        (line_printed Says folder out (line_in device found.0 >>= made) y bytes r (is_made (line_in device found.0) made line found.2 y is) says prints)

@@ -9,6 +9,12 @@ use Rattle.sporc_outside.specs.Folders.{FolderTold}
 use Rattle.sporc_files.specs.declared.fault.Fault.{Fault}
 use Rattle.sporc_files.specs.declared.fault.Fault.TheVariants as faults
 
+-- what was printed of a text, by the answer: all of it; or the sink failed, and a prefix was
+abbrev pub Prints : {T : Type 0} → Use StreamTold → List ℕ → Result T Fault → Type 0
+Prints out text (Ok done) = Appends out.before.written out.after.written text
+Prints out text (Err fault) = (fault ≡ faults.Outside) × Rose out.before.faults out.after.faults
+    × AppendsPrefix out.before.written out.after.written text
+
 -- what a command did that writes a line of what it found in files, by its answer: the line, or why
 -- there is none
 module _ {X : Type 0} (Says : X → List ℕ → Type 0) (folder : Use FolderTold) (out : Use StreamTold)

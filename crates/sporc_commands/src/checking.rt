@@ -6,10 +6,11 @@ ghost use Rattle.sporc_commands.specs.Outcomes.{CheckOutcome};
 ghost use Rattle.sporc_outside.specs.Uses.{use_of};
 ghost use Rattle.sporc_files.specs.Names.{names_of_document};
 
+use crate::printing::print;
 use crate::reading::read_line;
 use sporc_base::Memory;
 use sporc_files::{Fault, Names};
-use sporc_outside::{Folder, Gate, Sink, write_all};
+use sporc_outside::{Folder, Gate, Sink};
 use sporc_words::Check;
 use std::alloc::Global;
 use std::fmt::Write;
@@ -36,9 +37,10 @@ pub fn check<R: Threads + Wait + Sync, F: Folder, O: Sink, G: Gate + Sync>(
 {
     let names = Names::of_document(asked.name.as_str());
     let line = read_line(rt, alloc, files, &names, asked.device, gate)?;
-    let checked = checked_line(alloc, line.len())?;
-    write_all(out, checked.as_bytes())?;
-    Ok(())
+    let checked = checked_line(alloc, line.len());
+    drop(line);
+    let checked = checked?;
+    print(out, checked.as_str())
 }
 
 // The line that says how many entries there are.

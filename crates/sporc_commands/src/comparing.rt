@@ -8,11 +8,12 @@ ghost use Rattle.sporc_commands.specs.Comparing.{AreOfOneGenesis, FindsChains, I
 ghost use Rattle.sporc_commands.specs.Outcomes.{CompareOutcome};
 
 use crate::chains::read_chain;
+use crate::printing::print;
 use sporc_base::Memory;
 use sporc_files::{Fault, File, Names, read_genesis_file};
 use sporc_hash::{Digest32, compare as compare_chains};
 use sporc_member::Device;
-use sporc_outside::{Folder, Sink, write_all};
+use sporc_outside::{Folder, Sink};
 use sporc_report::push_verdict;
 use sporc_words::Compare;
 use std::alloc::Global;
@@ -42,8 +43,7 @@ pub fn compare<F: Folder, O: Sink>(
         chains.0.as_slice(),
         chains.1.as_slice(),
     )?;
-    write_all(out, line.as_bytes())?;
-    Ok(())
+    print(out, line.as_str())
 }
 
 // The chains of two saved histories of one document.

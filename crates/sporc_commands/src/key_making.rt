@@ -12,11 +12,12 @@ ghost use Rattle.sporc_files.specs.Faults.{IsOutsideFault};
 ghost use Rattle.sporc_commands.specs.KeyMaking.{IsFilesFault, KeygenOutcome, StoresKey, key_line};
 ghost use Rattle.sporc_commands.specs.KeyMaking.{key_names};
 
+use crate::printing::print;
 use lms_tree::LmsPublic;
 use sporc_base::Memory;
 use sporc_files::{Fault, File, Names, write_new_file};
 use sporc_keys::{NewKey, write_key_file};
-use sporc_outside::{Chance, Folder, Sink, write_all};
+use sporc_outside::{Chance, Folder, Sink};
 use sporc_words::Keygen;
 use std::alloc::Global;
 use std::thread::Threads;
@@ -47,8 +48,7 @@ pub fn keygen<R: Threads + Sync, F: Folder, C: Chance, O: Sink>(
     let line = key_line(alloc, &key.public)?;
     let names = Names::of_document(asked.name.as_str());
     write_files(alloc, files, &names, &key)?;
-    write_all(out, line.as_bytes())?;
-    Ok(())
+    print(out, line.as_str())
 }
 
 // The key, before anything is written.

@@ -9,8 +9,9 @@ ghost use Rattle.sporc_files.specs.Uses.{AsksOnly, OnlyReads};
 ghost use Rattle.sporc_commands.specs.KeyShowing.{IsLineOf, PublicOutcome};
 
 use crate::key_making::key_line;
+use crate::printing::print;
 use sporc_files::{Fault, Names, read_key_file};
-use sporc_outside::{Folder, Sink, write_all};
+use sporc_outside::{Folder, Sink};
 use sporc_words::Public;
 use std::alloc::Global;
 use std::thread::Threads;
@@ -34,8 +35,7 @@ pub fn public<R: Threads + Sync, F: Folder, O: Sink>(
     ensures out_kept { (O.told out.old).faults ≤ (O.told out.new).faults }
 {
     let line = read_line(rt, alloc, files, asked)?;
-    write_all(out, line.as_bytes())?;
-    Ok(())
+    print(out, line.as_str())
 }
 
 // The line of a device's key file.
@@ -54,7 +54,7 @@ fn read_line<R: Threads + Sync, F: Folder>(
         (kinds.Key asked.now.device ∷ []) (use_of F.told files.old files.new) }
 {
     let names = Names::of_document(asked.name.as_str());
-    let tree = read_key_file(rt, alloc, files, &names, asked.device)?;
-    let line = key_line(alloc, &tree.public())?;
+    let key = read_key_file(rt, alloc, files, &names, asked.device)?.public();
+    let line = key_line(alloc, &key)?;
     Ok(line)
 }

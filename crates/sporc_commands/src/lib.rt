@@ -47,6 +47,7 @@ mod key_making;
 mod key_showing;
 pub mod laws;
 mod listing;
+mod printing;
 mod reading;
 mod texts;
 

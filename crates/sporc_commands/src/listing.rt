@@ -6,11 +6,12 @@ ghost use Rattle.sporc_files.specs.Names.{names_of_document};
 ghost use Rattle.sporc_report.specs.EntryLines.{entry_lines};
 ghost use Rattle.sporc_commands.specs.Outcomes.{EntriesOutcome};
 
+use crate::printing::print;
 use crate::reading::read_line;
 use sporc_base::Memory;
 use sporc_files::{Fault, Names};
 use sporc_line::Line;
-use sporc_outside::{Folder, Gate, Sink, write_all};
+use sporc_outside::{Folder, Gate, Sink};
 use sporc_report::push_entries;
 use sporc_words::EntriesFrom;
 use std::alloc::Global;
@@ -37,9 +38,10 @@ pub fn list_entries<R: Threads + Wait + Sync, F: Folder, O: Sink, G: Gate + Sync
 {
     let names = Names::of_document(asked.name.as_str());
     let line = read_line(rt, alloc, files, &names, asked.device, gate)?;
-    let lines = entry_lines(alloc, &line, asked.from)?;
-    write_all(out, lines.as_bytes())?;
-    Ok(())
+    let lines = entry_lines(alloc, &line, asked.from);
+    drop(line);
+    let lines = lines?;
+    print(out, lines.as_str())
 }
 
 // The lines of the entries from a position on.

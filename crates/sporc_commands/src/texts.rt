@@ -11,11 +11,12 @@ ghost use Rattle.sporc_commands.specs.Checking.{checked_line};
 ghost use Rattle.sporc_commands.specs.Telling.{text_at};
 ghost use Rattle.sporc_commands.specs.Outcomes.{TextOutcome};
 
+use crate::printing::print;
 use crate::reading::read_line;
 use sporc_base::Memory;
 use sporc_files::{Fault, Names};
 use sporc_line::Line;
-use sporc_outside::{Folder, Gate, Sink, write_all};
+use sporc_outside::{Folder, Gate, Sink};
 use sporc_text::Doc;
 use sporc_words::TextAt;
 use std::alloc::Global;
@@ -42,9 +43,10 @@ pub fn text<R: Threads + Wait + Sync, F: Folder, O: Sink, G: Gate + Sync>(
 {
     let names = Names::of_document(asked.name.as_str());
     let line = read_line(rt, alloc, files, &names, asked.device, gate)?;
-    let text = text_at(alloc, &line, asked.at)?;
-    write_all(out, text.as_bytes())?;
-    Ok(())
+    let text = text_at(alloc, &line, asked.at);
+    drop(line);
+    let text = text?;
+    print(out, text.as_str())
 }
 
 // The text after the first so many entries, or after all.

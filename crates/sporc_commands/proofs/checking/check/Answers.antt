@@ -1,7 +1,7 @@
 use Rattle.std.proofs.Common.{ℕ, Err, refl, ap, ◌∙◌}
 use Rattle.sporc_commands.proofs.Common.{err_from_is_err_and, names_of_document, ◌++◌, codes, length, Ok, CheckedLine, IsCheckedLine}
 use Rattle.std.specs.Fmt.{decimal}
-use Rattle.sporc_commands.proofs.Lines.{examined_in_vain, examined_to_cut, examined_to_write, none_examined}
+use Rattle.sporc_commands.proofs.Lines.{examined_in_vain, examined_to_print, none_examined}
 use Rattle.sporc_commands.proofs.checking.check.Goals as goal
 
 pub returns-in_err-line-clause-outcome : goal.returns-in_err-line-clause-outcome
@@ -16,15 +16,8 @@ returns-in_err-checked-clause-outcome g c =
     examined_in_vain IsCheckedLine (λ (line : CheckedLine). Ok (length line.entries)) _ _ (c.of_document-names.ensures.value ∙ ap names_of_document c.as_str.ensures.value) _ _ _ c.in_ok-line.line c.in_ok-line.ensures.found
     c.in_ok-line.ensures.reads _ (failed.1 ∙ ap Err failed.2) (record { written = refl; faults = refl })
 
-pub returns-in_err-write_all-clause-outcome : goal.returns-in_err-write_all-clause-outcome
-returns-in_err-write_all-clause-outcome g c =
-    let failed = err_from_is_err_and c.from_residual-in_err-write_all.result c.from_residual-in_err-write_all.ensures.1 in
-    examined_to_cut IsCheckedLine (λ (line : CheckedLine). Ok (length line.entries)) _ _ (c.of_document-names.ensures.value ∙ ap names_of_document c.as_str.ensures.value) _ _ _ c.in_ok-line.line c.in_ok-line.ensures.found
-    c.in_ok-line.ensures.reads
-    _ c.as_bytes.result.now _ (failed.1 ∙ ap Err failed.2) refl (c.as_bytes.ensures.value ∙ c.in_ok-checked.ensures ∙ ap (λ (n : ℕ). codes "checked " ++ (decimal n ++ codes "\n")) c.len.ensures.value) c.in_err-write_all.ensures.err c.in_err-write_all.ensures.count.failed
-
 pub returns-clause-outcome : goal.returns-clause-outcome
 returns-clause-outcome g c =
-    examined_to_write IsCheckedLine (λ (line : CheckedLine). Ok (length line.entries)) _ _ (c.of_document-names.ensures.value ∙ ap names_of_document c.as_str.ensures.value) _ _ _ c.in_ok-line.line c.in_ok-line.ensures.found
+    examined_to_print IsCheckedLine (λ (line : CheckedLine). Ok (length line.entries)) _ _ (c.of_document-names.ensures.value ∙ ap names_of_document c.as_str.ensures.value) _ _ _ c.in_ok-line.line c.in_ok-line.ensures.found
     c.in_ok-line.ensures.reads
-    _ c.as_bytes.result.now refl (c.as_bytes.ensures.value ∙ c.in_ok-checked.ensures ∙ ap (λ (n : ℕ). codes "checked " ++ (decimal n ++ codes "\n")) c.len.ensures.value) c.in_ok-write_all.ensures.ok
+    _ c.as_str-2.result.now c.print.result refl (c.as_str-2.ensures.value ∙ c.in_ok-checked.ensures ∙ ap (λ (n : ℕ). codes "checked " ++ (decimal n ++ codes "\n")) c.len.ensures.value) c.print.ensures.prints
