@@ -28,11 +28,11 @@
 
 mod crowd;
 mod docs;
+mod docs_service;
 mod fault;
 mod hands;
 mod kept_docs;
 pub mod laws;
-mod locked_docs;
 mod locks;
 mod server;
 mod serving;

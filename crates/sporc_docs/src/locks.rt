@@ -10,8 +10,8 @@ ghost use Rattle.sporc_docs.specs.Hands.{AllHands, HasFirst, HaveRoom, IsEmpty};
 ghost use Rattle.sporc_docs.specs.Locks.{AreBack, AreOpen, Closes, EndsAll};
 ghost use Rattle.sporc_docs.specs.Served.{AreKept};
 
+use crate::docs_service::DocsService;
 use crate::hands::Hand;
-use crate::locked_docs::LockedDocs;
 use crate::serving::serve_hands;
 use sporc_base::Memory;
 use sporc_order::{Order, Tail};
@@ -130,11 +130,14 @@ impl<T: Tail> Locks<T> {
         ensures net { LeavesNet (N.told net.old) (N.told net.new) }
         ensures unkept { result ≡ Err ServeFault.Unkept → T.may_fail }
     {
-        let locked = LockedDocs {
+        let docs = DocsService {
+            rt,
+            alloc,
             turns: &self.turns,
             documents: &self.documents,
+            gate,
         };
-        serve_hands(rt, alloc, net, &locked, &mut self.firsts, gate, hands)
+        serve_hands(&docs, net, &mut self.firsts, hands)
     }
 
     // Takes the orders and their tails out of their locks, the last lock's first.

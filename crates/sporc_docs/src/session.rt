@@ -15,14 +15,14 @@ ghost use Rattle.sporc_serve.specs.Visits.{visit};
 ghost use Rattle.sporc_docs.specs.Hands.{HavePasses};
 ghost use Rattle.sporc_docs.specs.Sessions.{Became, Sits, named_by};
 
+use crate::docs_service::DocsService;
 use crate::hands::Hand;
 use sporc_base::is_same;
 use sporc_order::Tail;
 use sporc_outside::{Gate, Link};
-use sporc_serve::{Desk, Item, Service, SessionEnd, first_message, serve_from};
-use sporc_turn::{Pass, Turn};
+use sporc_serve::{Item, Service, SessionEnd, first_message, serve_from};
+use sporc_turn::Pass;
 use sporc_wire::{Frames, ToServer};
-use std::alloc::Global;
 use std::sync::Wait;
 
 // The session over a link from its first message on, by the pass that is kept for the document
@@ -72,39 +72,35 @@ fn place_among(documents: &[[u8; 16]], document: &[u8; 16]) -> Option<usize>
 // A session over a link. Its first message names its document, for good, and a first message that
 // names none ends it. A hand has a pass for each document.
 fn serve_one<R: Wait, L: Link, G: Gate, T: Tail>(
-    rt: &R,
-    alloc: Global,
-    turns: &[Turn<Desk<T>>],
-    documents: &[[u8; 16]],
-    gate: &G,
+    docs: &DocsService<'_, R, G, T>,
     link: &mut L,
     hand: &mut [Option<Pass<Item>>],
 ) -> SessionEnd
-    requires locks { HavePasses turns.now hand.old }
-    requires one_length { length documents.now ≡ length turns.now }
-    ensures locks { HavePasses turns.now hand.new }
-    ensures session { Sits documents.now
+    requires locks { HavePasses docs.now.turns.now hand.old }
+    requires one_length { length docs.now.documents.now ≡ length docs.now.turns.now }
+    ensures locks { HavePasses docs.now.turns.now hand.new }
+    ensures session { Sits docs.now.documents.now
         (visit (L.told link.old) (L.told link.new) result) hand.old hand.new }
     ensures unkept { result ≡ SessionEnd.Unkept → T.may_fail }
     ensures shut { IsTrueIfTold (L.told link.new).is_shut }
 {
-    let mut frames = Frames::new(alloc);
-    let first = match first_message(rt, link, &mut frames) {
+    let mut frames = Frames::new(docs.alloc);
+    let first = match first_message(docs.rt, link, &mut frames) {
         Ok(first) => first,
         Err(end) => {
             link.shut();
             return end;
         }
     };
-    let Some(place) = named_by(documents, &first) else {
+    let Some(place) = named_by(docs.documents, &first) else {
         link.shut();
         return SessionEnd::Closed;
     };
     let service = Service {
-        rt,
-        alloc,
-        turn: &turns[place],
-        gate,
+        rt: docs.rt,
+        alloc: docs.alloc,
+        turn: &docs.turns[place],
+        gate: docs.gate,
     };
     let end = serve_at(&service, link, &mut frames, &first, &mut hand[place]);
     link.shut();
@@ -113,21 +109,17 @@ fn serve_one<R: Wait, L: Link, G: Gate, T: Tail>(
 
 // A session over a link with a hand.
 pub(crate) fn serve_hand<R: Wait, L: Link, G: Gate, T: Tail>(
-    rt: &R,
-    alloc: Global,
-    turns: &[Turn<Desk<T>>],
-    documents: &[[u8; 16]],
-    gate: &G,
+    docs: &DocsService<'_, R, G, T>,
     link: &mut L,
     hand: &mut Hand,
 ) -> SessionEnd
-    requires locks { HavePasses turns.now hand.old.passes.items }
-    requires one_length { length documents.now ≡ length turns.now }
-    ensures locks { HavePasses turns.now hand.new.passes.items }
-    ensures session { Sits documents.now (visit (L.told link.old) (L.told link.new) result)
+    requires locks { HavePasses docs.now.turns.now hand.old.passes.items }
+    requires one_length { length docs.now.documents.now ≡ length docs.now.turns.now }
+    ensures locks { HavePasses docs.now.turns.now hand.new.passes.items }
+    ensures session { Sits docs.now.documents.now (visit (L.told link.old) (L.told link.new) result)
         hand.old.passes.items hand.new.passes.items }
     ensures unkept { result ≡ SessionEnd.Unkept → T.may_fail }
     ensures shut { IsTrueIfTold (L.told link.new).is_shut }
 {
-    serve_one(rt, alloc, turns, documents, gate, link, &mut hand.passes)
+    serve_one(docs, link, &mut hand.passes)
 }

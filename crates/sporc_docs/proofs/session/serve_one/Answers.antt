@@ -50,17 +50,22 @@ returns-in_default-clause-session g c = (
 
 pub bounds-hand-place : goal.bounds-hand-place
 bounds-hand-place g c =
-    let same = have_length c.args.turns.now c.args.hand.now c.requires.locks in omega (arith, same, c.requires.one_length, c.in-Some.ensures.within)
+    let same = have_length c.args.docs.now.turns.now c.args.hand.now c.requires.locks in omega (arith, same, c.requires.one_length, c.in-Some.ensures.within)
 
 pub serve_at-end-requires-clause-lock : goal.serve_at-end-requires-clause-lock
 serve_at-end-requires-clause-lock g c =
-    have_at c.args.turns.now c.args.hand.now c.in-Some.place c.index-turns-place.result (slice_index_or c.args.hand.now c.in-Some.place c.index-hand-place.result) c.requires.locks
-    (omega (arith, c.requires.one_length, c.in-Some.ensures.within)) c.index-turns-place.is (ap (slice_index_or c.args.hand.now c.in-Some.place) c.index-hand-place.is)
+    let turns = c.args.docs.now.turns.now in
+    let hand = c.args.hand.now in
+    let place = c.in-Some.place in
+    have_at turns hand place (slice_index_or turns place c.index-docs-place.result) (slice_index_or hand place c.index-hand-place.result) c.requires.locks
+    (omega (arith, c.requires.one_length, c.in-Some.ensures.within)) (ap (slice_index_or turns place) c.index-docs-place.is) (ap (slice_index_or hand place) c.index-hand-place.is)
 
 pub returns-clause-locks : goal.returns-clause-locks
 returns-clause-locks g c =
-    have_set c.args.turns.now c.args.hand.now c.in-Some.place c.index-turns-place.result c.serve_at-end.new.pass c.requires.locks
-    (omega (arith, c.requires.one_length, c.in-Some.ensures.within)) c.index-turns-place.is c.serve_at-end.ensures.lock
+    let turns = c.args.docs.now.turns.now in
+    let place = c.in-Some.place in
+    have_set turns c.args.hand.now place (slice_index_or turns place c.index-docs-place.result) c.serve_at-end.new.pass c.requires.locks
+    (omega (arith, c.requires.one_length, c.in-Some.ensures.within)) (ap (slice_index_or turns place) c.index-docs-place.is) c.serve_at-end.ensures.lock
 
 pub returns-clause-session : goal.returns-clause-session
 returns-clause-session g c =
