@@ -15,13 +15,17 @@ use std::alloc::Global;
 pub fn insertion(alloc: Global, keep: u64, text: &[u8]) -> Result<Vec<u8>, Memory> {
     let mut out = Out::new(alloc);
     if keep > 0 {
-        out.put_u8(1)?;
-        out.put_u64(keep)?;
+        put_head(&mut out, 1, keep)?;
     }
-    out.put_u8(2)?;
-    out.put_u64(text.len() as u64)?;
+    put_head(&mut out, 2, text.len() as u64)?;
     out.put_bytes(text)?;
     Ok(out.into_bytes())
+}
+
+// The kind of a part, and how many characters or bytes it has.
+fn put_head(out: &mut Out, kind: u8, count: u64) -> Result<(), Memory> {
+    out.put_u8(kind)?;
+    out.put_u64(count)
 }
 
 /// The body of an edit: the bytes of a delta, masked under the key of its epoch.
@@ -78,18 +82,20 @@ fn wraps_of(
 ) -> Result<Vec<Wrap>, SampleFault> {
     let mut wraps = Vec::new(alloc);
     for member in members {
-        let mut sealed = *key;
-        mask(
-            &pair_key(device.member, *member),
-            entry_stream(device, leaf),
-            &mut sealed,
-        );
-        wraps.push(Wrap {
-            member: *member,
-            sealed,
-        })?;
+        wraps.push(wrap_of(key, device, leaf, *member))?;
     }
     Ok(wraps)
+}
+
+// A key sealed for a member.
+fn wrap_of(key: &[u8; 32], device: Device, leaf: u32, member: u16) -> Wrap {
+    let mut sealed = *key;
+    mask(
+        &pair_key(device.member, member),
+        entry_stream(device, leaf),
+        &mut sealed,
+    );
+    Wrap { member, sealed }
 }
 
 // The number of the stream that masks what an entry holds.

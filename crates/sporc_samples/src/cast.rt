@@ -6,10 +6,11 @@ ghost use Rattle.sporc_entry.specs.Genesis.{IsGenesis};
 use crate::fault::SampleFault;
 use crate::keys::epoch_key;
 use crate::member::Member;
+use sporc_base::Memory;
 use sporc_bytes::Out;
 use sporc_entry::{Genesis, read_genesis};
 use sporc_hash::commit;
-use sporc_member::Role;
+use sporc_member::{Founder, Role};
 use std::alloc::Global;
 
 /// The sample document.
@@ -66,11 +67,14 @@ impl Cast {
         out.put_bytes(&commit(&DOCUMENT, 0, &epoch_key(0)))?;
         out.put_u16(5)?;
         for member in &self.members {
-            let founder = member.founder();
-            out.put_u16(founder.member)?;
-            out.put_u8(founder.role.code())?;
-            out.put_bytes(&founder.key)?;
+            put_founder(&mut out, &member.founder())?;
         }
         Ok(out.into_bytes())
     }
+}
+
+fn put_founder(out: &mut Out, founder: &Founder) -> Result<(), Memory> {
+    out.put_u16(founder.member)?;
+    out.put_u8(founder.role.code())?;
+    out.put_bytes(&founder.key)
 }

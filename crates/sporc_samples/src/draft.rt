@@ -1,5 +1,8 @@
 //! Entries to be signed.
 
+ghost use Rattle.std.specs.Prelude.{◌≡◌, ◌<◌, ◌^◌, length, true};
+ghost use Rattle.sporc_entry.specs.Version.{fits_version};
+
 use crate::fault::SampleFault;
 use crate::member::Member;
 use sporc_entry::{Bytes, Entry, Header, fits_version, signed_part, write_entry};
@@ -43,17 +46,31 @@ impl Draft {
             body: Bytes::copy_of(alloc, body)?,
             signature: Bytes::new(Vec::new(alloc)),
         };
-        let message = signed_part(alloc, &entry)?;
+        let signature = self.signature(alloc, signer, &entry)?;
+        if signature.len() > 0xffff_ffff {
+            return Err(SampleFault::TooLong);
+        }
+        entry.signature = Bytes::new(signature);
+        Ok(write_entry(alloc, &entry)?)
+    }
+
+    // The member's signature of an entry.
+    fn signature(
+        &self,
+        alloc: Global,
+        signer: &Member,
+        entry: &Entry,
+    ) -> Result<Vec<u8>, SampleFault>
+        requires version { fits_version entry.now.header.version entry.now.header.device ≡ true }
+        requires limit { length entry.now.body < 2 ^ 32 }
+    {
+        let message = signed_part(alloc, entry)?;
         let mut signature = signer.sign(alloc, self.signing_leaf, message.as_slice())?;
         if self.turned
             && let Some(byte) = signature.get_mut(8)
         {
             *byte ^= 1;
         }
-        if signature.len() > 0xffff_ffff {
-            return Err(SampleFault::TooLong);
-        }
-        entry.signature = Bytes::new(signature);
-        Ok(write_entry(alloc, &entry)?)
+        Ok(signature)
     }
 }

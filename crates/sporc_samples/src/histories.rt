@@ -12,9 +12,26 @@ use std::alloc::Global;
 pub fn short_history(alloc: Global, cast: &Cast) -> Result<History, SampleFault> {
     let genesis = cast.genesis(alloc)?;
     let mut sample = History::new(alloc, &genesis)?;
-    sample.edit(alloc, cast, 2, insertion(alloc, 0, b"ab")?.as_slice())?;
-    sample.edit(alloc, cast, 4, insertion(alloc, 2, b"c")?.as_slice())?;
-    sample.change(alloc, cast, 1, Change::Remove { member: 4 }, &[1, 2, 3, 5])?;
-    sample.edit(alloc, cast, 5, insertion(alloc, 3, b"d")?.as_slice())?;
+    append_four(alloc, cast, &mut sample)?;
     Ok(sample)
+}
+
+fn append_four(alloc: Global, cast: &Cast, sample: &mut History) -> Result<(), SampleFault> {
+    append_insertion(alloc, cast, sample, 2, 0, b"ab")?;
+    append_insertion(alloc, cast, sample, 4, 2, b"c")?;
+    sample.change(alloc, cast, 1, Change::Remove { member: 4 }, &[1, 2, 3, 5])?;
+    append_insertion(alloc, cast, sample, 5, 3, b"d")
+}
+
+// Appends an author's insertion of a text behind so many characters.
+fn append_insertion(
+    alloc: Global,
+    cast: &Cast,
+    sample: &mut History,
+    author: u16,
+    keep: u64,
+    text: &[u8],
+) -> Result<(), SampleFault> {
+    let delta = insertion(alloc, keep, text)?;
+    sample.edit(alloc, cast, author, delta.as_slice())
 }

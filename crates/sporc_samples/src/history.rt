@@ -97,8 +97,7 @@ impl History {
         let device = signer.device();
         let header = self.header_of(device, EDIT);
         let body = edit_body(alloc, device, header.leaf, header.epoch, delta)?;
-        let bytes = Draft::new(header).signed(alloc, signer, body.as_slice())?;
-        self.append(device, bytes)
+        self.append_signed(alloc, signer, header, body.as_slice())
     }
 
     /// Appends a change by an author's first device, with the next key sealed for these members.
@@ -124,11 +123,22 @@ impl History {
         let device = signer.device();
         let header = self.header_of(device, CHANGE);
         let body = change_body(alloc, change, device, header.leaf, header.epoch, members)?;
-        let bytes = Draft::new(header).signed(alloc, signer, body.as_slice())?;
-        self.append(device, bytes)?;
+        self.append_signed(alloc, signer, header, body.as_slice())?;
         self.epoch = self.epoch.wrapping_add(1);
         self.upgraded = self.upgraded || matches!(change, Change::Upgrade);
         Ok(())
+    }
+
+    // Appends the entry with this header and body that these keys sign.
+    fn append_signed(
+        &mut self,
+        alloc: Global,
+        signer: &Member,
+        header: Header,
+        body: &[u8],
+    ) -> Result<(), SampleFault> {
+        let bytes = Draft::new(header).signed(alloc, signer, body)?;
+        self.append(signer.device(), bytes)
     }
 
     fn append(&mut self, device: Device, bytes: Vec<u8>) -> Result<(), SampleFault> {
