@@ -26,7 +26,7 @@ fn name_of(request: &DiskRequest) -> &'static str {
 }
 
 fn is_call(call: &DiskCall, name: &str, done: bool) -> bool {
-    call.done == done && name_of(&call.request) == name
+    call.done == done && is_same(name_of(&call.request).as_bytes(), name.as_bytes())
 }
 
 /// Stops the test unless these calls were made, each of which was done or failed.

@@ -29,14 +29,18 @@ fn cuts(rt: &impl Abort, file: &mut MemoryAppendFile) {
     check(rt, "a cut", file.cut(4).is_ok());
 }
 
-// What some of the images after so many of its calls are.
-fn leaves(rt: &impl Abort, file: &MemoryAppendFile, calls: usize, images: &[&[u8]]) {
-    assert!(rt; calls <= file.log().len());
-    let found = file.images(calls).expect(rt, "memory");
+fn are_images(rt: &impl Abort, found: &[Vec<u8>], images: &[&[u8]]) {
     check(rt, "how many images", found.len() == images.len());
     for (image, expected) in found.iter().zip(images) {
         check(rt, "an image", is_same(image, expected));
     }
+}
+
+// What some of the images after so many of its calls are.
+fn leaves(rt: &impl Abort, file: &MemoryAppendFile, calls: usize, images: &[&[u8]]) {
+    assert!(rt; calls <= file.log().len());
+    let found = file.images(calls).expect(rt, "memory");
+    are_images(rt, found.as_slice(), images);
 }
 
 fn reads(rt: &impl Abort, alloc: Global, folder: &mut MemoryFolder, bytes: &[u8]) {
@@ -54,12 +58,19 @@ fn does_its_calls(rt: &impl Abort, file: &mut MemoryAppendFile) {
     check(rt, "the faults", file.faults() == 1);
 }
 
+// Some of the images after so many of its calls.
+const IMAGES: [(usize, &[&[u8]]); 5] = [
+    (0, &[b""]),
+    (1, &[b"", b"o", b"one", b"one"]),
+    (2, &[b"one"]),
+    (3, &[b"one", b"onet", b"onetwo", b"one"]),
+    (6, &[b"ones"]),
+];
+
 fn leaves_its_images(rt: &impl Abort, file: &MemoryAppendFile) {
-    leaves(rt, file, 0, &[b""]);
-    leaves(rt, file, 1, &[b"", b"o", b"one", b"one"]);
-    leaves(rt, file, 2, &[b"one"]);
-    leaves(rt, file, 3, &[b"one", b"onet", b"onetwo", b"one"]);
-    leaves(rt, file, 6, &[b"ones"]);
+    for (calls, images) in &IMAGES {
+        leaves(rt, file, *calls, images);
+    }
 }
 
 #[test]

@@ -1,5 +1,5 @@
-use crate::checks::check;
-use crate::real::scratch::make_folder;
+use crate::checks::{check, fails_by};
+use crate::real::scratch::{make_folder, path_in, remove_folder};
 use sporc_base::is_same;
 use sporc_outside::{AppendFile, FileFault, Folder};
 use sporc_real::{RealAppendFile, RealFolder};
@@ -16,29 +16,51 @@ fn appends<R: Abort + AllocGlobal>(rt: &R, file: &mut RealAppendFile, bytes: &[u
     check(rt, "what is read", is_same(&found, all));
 }
 
-// Of two folders, as of two programs, one has the file, and the other gets it once it was handed
-// back.
-fn lends_once<R: Abort + Files<File = File> + AllocGlobal + Drop>(rt: &R, name: &str) {
-    let mut first = RealFolder::new(rt);
-    let mut second = RealFolder::new(rt);
+// The first of two folders, as of two programs, has the file, so the second doesn't get it. The
+// first hands it back.
+fn one_has_it<R: Abort + AllocGlobal, F: Folder<Appended = RealAppendFile>>(
+    rt: &R,
+    first: &mut F,
+    second: &mut F,
+    name: &str,
+) {
     let mut file = first.append_to(name).expect(rt, "a file");
     appends(rt, &mut file, b"one", b"one");
     let fault = second.append_to(name).err();
-    check(rt, "a taken file", fault == Some(FileFault::Failed));
+    fails_by(rt, "a taken file", fault, FileFault::Failed);
     first.take_file(name, file);
-    let mut file = second.append_to(name).expect(rt, "a file");
-    appends(rt, &mut file, b"two", b"onetwo");
+}
+
+// Appends to the file that the first folder handed back, and cuts it.
+fn goes_on<R: Abort + AllocGlobal>(rt: &R, file: &mut RealAppendFile) {
+    appends(rt, file, b"two", b"onetwo");
     check(rt, "a cut", file.cut(4).is_ok());
-    appends(rt, &mut file, b"six", b"onetsix");
+    appends(rt, file, b"six", b"onetsix");
     check(rt, "a longer cut", file.cut(8).is_err());
+}
+
+// The second folder gets the file then, and removes it.
+fn the_other_has_it<R: Abort + AllocGlobal, F: Folder<Appended = RealAppendFile>>(
+    rt: &R,
+    second: &mut F,
+    name: &str,
+) {
+    let mut file = second.append_to(name).expect(rt, "a file");
+    goes_on(rt, &mut file);
     check(rt, "a removal", second.remove(name, file).is_ok());
+}
+
+fn lends_once<R: Abort + Files<File = File> + AllocGlobal + Drop>(rt: &R, name: &str) {
+    let mut second = RealFolder::new(rt);
+    one_has_it(rt, &mut RealFolder::new(rt), &mut second, name);
+    the_other_has_it(rt, &mut second, name);
     check(rt, "no file", fs::metadata(rt, name).is_err());
 }
 
 #[test]
 fn a_file_is_appended_to_by_one_program_at_a_time(rt: HostRuntime) {
     let path = make_folder(&rt, process::id(rt.process()), "appends");
-    let name = format!(in rt.alloc(); "{path}/a.tail").expect(&rt, "memory");
+    let name = path_in(&rt, path.as_str(), "a.tail");
     lends_once(&rt, name.as_str());
-    fs::remove_dir_all(&rt, path.as_str()).expect(&rt, "a folder");
+    remove_folder(&rt, path.as_str());
 }

@@ -1,5 +1,5 @@
-use crate::checks::check;
-use crate::real::scratch::make_folder;
+use crate::checks::{check, fails_by};
+use crate::real::scratch::{make_folder, path_in, remove_folder};
 use sporc_base::is_same;
 use sporc_outside::{Counted, FileFault, Folder};
 use sporc_real::RealFolder;
@@ -16,11 +16,11 @@ fn has<F: Folder>(rt: &(impl Abort + AllocGlobal), folder: &mut F, name: &str, b
 
 fn lacks<F: Folder>(rt: &(impl Abort + AllocGlobal), folder: &mut F, name: &str) {
     let fault = folder.read_file(rt.alloc(), name).err();
-    check(rt, "no file", fault == Some(FileFault::Missing));
+    fails_by(rt, "no file", fault, FileFault::Missing);
 }
 
-// Who may read and write a file, as the system has it.
-fn rights<R: Abort + Files>(rt: &R, name: &str) -> u32 {
+/// Who may read and write a file, as the system has it.
+pub(crate) fn rights<R: Abort + Files>(rt: &R, name: &str) -> u32 {
     fs::metadata(rt, name).expect(rt, "a file").mode() & 0o777
 }
 
@@ -45,10 +45,15 @@ fn saves<F: Folder>(rt: &(impl Abort + AllocGlobal), folder: &mut F, name: &str)
     has(rt, folder, name, b"next");
 }
 
+// It is no new file, since something is there.
+fn is_there<F: Folder>(rt: &impl Abort, folder: &mut F, name: &str, bytes: &[u8]) {
+    let fault = folder.write_new(name, bytes).err();
+    fails_by(rt, "no new file", fault, FileFault::Exists);
+}
+
 fn makes_new<F: Folder>(rt: &(impl Abort + AllocGlobal), folder: &mut F, name: &str) {
     check(rt, "a new file", folder.write_new(name, b"secret").is_ok());
-    let again = folder.write_new(name, b"again").err();
-    check(rt, "no new file", again == Some(FileFault::Exists));
+    is_there(rt, folder, name, b"again");
     has(rt, folder, name, b"secret");
 }
 
@@ -58,49 +63,75 @@ where
     F::Disk: Drop,
 {
     let fault = folder.read_file(rt.alloc(), path).err();
-    check(rt, "a read", fault == Some(FileFault::Failed));
+    fails_by(rt, "a read", fault, FileFault::Failed);
     let fault = folder.leaf_disk(path).err();
-    check(rt, "a disk", fault == Some(FileFault::Failed));
+    fails_by(rt, "a disk", fault, FileFault::Failed);
     check(rt, "the faults", folder.faults() == 2);
 }
 
-// A folder is no file, and neither is a link that leads to itself; what lies behind a file is not
-// missing either.
+// Nor can a file be written in its place.
+fn fails_for_writes<F: Folder>(rt: &(impl Abort + AllocGlobal), folder: &mut F, path: &str)
+where
+    F::Disk: Drop,
+{
+    fails(rt, folder, path);
+    check(rt, "a write", folder.write_file(path, b"x").is_err());
+}
+
+// Nor can one be made there.
+fn fails_for_new<F: Folder>(rt: &(impl Abort + AllocGlobal), folder: &mut F, path: &str)
+where
+    F::Disk: Drop,
+{
+    fails(rt, folder, path);
+    is_there(rt, folder, path, b"x");
+}
+
+// A folder is no file.
+fn fails_for_folder<R: Abort + Files<File = File> + AllocGlobal + Drop>(rt: &R, path: &str) {
+    fs::create_dir(rt, path).expect(rt, "a folder");
+    fails_for_writes(rt, &mut RealFolder::new(rt), path);
+    check(rt, "nothing beside the file", !has_beside(rt, path));
+}
+
+// A link that leads to itself is no file, and is not missing either.
+fn fails_for_link<R: Abort + Files<File = File> + AllocGlobal + Drop>(rt: &R, path: &str) {
+    symlink(rt, path, path).expect(rt, "a link");
+    fails_for_new(rt, &mut RealFolder::new(rt), path);
+}
+
 fn fails_for_each<R: Abort + Files<File = File> + AllocGlobal + Drop>(rt: &R, path: &str) {
-    let name = format!(in rt.alloc(); "{path}/a").expect(rt, "memory");
-    fs::create_dir(rt, name.as_str()).expect(rt, "a folder");
-    fails(rt, &mut RealFolder::new(rt), name.as_str());
-    let written = RealFolder::new(rt).write_file(name.as_str(), b"x");
-    check(rt, "a write", written.is_err());
-    check(
-        rt,
-        "nothing beside the file",
-        !has_beside(rt, name.as_str()),
-    );
-    let link = format!(in rt.alloc(); "{path}/b").expect(rt, "memory");
-    symlink(rt, link.as_str(), link.as_str()).expect(rt, "a link");
-    fails(rt, &mut RealFolder::new(rt), link.as_str());
-    let made = RealFolder::new(rt).write_new(link.as_str(), b"x").err();
-    check(rt, "no new file", made == Some(FileFault::Exists));
+    fails_for_folder(rt, path_in(rt, path, "a").as_str());
+    fails_for_link(rt, path_in(rt, path, "b").as_str());
+}
+
+// Saves by a folder of this machine. Whether something lies beside the file then.
+fn saves_alone<R: Abort + Files<File = File> + AllocGlobal + Drop>(rt: &R, name: &str) -> bool {
+    saves(rt, &mut RealFolder::new(rt), name);
+    has_beside(rt, name)
+}
+
+// Makes a file by a folder of this machine. Who may read and write it then.
+fn makes_own<R: Abort + Files<File = File> + AllocGlobal + Drop>(rt: &R, name: &str) -> u32 {
+    makes_new(rt, &mut RealFolder::new(rt), name);
+    rights(rt, name)
 }
 
 #[test]
 fn a_saved_file_replaces_the_old_one(rt: HostRuntime) {
     let path = make_folder(&rt, process::id(rt.process()), "saved");
-    let name = format!(in rt.alloc(); "{path}/a.history").expect(&rt, "memory");
-    saves(&rt, &mut RealFolder::new(&rt), name.as_str());
-    let beside = has_beside(&rt, name.as_str());
-    fs::remove_dir_all(&rt, path.as_str()).expect(&rt, "a folder");
+    let name = path_in(&rt, path.as_str(), "a.history");
+    let beside = saves_alone(&rt, name.as_str());
+    remove_folder(&rt, path.as_str());
     check(&rt, "nothing beside the file", !beside);
 }
 
 #[test]
 fn a_file_with_keys_is_made_once_for_its_owner_alone(rt: HostRuntime) {
     let path = make_folder(&rt, process::id(rt.process()), "keys");
-    let name = format!(in rt.alloc(); "{path}/a.1.key").expect(&rt, "memory");
-    makes_new(&rt, &mut RealFolder::new(&rt), name.as_str());
-    let rights = rights(&rt, name.as_str());
-    fs::remove_dir_all(&rt, path.as_str()).expect(&rt, "a folder");
+    let name = path_in(&rt, path.as_str(), "a.1.key");
+    let rights = makes_own(&rt, name.as_str());
+    remove_folder(&rt, path.as_str());
     check(&rt, "who may read and write", rights == 0o600);
 }
 
@@ -108,5 +139,5 @@ fn a_file_with_keys_is_made_once_for_its_owner_alone(rt: HostRuntime) {
 fn errors_of_files_are_counted_and_leave_nothing(rt: HostRuntime) {
     let path = make_folder(&rt, process::id(rt.process()), "errors");
     fails_for_each(&rt, path.as_str());
-    fs::remove_dir_all(&rt, path.as_str()).expect(&rt, "a folder");
+    remove_folder(&rt, path.as_str());
 }

@@ -1,12 +1,12 @@
 use crate::checks::check;
-use crate::real::scratch::make_folder;
+use crate::real::scratch::{make_folder, path_in, remove_folder};
 use sporc_base::is_same;
 use sporc_outside::{Counted, Folder, LeafDisk};
 use sporc_real::{RealDisk, RealFolder};
 use std::fs::File;
+use std::process;
 use std::process::Abort;
 use std::rt::Files;
-use std::{fs, process};
 
 fn writes(rt: &impl Abort, disk: &mut RealDisk) {
     check(rt, "the length", disk.len() == Ok(4));
@@ -35,6 +35,12 @@ fn is_bounded(rt: &impl Abort, disk: &mut RealDisk) {
     check(rt, "the faults of the disk", disk.faults() == 2);
 }
 
+fn is_used(rt: &impl Abort, disk: &mut RealDisk) {
+    writes(rt, disk);
+    reads(rt, disk);
+    is_bounded(rt, disk);
+}
+
 fn keeps_leaves<R: Abort + Files<File = File> + AllocGlobal + Drop>(
     rt: &R,
     folder: &mut RealFolder<&R>,
@@ -42,9 +48,7 @@ fn keeps_leaves<R: Abort + Files<File = File> + AllocGlobal + Drop>(
 ) {
     folder.write_new(name, b"leaf").expect(rt, "a leaf file");
     let mut disk = folder.leaf_disk(name).expect(rt, "a leaf file");
-    writes(rt, &mut disk);
-    reads(rt, &mut disk);
-    is_bounded(rt, &mut disk);
+    is_used(rt, &mut disk);
     folder.take_back(disk);
     check(rt, "the faults of the folder", folder.faults() == 2);
 }
@@ -52,8 +56,7 @@ fn keeps_leaves<R: Abort + Files<File = File> + AllocGlobal + Drop>(
 #[test]
 fn a_leaf_file_is_read_and_written_in_bounds(rt: HostRuntime) {
     let path = make_folder(&rt, process::id(rt.process()), "leaves");
-    let name = format!(in rt.alloc(); "{path}/a.leaf").expect(&rt, "memory");
-    let mut folder = RealFolder::new(&rt);
-    keeps_leaves(&rt, &mut folder, name.as_str());
-    fs::remove_dir_all(&rt, path.as_str()).expect(&rt, "a folder");
+    let name = path_in(&rt, path.as_str(), "a.leaf");
+    keeps_leaves(&rt, &mut RealFolder::new(&rt), name.as_str());
+    remove_folder(&rt, path.as_str());
 }

@@ -1,10 +1,11 @@
 use crate::checks::{check, hears};
 use sporc_outside::{Counted, Dial, Link, Links, Listen, write_all};
-use sporc_real::TcpNet;
-use std::net::{Net, OpenListener, TcpListener};
+use sporc_real::{TcpLink, TcpNet};
+use std::net::{Net, OpenListener, TcpListener, TcpStream};
 use std::process::Abort;
+use std::rt::Clock;
 use std::sync::Wait;
-use std::thread::join;
+use std::thread::{Threads, join};
 
 // An address of this machine where nobody listens.
 pub(crate) fn free_address<R: Abort + Net + AllocGlobal>(rt: &R) -> String {
@@ -25,21 +26,49 @@ fn both_hear<L: Link>(rt: &impl Abort, caller: &mut L, called: &mut L) {
     hears(rt, called, 0);
 }
 
+// Each end says something, both at one time.
+fn both_say<R: Abort + Threads + Sync>(rt: &R, caller: &mut TcpLink, called: &mut TcpLink) {
+    join(rt, || says(rt, caller, b"hi"), || says(rt, called, b"well"));
+}
+
+/// A connection from a net to itself: the link that called, and the one that was called.
+pub(crate) fn connected<N: Net<Stream = TcpStream, Listener = TcpListener> + Clock + Drop>(
+    rt: &(impl Abort + Wait),
+    net: &mut TcpNet<N>,
+    address: &str,
+) -> (TcpLink, TcpLink) {
+    let caller = net.connect(rt, address).expect(rt, "a link");
+    let called = net.accept(rt).expect(rt, "a link");
+    (caller, called)
+}
+
+/// Hands both links of a connection back.
+pub(crate) fn take_back_both<N: Net<Stream = TcpStream, Listener = TcpListener> + Clock + Drop>(
+    net: &mut TcpNet<N>,
+    caller: TcpLink,
+    called: TcpLink,
+) {
+    net.take_back(caller);
+    net.take_back(called);
+}
+
+fn carries<R, N>(rt: &R, net: &mut TcpNet<N>, address: &str)
+where
+    R: Abort + Threads + Wait + Sync,
+    N: Net<Stream = TcpStream, Listener = TcpListener> + Clock + Drop,
+{
+    let (mut caller, mut called) = connected(rt, net, address);
+    both_say(rt, &mut caller, &mut called);
+    both_hear(rt, &mut caller, &mut called);
+    take_back_both(net, caller, called);
+}
+
 #[test]
 fn a_connection_carries_bytes_both_ways(rt: HostRuntime) {
     let address = free_address(&rt);
     let mut net = TcpNet::new(&rt);
     net.listen(address.as_str()).expect(&rt, "a listener");
-    let mut caller = net.connect(&rt, address.as_str()).expect(&rt, "a link");
-    let mut called = net.accept(&rt).expect(&rt, "a link");
-    join(
-        &rt,
-        || says(&rt, &mut caller, b"hi"),
-        || says(&rt, &mut called, b"well"),
-    );
-    both_hear(&rt, &mut caller, &mut called);
-    net.take_back(caller);
-    net.take_back(called);
+    carries(&rt, &mut net, address.as_str());
     check(&rt, "the faults of the links", net.link_faults() == 0);
 }
 
@@ -66,6 +95,12 @@ fn is_heard_elsewhere<N: Dial + Listen>(
     }
 }
 
+// The same port at each address of this machine.
+fn everywhere(rt: &(impl Abort + AllocGlobal), other: &str) -> String {
+    let port = other.strip_prefix("127.0.0.2").expect(rt, "a port");
+    format!(in rt.alloc(); "0.0.0.0{port}").expect(rt, "memory")
+}
+
 // A net listens at its address alone, and at all of the machine if that is 0.0.0.0.
 #[test]
 fn a_net_listens_at_its_address(rt: HostRuntime) {
@@ -73,8 +108,7 @@ fn a_net_listens_at_its_address(rt: HostRuntime) {
     let other = elsewhere(&rt, address.as_str());
     let is_heard = is_heard_elsewhere(&rt, &mut TcpNet::new(&rt), &address, &other);
     check(&rt, "at its address alone", !is_heard);
-    let port = other.strip_prefix("127.0.0.2").expect(&rt, "a port");
-    let all = format!(in rt.alloc(); "0.0.0.0{port}").expect(&rt, "memory");
+    let all = everywhere(&rt, other.as_str());
     let is_heard = is_heard_elsewhere(&rt, &mut TcpNet::new(&rt), &all, &other);
     check(&rt, "at each address", is_heard);
 }

@@ -1,8 +1,10 @@
 use crate::checks::{check, hears};
-use crate::real::nets::free_address;
+use crate::real::nets::{connected, free_address, take_back_both};
 use sporc_outside::{Counted, Dial, Link, Links, Listen, write_all};
 use sporc_real::TcpNet;
+use std::net::{Net, TcpListener, TcpStream};
 use std::process::Abort;
+use std::rt::Clock;
 use std::sync::Wait;
 use std::time::Duration;
 
@@ -30,22 +32,33 @@ fn fills<L: Link>(rt: &impl Abort, link: &mut L) {
     check(rt, "a peer that takes nothing", answer.is_err());
 }
 
+// The honest peer says something before the silent one is given up, and is heard behind that.
+fn tells_apart<L: Link>(rt: &impl Abort, with_silent: &mut L, honest: &mut L, with_honest: &mut L) {
+    check(rt, "a write", write_all(honest, b"hi").is_ok());
+    gives_up(rt, with_silent);
+    hears(rt, with_honest, 2);
+    fills(rt, with_honest);
+}
+
+// Two connections, one to a silent peer and one to an honest one.
+fn has_two_peers<R, N>(rt: &R, net: &mut TcpNet<N>, address: &str)
+where
+    R: Abort + Wait,
+    N: Net<Stream = TcpStream, Listener = TcpListener> + Clock + Drop,
+{
+    let (silent, mut with_silent) = connected(rt, net, address);
+    let (mut honest, mut with_honest) = connected(rt, net, address);
+    tells_apart(rt, &mut with_silent, &mut honest, &mut with_honest);
+    take_back_both(net, silent, with_silent);
+    take_back_both(net, honest, with_honest);
+}
+
 #[test]
 fn silent_peers_are_given_up_and_others_are_not(rt: HostRuntime) {
     let address = free_address(&rt);
     let mut net = TcpNet::with_limit(&rt, Duration::from_millis(50));
     net.listen(address.as_str()).expect(&rt, "a listener");
-    let silent = net.connect(&rt, address.as_str()).expect(&rt, "a link");
-    let mut with_silent = net.accept(&rt).expect(&rt, "a link");
-    let mut honest = net.connect(&rt, address.as_str()).expect(&rt, "a link");
-    let mut with_honest = net.accept(&rt).expect(&rt, "a link");
-    check(&rt, "a write", write_all(&mut honest, b"hi").is_ok());
-    gives_up(&rt, &mut with_silent);
-    hears(&rt, &mut with_honest, 2);
-    fills(&rt, &mut with_honest);
-    for link in [silent, with_silent, honest, with_honest] {
-        net.take_back(link);
-    }
+    has_two_peers(&rt, &mut net, address.as_str());
     check(&rt, "the faults of links", net.link_faults() == 4);
     check(&rt, "the faults of the net", net.faults() == 0);
 }

@@ -17,3 +17,13 @@ pub fn make_folder<R: Abort + Files + Env + AllocGlobal>(
     fs::create_dir(rt, path.as_str()).expect(rt, "a folder");
     path
 }
+
+/// The path of this name in a folder.
+pub fn path_in<R: Abort + AllocGlobal>(rt: &R, folder: &str, name: &str) -> String {
+    format!(in rt.alloc(); "{folder}/{name}").expect(rt, "memory")
+}
+
+/// Removes a folder and what is in it.
+pub fn remove_folder<R: Abort + Files + AllocGlobal>(rt: &R, folder: &str) {
+    fs::remove_dir_all(rt, folder).expect(rt, "a folder");
+}
