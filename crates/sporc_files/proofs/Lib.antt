@@ -8,3 +8,4 @@ pub mod Appendable
 pub mod NamesApart
 mod Examples
 pub mod Common
+pub mod Spelled

@@ -3,12 +3,13 @@
 ghost use Rattle.std.specs.Prelude.{◌≡◌, ◌≢◌, [], ◌∷◌, Err, IfOk, IfErr, option_map};
 ghost use Rattle.lms_leaf.specs.LeafFile.{IsLeafHeight};
 ghost use Rattle.lms_tree.specs.LmsType.{height_of};
+ghost use Rattle.sporc_bytes.specs.Fields.{fault_as};
 ghost use Rattle.sporc_entry.specs.Genesis.{IsGenesis};
 ghost use Rattle.sporc_outside.specs.Uses.{use_of};
 ghost use Rattle.sporc_keys.specs.KeyFile.{IsKeyWidth};
 ghost use Rattle.sporc_keys.specs.RingFile.{IsRingFile, ring_file_of_member};
 ghost use Rattle.sporc_files.specs.declared.file.File.{File};
-ghost use Rattle.sporc_files.specs.Faults.{fault_of_file};
+ghost use Rattle.sporc_files.specs.Faults.{AnswersUnlessOutside, fault_of_file};
 ghost use Rattle.sporc_files.specs.Names.{file_name};
 ghost use Rattle.sporc_files.specs.Reading.{IsFileFault, SaysFile, SaysFileIfThere, any_bytes};
 ghost use Rattle.sporc_files.specs.Reading.{founder_of, founder_with, genesis_file, is_key_of};
@@ -96,7 +97,16 @@ pub fn read_genesis_file<F: Folder>(
     ensures reads { OnlyReads names.now (File.Genesis ∷ []) (use_of F.told files.old files.new) }
 {
     let bytes = read_bytes(alloc, files, names, File::Genesis)?;
-    match read_genesis(alloc, bytes.as_slice()) {
+    genesis_in(alloc, bytes.as_slice())
+}
+
+// The genesis that the bytes of its file spell.
+fn genesis_in(alloc: Global, bytes: &[u8]) -> Result<Genesis, Fault>
+    ensures value { AnswersUnlessOutside (λ genesis. genesis) ⊥ result
+        (fault_as (Fault.Malformed File.Genesis) (genesis_file bytes.now)) }
+    ensures genesis { IfOk result IsGenesis }
+{
+    match read_genesis(alloc, bytes) {
         Ok(genesis) => Ok(genesis),
         Err(GenesisFault::Malformed(at)) => Err(Fault::Malformed(File::Genesis, at as u64)),
         Err(GenesisFault::NoAdmin) | Err(GenesisFault::BadKey(_)) => {
@@ -125,7 +135,22 @@ pub fn read_key_file<R: Threads + Sync, F: Folder>(
     ensures reads { OnlyReads names.now (File.Key device ∷ []) (use_of F.told files.old files.new) }
 {
     let bytes = read_bytes(alloc, files, names, File::Key(device))?;
-    match key_of_device(bytes.as_slice(), device) {
+    tree_in(rt, alloc, bytes.as_slice(), device)
+}
+
+// The private key that the bytes of a device's key file spell, with its tree.
+fn tree_in<R: Threads + Sync>(
+    rt: &R,
+    alloc: Global,
+    bytes: &[u8],
+    device: Device,
+) -> Result<Tree, Fault>
+    ensures value { AnswersUnlessOutside (λ key. key) ⊥ result
+        (fault_as (Fault.Malformed (File.Key device)) (key_file device bytes.now)) }
+    ensures height { IfOk result (λ key. IsLeafHeight (height_of key.lms)) }
+    ensures width { IfOk result (λ key. IsKeyWidth key.ots) }
+{
+    match key_of_device(bytes, device) {
         Ok(file) => {
             let tree = file.tree(rt, alloc)?;
             Ok(tree)
@@ -207,7 +232,16 @@ pub fn read_ring_file<F: Folder>(
         (use_of F.told files.old files.new) }
 {
     let bytes = read_bytes(alloc, files, names, File::Ring(member))?;
-    match ring_of_member(alloc, bytes.as_slice(), member) {
+    ring_in(alloc, bytes.as_slice(), member)
+}
+
+// The keys that the bytes of a member's ring file spell.
+fn ring_in(alloc: Global, bytes: &[u8], member: u16) -> Result<RingFile, Fault>
+    ensures value { AnswersUnlessOutside (λ ring. ring) ⊥ result
+        (fault_as (Fault.Malformed (File.Ring member)) (ring_file_of_member member bytes.now)) }
+    ensures ring { IfOk result IsRingFile }
+{
+    match ring_of_member(alloc, bytes, member) {
         Ok(ring) => Ok(ring),
         Err(RingFileFault::Malformed(at)) => Err(Fault::Malformed(File::Ring(member), at as u64)),
         Err(RingFileFault::Memory) => Err(Fault::Memory),
