@@ -156,20 +156,17 @@ fn append_beside<R: Threads + Wait + Sync, G: Gate + Sync, H: History>(
     ensures checker { H.checker history.new ≡ H.checker history.old }
     ensures rest { rest.new ≡ rest.old }
 {
-    let rt = workers.rt;
-    let alloc = workers.alloc;
-    let gate = workers.gate;
     let helpers = workers.count - 1;
     let share = first_share(block.len(), count, workers.count);
     let behind = (before + block.len() + share) as u32;
     let (own, others) = rest[..count].split_at(share);
     let (found, appended) = join_mut(
-        rt,
+        workers.rt,
         &mut || -> Result<Vec<Option<Verdict>>, Memory>
             requires { IsSync R.row × IsSync G.row × (2 + helpers < 2 ^ 32)
                 × (behind + length others.now < 2 ^ 32) }
             ensures { IfOk result (λ verdicts. AreExact verdicts.items others.entry.now) }
-        { examine_by(rt, alloc, gate, 2, helpers, behind, others) },
+        { examine_by(workers, 2, helpers, behind, others) },
         &mut || -> Result<Appended, Memory>
             requires { IsSync R.row × IsSync G.row × (length (H.entries history.now) ≡ before)
                 × (before + length block.now + length own.now < 2 ^ 32) }
@@ -181,7 +178,7 @@ fn append_beside<R: Threads + Wait + Sync, G: Gate + Sync, H: History>(
             ensures memory { OnErr result (AppendsSome (H.checker history.entry.now)
                 (H.entries history.entry.now) block.entry.now (H.entries history.exit.now)) }
             ensures checker { H.checker history.exit.now ≡ H.checker history.entry.now }
-        { append_and_examine(rt, alloc, gate, history, before, block, own) },
+        { append_and_examine(workers, history, before, block, own) },
     );
     let mut appended = appended?;
     if appended.refused.is_none() {
@@ -216,9 +213,7 @@ struct Appended {
 // Appends examined entries behind so many others, and unless one is refused, examines some of those
 // behind them.
 fn append_and_examine<R: Wait, G: Gate, H: History>(
-    rt: &R,
-    alloc: Global,
-    gate: &G,
+    workers: &Workers<'_, R, G>,
     history: &mut H,
     before: usize,
     block: &[SavedEntry<'_>],
@@ -234,12 +229,12 @@ fn append_and_examine<R: Wait, G: Gate, H: History>(
         (H.entries history.old) block.now (H.entries history.new)) }
     ensures checker { H.checker history.new ≡ H.checker history.old }
 {
-    let refused = append_part(alloc, history, before, block)?;
+    let refused = append_part(workers.alloc, history, before, block)?;
     let verdicts = match refused {
-        Some(_) => Vec::new(alloc),
+        Some(_) => Vec::new(workers.alloc),
         None => {
             let behind = (before + block.len()) as u32;
-            examine_part(rt, alloc, gate, 1, behind, next)?
+            examine_part(workers, 1, behind, next)?
         }
     };
     Ok(Appended { refused, verdicts })

@@ -22,12 +22,10 @@ pub(crate) struct Workers<'a, R, G> {
 }
 
 // Examines the signatures of entries, the first of which stands behind so many others, by so many
-// workers, numbered from `worker` on. Each takes entries that stand together, in a thread of its
-// own where one can be made. If there is none, the first takes them.
+// of all workers, numbered from `worker` on. Each takes entries that stand together, in a thread of
+// its own where one can be made. If there is none, the first takes them.
 pub(crate) fn examine_by<R: Threads + Wait + Sync, G: Gate + Sync>(
-    rt: &R,
-    alloc: Global,
-    gate: &G,
+    all: &Workers<'_, R, G>,
     worker: u32,
     workers: u32,
     before: u32,
@@ -38,7 +36,7 @@ pub(crate) fn examine_by<R: Threads + Wait + Sync, G: Gate + Sync>(
     ensures { IfOk result (λ verdicts. AreExact verdicts.items entries.now) }
 {
     if workers <= 1 {
-        return examine_part(rt, alloc, gate, worker, before, entries);
+        return examine_part(all, worker, before, entries);
     }
     let next = worker + 1;
     let others = workers - 1;
@@ -46,16 +44,16 @@ pub(crate) fn examine_by<R: Threads + Wait + Sync, G: Gate + Sync>(
     let behind = before + count as u32;
     let (part, rest) = entries.split_at(count);
     let (first, second) = join_mut(
-        rt,
+        all.rt,
         &mut || -> Result<Vec<Option<Verdict>>, Memory>
             requires { IsSync R.row × IsSync G.row × (before + length part.now < 2 ^ 32) }
             ensures { IfOk result (λ verdicts. AreExact verdicts.items part.entry.now) }
-        { examine_part(rt, alloc, gate, worker, before, part) },
+        { examine_part(all, worker, before, part) },
         &mut || -> Result<Vec<Option<Verdict>>, Memory>
             requires { IsSync R.row × IsSync G.row × (1 ≤ others) × (next + others < 2 ^ 32)
                 × (behind + length rest.now < 2 ^ 32) }
             ensures { IfOk result (λ verdicts. AreExact verdicts.items rest.entry.now) }
-        { examine_by(rt, alloc, gate, next, others, behind, rest) },
+        { examine_by(all, next, others, behind, rest) },
     );
     let mut verdicts = first?;
     let mut further = second?;
@@ -65,9 +63,7 @@ pub(crate) fn examine_by<R: Threads + Wait + Sync, G: Gate + Sync>(
 
 // Examines the signatures of entries by one worker.
 pub(crate) fn examine_part<R: Wait, G: Gate>(
-    rt: &R,
-    alloc: Global,
-    gate: &G,
+    all: &Workers<'_, R, G>,
     worker: u32,
     before: u32,
     entries: &[SavedEntry<'_>],
@@ -75,10 +71,10 @@ pub(crate) fn examine_part<R: Wait, G: Gate>(
     requires { before + length entries.now < 2 ^ 32 }
     ensures { IfOk result (λ verdicts. AreExact verdicts.items entries.now) }
 {
-    let mut verdicts = Vec::new(alloc);
+    let mut verdicts = Vec::new(all.alloc);
     for (i, entry) in entries.iter().enumerate() {
-        gate.before_line(rt, worker, before + i as u32 + 1);
-        let verdict = entry.examine(alloc)?;
+        all.gate.before_line(all.rt, worker, before + i as u32 + 1);
+        let verdict = entry.examine(all.alloc)?;
         verdicts.push(verdict)?;
     }
     Ok(verdicts)
