@@ -328,10 +328,18 @@ fn push_joined(
     ensures { OnOk result (map (λ image. image.items) images.new.items
         ≡ map (λ image. image.items) images.old.items ++ (bytes.now ++ behind.now) ∷ []) }
 {
-    let mut all = Vec::from_slice(alloc, bytes)?;
-    all.extend_from_slice(behind)?;
+    let all = joined(alloc, bytes, behind)?;
     images.push(all)?;
     Ok(())
+}
+
+// Bytes with those behind them.
+fn joined(alloc: Global, bytes: &[u8], behind: &[u8]) -> Result<Vec<u8>, AllocError>
+    ensures { IfOk result (λ all. all.items ≡ bytes.now ++ behind.now) }
+{
+    let mut all = Vec::from_slice(alloc, bytes)?;
+    all.extend_from_slice(behind)?;
+    Ok(all)
 }
 
 // Whether so many more bytes stay within the limit of a file.

@@ -272,7 +272,10 @@ fn is_in(from: u64, bytes: &[u8], at: usize) -> bool
     ensures { IsTrue result ↔ (from ≤ at × at < from + length bytes.now) }
 {
     let at = at as u64;
-    from <= at && at - from < bytes.len() as u64
+    if at < from {
+        return false;
+    }
+    at - from < bytes.len() as u64
 }
 
 // Writes these bytes over those from a place on.

@@ -527,8 +527,21 @@ fn open_appended(
     ensures ok { IfOk result (λ file. file ≡ file_over name.now bytes.now failing.old.items) }
     ensures taken { OnOk result (failing.new.items ≡ []) }
 {
-    let name = FileBytes::new(Vec::from_slice(alloc, name)?);
     let bytes = Vec::from_slice(alloc, bytes)?;
+    named_file(alloc, name, bytes, failing)
+}
+
+// A file of this name with these bytes.
+fn named_file(
+    alloc: Global,
+    name: &[u8],
+    bytes: Vec<u8>,
+    failing: &mut Vec<u64>,
+) -> Result<MemoryAppendFile, AllocError>
+    ensures ok { IfOk result (λ file. file ≡ file_over name.now bytes.items failing.old.items) }
+    ensures taken { OnOk result (failing.new.items ≡ []) }
+{
+    let name = FileBytes::new(Vec::from_slice(alloc, name)?);
     MemoryAppendFile::new(alloc, name, bytes, next_calls(alloc, failing))
 }
 

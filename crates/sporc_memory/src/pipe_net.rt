@@ -77,6 +77,11 @@ impl<R: Wait + Copy + Drop> PipeNet<R> {
 fn new_ends(alloc: Global) -> Result<(End, End), AllocError> {
     let there = Arc::new(alloc, Pipe::new(alloc))?;
     let back = Arc::new(alloc, Pipe::new(alloc))?;
+    both_ends(there, back)
+}
+
+// Both ends of the connection over these.
+fn both_ends(there: Arc<Pipe>, back: Arc<Pipe>) -> Result<(End, End), AllocError> {
     let first = End::of(&back, &there)?;
     let second = End {
         incoming: there,
