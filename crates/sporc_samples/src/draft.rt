@@ -41,17 +41,13 @@ impl Draft {
         if body.len() > 0xffff_ffff {
             return Err(SampleFault::TooLong);
         }
-        let mut entry = Entry {
+        let entry = Entry {
             header: self.header,
             body: Bytes::copy_of(alloc, body)?,
             signature: Bytes::new(Vec::new(alloc)),
         };
         let signature = self.signature(alloc, signer, &entry)?;
-        if signature.len() > 0xffff_ffff {
-            return Err(SampleFault::TooLong);
-        }
-        entry.signature = Bytes::new(signature);
-        Ok(write_entry(alloc, &entry)?)
+        with_signature(alloc, entry, signature)
     }
 
     // The member's signature of an entry.
@@ -73,4 +69,20 @@ impl Draft {
         }
         Ok(signature)
     }
+}
+
+// The bytes of an entry with this signature.
+fn with_signature(
+    alloc: Global,
+    mut entry: Entry,
+    signature: Vec<u8>,
+) -> Result<Vec<u8>, SampleFault>
+    requires version { fits_version entry.header.version entry.header.device ≡ true }
+    requires limit { length entry.body < 2 ^ 32 }
+{
+    if signature.len() > 0xffff_ffff {
+        return Err(SampleFault::TooLong);
+    }
+    entry.signature = Bytes::new(signature);
+    Ok(write_entry(alloc, &entry)?)
 }
