@@ -39,12 +39,17 @@ fn added(
     }
 }
 
+// Adds it, which is taken.
+fn adds(rt: &impl Abort, alloc: Global, cast: &Cast, docs: &mut Docs, number: u8) {
+    let fault = added(rt, alloc, cast, docs, number);
+    check_at(rt, "added", u64::from(number), fault.is_none());
+}
+
 // As many documents as may be, with the numbers from 0 on.
 fn full(rt: &impl Abort, alloc: Global, cast: &Cast) -> Box<Docs> {
     let mut docs = Box::new(alloc, Docs::new(alloc)).expect(rt, "memory");
     for number in 0..64u8 {
-        let fault = added(rt, alloc, cast, &mut docs, number);
-        check_at(rt, "added", u64::from(number), fault.is_none());
+        adds(rt, alloc, cast, &mut docs, number);
     }
     docs
 }
@@ -57,22 +62,35 @@ fn place(docs: &Docs, number: u8) -> Option<u32> {
     })
 }
 
+// One that is held already, and one too many, are not taken.
+fn no_more_are_taken(rt: &impl Abort, alloc: Global, cast: &Cast, docs: &mut Docs) {
+    let held = added(rt, alloc, cast, docs, 63);
+    check(rt, "held already", held == Some(DocsFault::Exists));
+    let more = added(rt, alloc, cast, docs, 64);
+    check(rt, "one too many", more == Some(DocsFault::Full));
+}
+
+fn have_their_places(rt: &impl Abort, docs: &Docs) {
+    for number in 0..64u8 {
+        let found = place(docs, number) == Some(u32::from(number));
+        check_at(rt, "its place", u64::from(number), found);
+    }
+}
+
+fn others_have_none(rt: &impl Abort, docs: &Docs) {
+    check(rt, "not held", place(docs, 64).is_none());
+    let pull = docs.route(&ToServer::Pull { from: 0 });
+    check(rt, "no Hello", pull.is_none());
+}
+
 #[test]
 fn sixty_four_documents(rt: HostRuntime) {
     let alloc = rt.alloc();
     let cast = Cast::new(alloc).expect(&rt, "a cast");
     let mut docs = full(&rt, alloc, &cast);
-    let held = added(&rt, alloc, &cast, &mut docs, 63);
-    check(&rt, "held already", held == Some(DocsFault::Exists));
-    let more = added(&rt, alloc, &cast, &mut docs, 64);
-    check(&rt, "one too many", more == Some(DocsFault::Full));
-    for number in 0..64u8 {
-        let found = place(&docs, number) == Some(u32::from(number));
-        check_at(&rt, "its place", u64::from(number), found);
-    }
-    check(&rt, "not held", place(&docs, 64).is_none());
-    let pull = docs.route(&ToServer::Pull { from: 0 });
-    check(&rt, "no Hello", pull.is_none());
+    no_more_are_taken(&rt, alloc, &cast, &mut docs);
+    have_their_places(&rt, &docs);
+    others_have_none(&rt, &docs);
     let orders = Box::into_inner(docs).into_orders();
     check(&rt, "all of them", orders.len() == MAX_DOCUMENTS);
 }

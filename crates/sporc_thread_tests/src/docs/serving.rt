@@ -3,8 +3,7 @@
 ghost use Rattle.std.specs.Prelude.{◌≤◌};
 ghost use Rattle.sporc_wire.specs.declared.limits.TheConstants.{MAX_SESSIONS};
 
-use crate::checks::check_at;
-use crate::docs::{added, document};
+use crate::docs::{adds, document};
 use crate::objects::joined;
 use crate::serve::server::{Outcome as Alone, Peers};
 use crate::serve::streams::{PULL, submit};
@@ -79,14 +78,18 @@ fn has_only(order: &Order, entry: &[u8]) -> bool {
     }
 }
 
+// The empty history of the document with this number. It is kept in a box for the same cause.
+fn history_of(rt: &impl Abort, alloc: Global, cast: &Cast, number: u8) -> Box<History> {
+    let mut genesis = cast.genesis(alloc).expect(rt, "a genesis");
+    genesis.document = document(number);
+    let history = History::new(alloc, &genesis).expect(rt, "a history");
+    Box::new(alloc, history).expect(rt, "memory")
+}
+
 /// The first entry of the document with this number, by member 1.
 pub fn entry_of(rt: &impl Abort, alloc: Global, cast: &Cast, number: u8) -> Vec<u8> {
-    let named = document(number);
-    let mut genesis = cast.genesis(alloc).expect(rt, "a genesis");
-    genesis.document = named;
-    let history = History::new(alloc, &genesis).expect(rt, "a history");
-    let mut header = history.header(1, EDIT);
-    header.document = named;
+    let mut header = history_of(rt, alloc, cast, number).header(1, EDIT);
+    header.document = document(number);
     let signer = cast.member(1).expect(rt, "a member");
     let body = edit_body(alloc, signer.device(), header.leaf, header.epoch, b"");
     Draft::new(header)
@@ -117,6 +120,15 @@ pub fn hello_submit_and_pull(rt: &impl Abort, alloc: Global, number: u8, entry: 
     joined(rt, alloc, &[hello.as_slice(), submission.as_slice(), &PULL])
 }
 
+// The empty orders of these documents.
+fn docs_of(rt: &impl Abort, alloc: Global, cast: &Cast, numbers: &[u8]) -> Docs {
+    let mut docs = Docs::new(alloc);
+    for number in numbers {
+        adds(rt, alloc, cast, &mut docs, *number);
+    }
+    docs
+}
+
 /// Serves so many links from the empty orders of these documents.
 pub fn served<R: Threads + Wait + Sync + Abort>(
     rt: &R,
@@ -129,11 +141,7 @@ pub fn served<R: Threads + Wait + Sync + Abort>(
     requires positive { 1 ≤ sessions }
     requires limit { sessions ≤ MAX_SESSIONS }
 {
-    let mut docs = Docs::new(alloc);
-    for number in numbers {
-        let fault = added(rt, alloc, cast, &mut docs, *number);
-        check_at(rt, "added", u64::from(*number), fault.is_none());
-    }
+    let docs = docs_of(rt, alloc, cast, numbers);
     let mut net = peers.into_net(rt, alloc);
     let (docs, answer) = serve_docs(rt, alloc, &mut net, "address", docs, sessions, &OpenGate);
     let orders = docs.into_orders();

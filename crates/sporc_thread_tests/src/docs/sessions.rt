@@ -1,5 +1,7 @@
 //! Sessions of many documents on one server.
 
+ghost use Rattle.std.specs.Prelude.{◌<◌};
+
 use crate::checks::{check, check_at};
 use crate::docs::empty_order;
 use crate::docs::serving::{
@@ -27,16 +29,38 @@ fn hello_pull_and_submit(rt: &impl Abort, alloc: Global, number: u8, entry: &[u8
     joined(rt, alloc, &[hello.as_slice(), &PULL, submission.as_slice()])
 }
 
+// Adds a link whose other end sends this, of which no call fails.
+fn add(rt: &impl Abort, alloc: Global, peers: &mut Peers, stream: Vec<u8>, piece: usize)
+    requires { 0 < piece }
+{
+    peers.add(rt, alloc, stream.as_slice(), piece, &[]);
+}
+
 // A link to document 7, one to document 8 with an entry of document 7, and one to a document that
-// isn't held.
+// isn't held, the last one first.
 fn three_peers(rt: &impl Abort, alloc: Global, entry: &[u8]) -> Peers {
-    let first = hello_and_submit(rt, alloc, 7, entry);
-    let second = hello_pull_and_submit(rt, alloc, 8, entry);
-    let third = hello_and_submit(rt, alloc, 9, entry);
     let mut peers = Peers::new(alloc);
-    peers.add(rt, alloc, third.as_slice(), 512, &[]);
-    peers.add(rt, alloc, second.as_slice(), 3, &[]);
-    peers.add(rt, alloc, first.as_slice(), 512, &[]);
+    add(
+        rt,
+        alloc,
+        &mut peers,
+        hello_and_submit(rt, alloc, 9, entry),
+        512,
+    );
+    add(
+        rt,
+        alloc,
+        &mut peers,
+        hello_pull_and_submit(rt, alloc, 8, entry),
+        3,
+    );
+    add(
+        rt,
+        alloc,
+        &mut peers,
+        hello_and_submit(rt, alloc, 7, entry),
+        512,
+    );
     peers
 }
 
@@ -74,16 +98,34 @@ fn each_session_has_its_document(rt: HostRuntime) {
     check_three(&rt, alloc, &outcome, entry.as_slice());
 }
 
+// Adds a link to a document, with an entry of another.
+fn add_crossed(
+    rt: &impl Abort,
+    alloc: Global,
+    cast: &Cast,
+    peers: &mut Peers,
+    number: u8,
+    other: u8,
+) {
+    let entry = entry_of(rt, alloc, cast, other);
+    let stream = hello_and_submit(rt, alloc, number, entry.as_slice());
+    add(rt, alloc, peers, stream, 512);
+}
+
 // A link to each of two documents, with an entry of the other.
 fn crossed_peers(rt: &impl Abort, alloc: Global, cast: &Cast) -> Peers {
-    let seventh = entry_of(rt, alloc, cast, 7);
-    let eighth = entry_of(rt, alloc, cast, 8);
-    let first = hello_and_submit(rt, alloc, 7, eighth.as_slice());
-    let second = hello_and_submit(rt, alloc, 8, seventh.as_slice());
     let mut peers = Peers::new(alloc);
-    peers.add(rt, alloc, second.as_slice(), 512, &[]);
-    peers.add(rt, alloc, first.as_slice(), 512, &[]);
+    add_crossed(rt, alloc, cast, &mut peers, 8, 7);
+    add_crossed(rt, alloc, cast, &mut peers, 7, 8);
     peers
+}
+
+fn are_refused(rt: &impl Abort, alloc: Global, outcome: &Outcome) {
+    for place in 0..2usize {
+        let refused = is_answered(rt, alloc, outcome, place, &[&WRONG_DOCUMENT]);
+        check_at(rt, "refused", place as u64, refused);
+        check_at(rt, "no entry", place as u64, outcome.is_empty(place));
+    }
 }
 
 #[test]
@@ -92,22 +134,40 @@ fn entries_of_the_other_document(rt: HostRuntime) {
     let cast = Cast::new(alloc).expect(&rt, "a cast");
     let peers = crossed_peers(&rt, alloc, &cast);
     let outcome = served(&rt, alloc, &cast, &[7, 8], peers, 2);
-    for place in 0..2usize {
-        let refused = is_answered(&rt, alloc, &outcome, place, &[&WRONG_DOCUMENT]);
-        check_at(&rt, "refused", place as u64, refused);
-        check_at(&rt, "no entry", place as u64, outcome.is_empty(place));
-    }
+    are_refused(&rt, alloc, &outcome);
 }
 
 // A link to document 7 whose second call fails, and one to document 8.
 fn failing_peers(rt: &impl Abort, alloc: Global, cast: &Cast, entry: &[u8]) -> Peers {
-    let other = entry_of(rt, alloc, cast, 7);
-    let first = hello_submit_and_pull(rt, alloc, 7, other.as_slice());
-    let second = hello_submit_and_pull(rt, alloc, 8, entry);
     let mut peers = Peers::new(alloc);
-    peers.add(rt, alloc, second.as_slice(), 512, &[]);
-    peers.add(rt, alloc, first.as_slice(), 3, &[2]);
+    add(
+        rt,
+        alloc,
+        &mut peers,
+        hello_submit_and_pull(rt, alloc, 8, entry),
+        512,
+    );
+    add_failing(
+        rt,
+        alloc,
+        &mut peers,
+        entry_of(rt, alloc, cast, 7).as_slice(),
+    );
     peers
+}
+
+fn add_failing(rt: &impl Abort, alloc: Global, peers: &mut Peers, entry: &[u8]) {
+    let stream = hello_submit_and_pull(rt, alloc, 7, entry);
+    peers.add(rt, alloc, stream.as_slice(), 3, &[2]);
+}
+
+// The second session has its answers, and its entry alone is taken.
+fn check_other(rt: &impl Abort, alloc: Global, outcome: &Outcome, entry: &[u8]) {
+    check(rt, "the server", outcome.went_well());
+    check(rt, "document 7", outcome.is_empty(0));
+    check(rt, "document 8", outcome.has_entry(1, entry));
+    let answered = are_of_submit_and_pull(rt, alloc, outcome.written(0));
+    check(rt, "its answers", answered);
 }
 
 #[test]
@@ -117,11 +177,7 @@ fn a_session_that_fails_beside_one_that_does_not(rt: HostRuntime) {
     let entry = entry_of(&rt, alloc, &cast, 8);
     let peers = failing_peers(&rt, alloc, &cast, entry.as_slice());
     let outcome = served(&rt, alloc, &cast, &[7, 8], peers, 2);
-    check(&rt, "the server", outcome.went_well());
-    check(&rt, "document 7", outcome.is_empty(0));
-    check(&rt, "document 8", outcome.has_entry(1, entry.as_slice()));
-    let answered = are_of_submit_and_pull(&rt, alloc, outcome.written(0));
-    check(&rt, "its answers", answered);
+    check_other(&rt, alloc, &outcome, entry.as_slice());
 }
 
 // The numbers of as many documents as may be.
@@ -168,8 +224,23 @@ fn served_alone<R: Threads + Wait + Sync + Abort>(
     served_order(rt, alloc, order, peers, 1, &OpenGate)
 }
 
-// Each document has its own entry alone, and its log and its answers are those of a server of it
+// A document has its own entry alone, and its log and its answers are those of a server of it
 // alone.
+fn check_one<R: Threads + Wait + Sync + Abort>(
+    rt: &R,
+    alloc: Global,
+    cast: &Cast,
+    outcome: &Outcome,
+    place: usize,
+    number: u8,
+    entry: &[u8],
+) {
+    let own = outcome.has_entry(place, entry);
+    check_at(rt, "its own entry alone", place as u64, own);
+    let alone = served_alone(rt, alloc, cast, number, entry);
+    check_at(rt, "as alone", place as u64, outcome.is_as(place, &alone));
+}
+
 fn check_all<R: Threads + Wait + Sync + Abort>(
     rt: &R,
     alloc: Global,
@@ -180,11 +251,21 @@ fn check_all<R: Threads + Wait + Sync + Abort>(
 ) {
     check(rt, "the server", outcome.went_well());
     for (place, (number, entry)) in numbers.iter().zip(entries).enumerate() {
-        let own = outcome.has_entry(place, entry.as_slice());
-        check_at(rt, "its own entry alone", place as u64, own);
-        let alone = served_alone(rt, alloc, cast, *number, entry.as_slice());
-        check_at(rt, "as alone", place as u64, outcome.is_as(place, &alone));
+        check_one(rt, alloc, cast, outcome, place, *number, entry.as_slice());
     }
+}
+
+// Serves so many documents at once, each with its entry.
+fn all_are_served<R: Threads + Wait + Sync + Abort>(
+    rt: &R,
+    alloc: Global,
+    cast: &Cast,
+    numbers: &[u8],
+    entries: &[Vec<u8>],
+) {
+    let peers = peers_of(rt, alloc, numbers, entries);
+    let outcome = served(rt, alloc, cast, numbers, peers, 64);
+    check_all(rt, alloc, cast, &outcome, numbers, entries);
 }
 
 #[test]
@@ -193,14 +274,5 @@ fn sixty_four_documents_at_once(rt: HostRuntime) {
     let cast = Cast::new(alloc).expect(&rt, "a cast");
     let numbers = all_numbers(&rt, alloc);
     let entries = entries_of(&rt, alloc, &cast, numbers.as_slice());
-    let peers = peers_of(&rt, alloc, numbers.as_slice(), entries.as_slice());
-    let outcome = served(&rt, alloc, &cast, numbers.as_slice(), peers, 64);
-    check_all(
-        &rt,
-        alloc,
-        &cast,
-        &outcome,
-        numbers.as_slice(),
-        entries.as_slice(),
-    );
+    all_are_served(&rt, alloc, &cast, numbers.as_slice(), entries.as_slice());
 }

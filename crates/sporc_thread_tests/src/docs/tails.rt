@@ -126,20 +126,31 @@ fn peers(rt: &impl Abort, alloc: Global, seventh: &[u8], eighth: &[u8]) -> Peers
     peers
 }
 
-// Serves documents 7 and 8, of which the tail of 8 fails at the put with this number.
-fn serve_two<R: Threads + Wait + Sync + Abort>(rt: &R, alloc: Global, cast: &Cast, failing: u32) {
-    let seventh = entry_of(rt, alloc, cast, 7);
-    let eighth = entry_of(rt, alloc, cast, 8);
+// Whether document 8 has its entry, or none if its tail failed at once.
+fn is_eighth(left: &Left<'_>, failing: u32, eighth: &[u8]) -> bool {
+    match failing {
+        1 => left.has_none(1) && left.answer == Err(ServeFault::Unkept),
+        _ => left.has_only(1, eighth) && left.answer.is_ok(),
+    }
+}
+
+// Serves documents 7 and 8 with these entries, where the tail of 8 fails at the put with this
+// number.
+fn serve_two<R: Threads + Wait + Sync + Abort>(
+    rt: &R,
+    alloc: Global,
+    cast: &Cast,
+    seventh: &[u8],
+    eighth: &[u8],
+    failing: u32,
+) {
     let kept = AtomicU64::new(0);
     let docs = two_docs(rt, alloc, cast);
     let tails = two_tails(rt, alloc, &kept, failing);
-    let peers = peers(rt, alloc, seventh.as_slice(), eighth.as_slice());
+    let peers = peers(rt, alloc, seventh, eighth);
     let left = served(rt, alloc, docs, tails, peers);
-    check(rt, "document 7", left.has_only(0, seventh.as_slice()));
-    let is_eighth = match failing {
-        1 => left.has_none(1) && left.answer == Err(ServeFault::Unkept),
-        _ => left.has_only(1, eighth.as_slice()) && left.answer.is_ok(),
-    };
+    check(rt, "document 7", left.has_only(0, seventh));
+    let is_eighth = is_eighth(&left, failing, eighth);
     check_at(rt, "document 8", u64::from(failing), is_eighth);
 }
 
@@ -147,7 +158,9 @@ fn serve_two<R: Threads + Wait + Sync + Abort>(rt: &R, alloc: Global, cast: &Cas
 fn each_tail_keeps_its_document(rt: HostRuntime) {
     let alloc = rt.alloc();
     let cast = Cast::new(alloc).expect(&rt, "a cast");
+    let seventh = entry_of(&rt, alloc, &cast, 7);
+    let eighth = entry_of(&rt, alloc, &cast, 8);
     for failing in 0..=1u32 {
-        serve_two(&rt, alloc, &cast, failing);
+        serve_two(&rt, alloc, &cast, &seventh, &eighth, failing);
     }
 }
