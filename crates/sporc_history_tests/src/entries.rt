@@ -102,16 +102,16 @@ fn device_bytes(rt: &impl Abort, alloc: Global, device: u8) -> Vec<u8> {
     bytes
 }
 
-fn is_edit(entry: &Entry) -> bool {
-    entry.header == HEADER
+fn is_edit(entry: &Entry, header: &Header) -> bool {
+    entry.header == *header
         && is_same(entry.body.as_slice(), &[0xbb; 19])
         && entry.signature.as_slice().len() == 2348
 }
 
-// Whether bytes are read as the edit that is spelled out.
-fn reads_as_edit(rt: &impl Abort, alloc: Global, bytes: &[u8]) -> bool {
+// Whether bytes are read as the edit that is spelled out, with this header.
+fn reads_as_edit(rt: &impl Abort, alloc: Global, bytes: &[u8], header: &Header) -> bool {
     let entry = read_entry(alloc, bytes).expect(rt, "an entry");
-    is_edit(&entry)
+    is_edit(&entry, header)
 }
 
 // The bytes of the entry that is read of these.
@@ -147,7 +147,7 @@ fn is_signed(rt: &impl Abort, alloc: Global, bytes: &[u8]) {
 // An edit reads and is written again, and is signed without its signature.
 fn edit_is_read(rt: &impl Abort, alloc: Global, bytes: &[u8]) {
     check(rt, "length", bytes.len() == 2443);
-    check(rt, "edit", reads_as_edit(rt, alloc, bytes));
+    check(rt, "edit", reads_as_edit(rt, alloc, bytes, &HEADER));
     is_written_again(rt, alloc, bytes);
     is_signed(rt, alloc, bytes);
 }
@@ -272,19 +272,12 @@ fn an_edit_is_read_unless_it_has_a_fault(rt: HostRuntime) {
     edits_are_limited(&rt, rt.alloc());
 }
 
-// Whether it is the edit in version 2, by this device.
-fn is_by_device(entry: &Entry, device: u8) -> bool {
+// The header of the edit in version 2, by this device.
+fn header_by(device: u8) -> Header {
     let mut header = HEADER;
     header.version = 2;
     header.device = device;
-    entry.header == header
-        && is_same(entry.body.as_slice(), &[0xbb; 19])
-        && entry.signature.as_slice().len() == 2348
-}
-
-fn reads_as_by_device(rt: &impl Abort, alloc: Global, bytes: &[u8], device: u8) -> bool {
-    let entry = read_entry(alloc, bytes).expect(rt, "an entry");
-    is_by_device(&entry, device)
+    header
 }
 
 // The place of a byte, its new value, and where the entry of version 2 is malformed then.
@@ -301,11 +294,9 @@ const DEVICE_FAULTS: [(usize, u8, usize); 7] = [
 fn is_read_by_device(rt: &impl Abort, alloc: Global, device: u8) {
     let bytes = device_bytes(rt, alloc, device);
     check(rt, "length", bytes.len() == 2444);
-    check(
-        rt,
-        "edit",
-        reads_as_by_device(rt, alloc, bytes.as_slice(), device),
-    );
+    let header = header_by(device);
+    let reads = reads_as_edit(rt, alloc, bytes.as_slice(), &header);
+    check(rt, "edit", reads);
     is_written_again(rt, alloc, bytes.as_slice());
     each_altered_is_malformed(rt, alloc, bytes.as_slice(), &DEVICE_FAULTS);
 }

@@ -142,26 +142,42 @@ const BAD_TO_CLIENT: [(&[u8], u64); 19] = [
     (&[4, 0], 1),
 ];
 
-// The fault of this body, after a good message to a server.
-fn fault_to_server(rt: &impl Abort, alloc: Global, body: &[u8]) -> Option<FrameFault> {
-    let mut frames = Frames::new(alloc);
-    frames.feed(&PULL).expect(rt, "good frames");
-    frames
-        .feed(framed(rt, alloc, body).as_slice())
-        .expect(rt, "good frames");
-    frames.next_to_server().expect(rt, "good frames");
-    frames.next_to_server().err()
+// Whom messages come to.
+#[derive(Clone, Copy)]
+enum End {
+    Server,
+    Client,
 }
 
-// The fault of this body, after a good message to a client.
-fn fault_to_client(rt: &impl Abort, alloc: Global, body: &[u8]) -> Option<FrameFault> {
+// Whether a message to this end is handed out.
+fn is_handed_out(frames: &mut Frames, end: End) -> Result<bool, FrameFault> {
+    match end {
+        End::Server => match frames.next_to_server() {
+            Ok(message) => Ok(message.is_some()),
+            Err(fault) => Err(fault),
+        },
+        End::Client => match frames.next_to_client() {
+            Ok(message) => Ok(message.is_some()),
+            Err(fault) => Err(fault),
+        },
+    }
+}
+
+// The fault of this body, after a good message to the same end.
+fn fault_behind(
+    rt: &impl Abort,
+    alloc: Global,
+    end: End,
+    good: &[u8],
+    body: &[u8],
+) -> Option<FrameFault> {
     let mut frames = Frames::new(alloc);
-    frames.feed(&ORDERED).expect(rt, "good frames");
+    frames.feed(good).expect(rt, "good frames");
     frames
         .feed(framed(rt, alloc, body).as_slice())
         .expect(rt, "good frames");
-    frames.next_to_client().expect(rt, "good frames");
-    frames.next_to_client().err()
+    is_handed_out(&mut frames, end).expect(rt, "good frames");
+    is_handed_out(&mut frames, end).err()
 }
 
 // Whether the fault names this place of the body behind 13 bytes.
@@ -172,88 +188,56 @@ fn is_bad_at(fault: Option<FrameFault>, place: u64) -> bool {
 // A body that is no message is refused at its field.
 fn bad_bodies_are_refused(rt: &impl Abort, alloc: Global) {
     for (body, place) in &BAD_TO_SERVER {
-        let fault = fault_to_server(rt, alloc, *body);
+        let fault = fault_behind(rt, alloc, End::Server, &PULL, *body);
         check_at(rt, "to a server, at", *place, is_bad_at(fault, *place));
     }
     for (body, place) in &BAD_TO_CLIENT {
-        let fault = fault_to_client(rt, alloc, *body);
+        let fault = fault_behind(rt, alloc, End::Client, &ORDERED, *body);
         check_at(rt, "to a client, at", *place, is_bad_at(fault, *place));
     }
 }
 
-// Whether a message to a server is whole once these bytes came.
-fn is_whole_to_server(rt: &impl Abort, frames: &mut Frames, bytes: &[u8]) -> bool {
+// Whether a message is whole once these bytes came.
+fn is_whole(rt: &impl Abort, frames: &mut Frames, end: End, bytes: &[u8]) -> bool {
     frames.feed(bytes).expect(rt, "good frames");
-    frames.next_to_server().expect(rt, "good frames").is_some()
+    is_handed_out(frames, end).expect(rt, "good frames")
 }
 
-// Whether a message to a client is whole once these bytes came.
-fn is_whole_to_client(rt: &impl Abort, frames: &mut Frames, bytes: &[u8]) -> bool {
-    frames.feed(bytes).expect(rt, "good frames");
-    frames.next_to_client().expect(rt, "good frames").is_some()
-}
-
-// Whether a message to a server is whole once both parts came, and not before.
-fn needs_both_to_server(rt: &impl Abort, frames: &mut Frames, prefix: &[u8], rest: &[u8]) -> bool {
-    let early = is_whole_to_server(rt, frames, prefix);
-    let whole = is_whole_to_server(rt, frames, rest);
+// Whether a message is whole once both parts came, and not before.
+fn needs_both(rt: &impl Abort, frames: &mut Frames, end: End, prefix: &[u8], rest: &[u8]) -> bool {
+    let early = is_whole(rt, frames, end, prefix);
+    let whole = is_whole(rt, frames, end, rest);
     whole && !early
 }
 
-// Whether a message to a client is whole once both parts came, and not before.
-fn needs_both_to_client(rt: &impl Abort, frames: &mut Frames, prefix: &[u8], rest: &[u8]) -> bool {
-    let early = is_whole_to_client(rt, frames, prefix);
-    let whole = is_whole_to_client(rt, frames, rest);
-    whole && !early
-}
-
-// Whether nothing is handed out of a prefix of this length, and a message to a server of the whole.
-fn is_cut_to_server(rt: &impl Abort, alloc: Global, frame: &[u8], len: usize) -> bool
+// Whether nothing is handed out of a prefix of this length, and a message of the whole.
+fn is_cut(rt: &impl Abort, alloc: Global, end: End, frame: &[u8], len: usize) -> bool
     requires { len ≤ length frame.now }
 {
     let mut frames = Frames::new(alloc);
     let (prefix, rest) = frame.split_at(len);
-    needs_both_to_server(rt, &mut frames, prefix, rest)
+    needs_both(rt, &mut frames, end, prefix, rest)
 }
 
-// Whether nothing is handed out of a prefix of this length, and a message to a client of the whole.
-fn is_cut_to_client(rt: &impl Abort, alloc: Global, frame: &[u8], len: usize) -> bool
-    requires { len ≤ length frame.now }
-{
-    let mut frames = Frames::new(alloc);
-    let (prefix, rest) = frame.split_at(len);
-    needs_both_to_client(rt, &mut frames, prefix, rest)
-}
-
-fn prefixes_to_server_give_nothing(rt: &impl Abort, alloc: Global, frame: &[u8]) {
+fn prefixes_of_one_give_nothing(
+    rt: &impl Abort,
+    alloc: Global,
+    end: End,
+    what: &str,
+    frame: &[u8],
+) {
     for len in 0..frame.len() {
-        check_at(
-            rt,
-            "to a server, cut at",
-            len as u64,
-            is_cut_to_server(rt, alloc, frame, len),
-        );
-    }
-}
-
-fn prefixes_to_client_give_nothing(rt: &impl Abort, alloc: Global, frame: &[u8]) {
-    for len in 0..frame.len() {
-        check_at(
-            rt,
-            "to a client, cut at",
-            len as u64,
-            is_cut_to_client(rt, alloc, frame, len),
-        );
+        check_at(rt, what, len as u64, is_cut(rt, alloc, end, frame, len));
     }
 }
 
 // A prefix of a frame gives nothing.
 fn prefixes_give_nothing(rt: &impl Abort, alloc: Global) {
     for frame in &TO_SERVER {
-        prefixes_to_server_give_nothing(rt, alloc, *frame);
+        prefixes_of_one_give_nothing(rt, alloc, End::Server, "to a server, cut at", *frame);
     }
     for frame in &TO_CLIENT {
-        prefixes_to_client_give_nothing(rt, alloc, *frame);
+        prefixes_of_one_give_nothing(rt, alloc, End::Client, "to a client, cut at", *frame);
     }
 }
 
