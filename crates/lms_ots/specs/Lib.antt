@@ -1,4 +1,5 @@
 pub mod OtsType
+pub mod Codes
 pub mod Coefficients
 pub mod Chains
 pub mod Signatures

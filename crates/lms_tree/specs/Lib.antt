@@ -3,6 +3,7 @@ pub mod Fields
 pub mod Nodes
 pub mod LmsPublic
 pub mod LmsPrivate
+pub mod Codes
 pub mod NodeArray
 pub mod Signatures
 pub mod Verification

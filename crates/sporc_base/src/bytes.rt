@@ -1,10 +1,6 @@
-//! Byte strings and tables.
+//! Byte strings.
 
-ghost use Rattle.std.specs.Prelude.{◌≡◌, ℕ, ◌↔◌, ◌+◌, ◌≤◌, ◌++◌, false, IsTrue, IfOk, length, take};
-ghost use Rattle.std.specs.Prelude.{drop, bytes_eq, slice_index_or};
-
-use crate::Memory;
-use std::alloc::Global;
+ghost use Rattle.std.specs.Prelude.{◌≡◌, ◌↔◌, ◌+◌, ◌≤◌, ◌++◌, IsTrue, length, take, drop, bytes_eq};
 
 /// Whether two byte strings are the same.
 pub fn is_same(a: &[u8], b: &[u8]) -> bool
@@ -23,12 +19,4 @@ pub fn put_at(bytes: &mut [u8], place: usize, field: &[u8])
         ≡ drop (place + length field.now) bytes.old }
 {
     bytes[place..place + field.len()].copy_from_slice(field);
-}
-
-/// A table with no marks.
-pub fn unmarked(alloc: Global, size: usize) -> Result<Vec<bool>, Memory>
-    ensures len { IfOk result (λ marks. length marks.items ≡ size) }
-    ensures each { IfOk result (λ marks. (n : ℕ) → slice_index_or marks.items n false ≡ false) }
-{
-    vec![in alloc; false; size]
 }

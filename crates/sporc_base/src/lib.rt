@@ -5,7 +5,6 @@
 //! - [`Items`]: a `Vec` that contracts see as the list of its items; [`Bytes`] is one of bytes.
 //! - [`is_same`]: whether two byte strings are the same.
 //! - [`put_at`]: a field written into bytes, from a place on.
-//! - [`unmarked`]: a table with no marks.
 //! - `specs/Outcome.antt`: a call answers what a definition gives, a value or a fault: exactly that
 //!   (`Gives`), or that unless memory runs out (`GivesUnless`).
 //! - `specs/FirstFault.antt`: a call answers the first fault of a list of checks: exactly that
@@ -26,7 +25,7 @@
 mod bytes;
 mod items;
 
-pub use bytes::{is_same, put_at, unmarked};
+pub use bytes::{is_same, put_at};
 pub use items::{Bytes, Items};
 use std::alloc::AllocError;
 

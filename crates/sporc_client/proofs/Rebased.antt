@@ -49,16 +49,12 @@ pub record Fits (form : List Mark) (items : List Pending) : Type 0 where
 
 -- what passing the first of some items leaves
 pub record FirstPassed (form : List Mark) (item : Pending) (items : List Pending) : Type 0 where
-  pub over : AreOver (base_len form) (item ∷ [])
-  pub limit : base_len form + inserted_len form + inserted_by (item ∷ []) ≤ MAX_TEXT_LEN
   pub rebased_is : rebased form (item ∷ items) ≡ rebased form (item ∷ []) ++ rebased (beyond form (item ∷ [])) items
   pub beyond_is : beyond form (item ∷ items) ≡ beyond (beyond form (item ∷ [])) items
   pub rest : Fits (beyond form (item ∷ [])) items
 
 pub first_passed : (form : List Mark) (item : Pending) (items : List Pending) → Fits form (item ∷ items) → FirstPassed form item items
 first_passed form (Change change) items fits = record {
-  over = tt;
-  limit = omega (arith, fits.limit);
   rebased_is = refl;
   beyond_is = refl;
   rest = record { over = fits.over; limit = fits.limit };
@@ -67,8 +63,6 @@ first_passed form (Edit marks) items fits =
     let same = fits.over.0 in
     let base = base_len-earlier form marks (sym same) in
     record {
-      over = (same, tt);
-      limit = omega (arith, fits.limit);
       rebased_is = refl;
       beyond_is = refl;
       rest = record {
@@ -176,13 +170,6 @@ passed_one form all after next ps new p i item within is pushed one can_one form
       form_is = ap (λ f. beyond f (drop (i + 1) all)) form_one ∙ sym first.beyond_is ∙ ap (beyond after) (sym here) ∙ so_far.form_is;
       fits = rw form_one first.rest;
     }
-
-pub passed_first : (form : List Mark) (all : List Pending) (after : List Mark) (ps : List (Option Passed)) (i : ℕ) (item : Pending) → i < length all → item ≡ get_or all i item → PassedSome form all after ps i
-    → Fits after (item ∷ [])
-passed_first form all after ps i item within is so_far =
-    let P : List Pending → Type 0 = λ items. Fits after items in
-    let first = first_passed after item (drop (i + 1) all) (subst P (item_at all i item within is) so_far.fits) in
-    record { over = first.over; limit = first.limit }
 
 -- ---- pending edits in one
 

@@ -1,5 +1,6 @@
 pub mod Format
 pub mod Marks
+pub mod Codes
 pub mod Parts
 pub mod Reading
 pub mod Same

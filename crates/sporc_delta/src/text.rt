@@ -49,14 +49,6 @@ impl Text {
         Text { string, len }
     }
 
-    /// The string of the text, which takes no memory.
-    pub fn into_string(self) -> String
-        ensures characters { chars (string_bytes result) ≡ self }
-        ensures bytes { string_bytes result ≡ encode_utf8_all self }
-    {
-        self.string
-    }
-
     /// The number of characters.
     pub fn len(&self) -> u64
         ensures value { result ≡ length self.now }
