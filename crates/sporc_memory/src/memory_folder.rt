@@ -147,7 +147,7 @@ impl Folder for MemoryFolder {
     fn write_file(&mut self, name: &str, bytes: &[u8]) -> Result<(), Failed>
         ensures ok { OnOk result
             (Some self.new.files ≡ Some (with_file self.old.files name.now bytes.now)) }
-        ensures err { OnErr result
+        ensures changes { OnErr result
             (ChangesFile (Some self.old.files) (Some self.new.files) name.now) }
         ensures lent { Some self.new.lent ≡ Some self.old.lent }
         ensures asked { OnOk result (self.new.asked ≡ self.old.asked ++ name.now ∷ []) }

@@ -46,7 +46,7 @@ pub trait Folder: Counted {
     fn write_file(&mut self, name: &str, bytes: &[u8]) -> Result<(), Failed>
         ensures ok { OnOk result ((told self.new).files
             ≡ option_map (λ old. with_file old name.now bytes.now) (told self.old).files) }
-        ensures err { OnErr result
+        ensures changes { OnErr result
             (ChangesFile (told self.old).files (told self.new).files name.now) }
         ensures lent { (told self.new).lent ≡ (told self.old).lent }
         ensures asked { OnOk result
