@@ -65,7 +65,7 @@ fn agree_at(a: &[Digest32], b: &[Digest32], at: usize) -> bool
 fn common_entries(a: &[Digest32], b: &[Digest32], last: usize) -> usize
     requires a_in_bounds { last < length a.now }
     requires b_in_bounds { last < length b.now }
-    requires agreed { slice_get a.now 0 ≡ slice_get b.now 0 }
+    requires one_genesis { slice_get a.now 0 ≡ slice_get b.now 0 }
     requires different { slice_get a.now last ≢ slice_get b.now last }
     ensures { DivergesAfter a.now b.now result }
 {
