@@ -47,7 +47,7 @@ impl LmsPublic {
     /// The bytes of the key.
     pub fn to_bytes(&self) -> [u8; 56]
         ensures value { result ≡ public_key_bytes self.now }
-        ensures read_back { public_key_in result ≡ Some self.now }
+        ensures read_again { public_key_in result ≡ Some self.now }
     {
         let mut bytes = [0u8; 56];
         put_at(&mut bytes, 0, &self.lms.code().to_be_bytes());
