@@ -104,7 +104,7 @@ impl<D: LeafDisk> Leaves<D> {
     /// later opening goes on at this number or above it.
     pub fn next(&self) -> u32
         ensures value { result ≡ self.now.next }
-        ensures forward { self.now.next_at_open ≤ result }
+        ensures since_open { self.now.next_at_open ≤ result }
         ensures within { result ≤ self.now.leaf_count }
         ensures taken { AreTaken (disk_images (D.told self.now.disk)) self.now.next_at_open result }
         ensures passed { ArePassed (disk_images (D.told self.now.disk)) result }

@@ -95,7 +95,7 @@ impl<D: LeafDisk> Signer<D> {
     /// crash leaves, a later opening goes on at this leaf or above it.
     pub fn next_leaf(&self) -> u32
         ensures value { result ≡ self.now.leaves.next }
-        ensures forward { self.now.leaves.next_at_open ≤ result }
+        ensures since_open { self.now.leaves.next_at_open ≤ result }
         ensures within { result ≤ self.now.leaves.leaf_count }
         ensures all { self.now.leaves.leaf_count ≡ 2 ^ height_of self.now.key.lms }
         ensures taken { AreTaken (disk_images (D.told self.now.leaves.disk))
