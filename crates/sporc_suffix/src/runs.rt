@@ -127,8 +127,8 @@ fn over_one<L: Ledger>(
 ) -> Result<Delta, Memory>
     requires runs { KeepRuns forms.now }
     requires limit { length forms.now < 2 ^ 32 }
-    requires one { end ≤ from + 1 }
-    requires from { from ≤ end }
+    requires end_limit { end ≤ from + 1 }
+    requires from_in_bounds { from ≤ end }
     requires in_bounds { end ≤ length (runs_of level (forms_in forms.now)) }
     requires fits { Fits q (take (end - from) (drop from (runs_of level (forms_in forms.now)))) }
     ensures ok { IfOk result (λ d. d
