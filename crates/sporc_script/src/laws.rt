@@ -25,9 +25,9 @@ pub fn limits()
 
 /// A word is read as a device exactly if it is how that device is printed.
 pub fn devices_are_words()
-    ensures read { (device : Device) → DeviceInRange device
+    ensures read_again { (device : Device) → DeviceInRange device
         → device_of (device_text device) ≡ Some device }
-    ensures printed { (word : List ℕ) (device : Device) → device_of word ≡ Some device
+    ensures written_so { (word : List ℕ) (device : Device) → device_of word ≡ Some device
         → DeviceInRange device × (word ≡ device_text device) }
 {}
 
