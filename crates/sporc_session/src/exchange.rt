@@ -29,7 +29,7 @@ pub(crate) trait Sent {
 
     // The message's frame.
     fn frame(&self, alloc: Global) -> Result<Vec<u8>, Memory>
-        requires within { length (to_server_bytes (message self.now)) ≤ MAX_BODY }
+        requires limit { length (to_server_bytes (message self.now)) ≤ MAX_BODY }
         ensures value { IfOk result
             (λ v. framed (to_server_bytes (message self.now)) ≡ Ok v.items) };
 }
@@ -53,7 +53,7 @@ impl Sent for Bytes {
 
 // The frame of a message that isn't too long.
 fn fitting(frame: Result<Vec<u8>, FrameFault>) -> Result<Vec<u8>, Memory>
-    requires within { IfErr frame (λ fault. fault ≡ FrameFault.Memory) }
+    requires fault { IfErr frame (λ fault. fault ≡ FrameFault.Memory) }
     ensures value { IfOk result (λ v. frame ≡ Ok v) }
 {
     match frame {
