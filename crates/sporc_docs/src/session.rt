@@ -39,7 +39,7 @@ fn serve_at<R: Wait, L: Link, G: Gate, T: Tail>(
     ensures lock { IsOther service.now.turn.now pass.new }
     ensures number { Became (λ p p'. (known_of p').number ≡ (known_of p).number) pass.old pass.new }
     ensures worn { Became (λ p p'. HasReadLast (read_of p') result) pass.old pass.new }
-    ensures as_shut { (L.told link.new).is_shut ≡ (L.told link.old).is_shut }
+    ensures shut { (L.told link.new).is_shut ≡ (L.told link.old).is_shut }
     ensures unkept { result ≡ SessionEnd.Unkept → T.may_fail }
     ensures goes { Became (λ p p'. LeadsFrom first.now frames.old (L.told link.old)
         (L.told link.new) result (known_of p) (known_of p')) pass.old pass.new }

@@ -20,7 +20,7 @@ pub fn first_message<R: Wait, L: Link>(
     ensures first { IsFirst (inlet_at (L.told link.old) frames.old)
         (inlet_at (L.told link.new) frames.new) result }
     ensures written { (L.told link.new).written ≡ (L.told link.old).written }
-    ensures as_shut { (L.told link.new).is_shut ≡ (L.told link.old).is_shut }
+    ensures shut { (L.told link.new).is_shut ≡ (L.told link.old).is_shut }
     ensures kept { (L.told link.old).faults ≤ (L.told link.new).faults }
     ensures unkept { result ≢ Err SessionEnd.Unkept }
 {

@@ -37,7 +37,7 @@ pub(crate) fn send<R: Wait, L: Link, G: Gate>(
     ensures unkept { result ≢ Some SessionEnd.Unkept }
     ensures close { reply.now ≡ Reply.Close → result ≡ Some SessionEnd.Closed }
     ensures left { (L.told link.new).left ≡ (L.told link.old).left }
-    ensures as_shut { (L.told link.new).is_shut ≡ (L.told link.old).is_shut }
+    ensures shut { (L.told link.new).is_shut ≡ (L.told link.old).is_shut }
     ensures kept { (L.told link.old).faults ≤ (L.told link.new).faults }
 {
     match reply {
@@ -66,7 +66,7 @@ fn write<L: Link>(alloc: Global, link: &mut L, message: &ToClient) -> Option<Ses
     ensures some { IfSome result (IsSendEnd (answers.Send message.now) (L.told link.old).written
         (L.told link.new).written (L.told link.old).faults (L.told link.new).faults) }
     ensures left { (L.told link.new).left ≡ (L.told link.old).left }
-    ensures as_shut { (L.told link.new).is_shut ≡ (L.told link.old).is_shut }
+    ensures shut { (L.told link.new).is_shut ≡ (L.told link.old).is_shut }
     ensures kept { (L.told link.old).faults ≤ (L.told link.new).faults }
 {
     match write_to_client(alloc, message) {
@@ -84,7 +84,7 @@ fn write_frame<L: Link>(link: &mut L, frame: &[u8]) -> Option<SessionEnd>
         × AppendsLess (L.told link.old).written (L.told link.new).written frame.now
         × Rose (L.told link.old).faults (L.told link.new).faults) }
     ensures left { (L.told link.new).left ≡ (L.told link.old).left }
-    ensures as_shut { (L.told link.new).is_shut ≡ (L.told link.old).is_shut }
+    ensures shut { (L.told link.new).is_shut ≡ (L.told link.old).is_shut }
     ensures kept { (L.told link.old).faults ≤ (L.told link.new).faults }
 {
     match write_all(link, frame) {

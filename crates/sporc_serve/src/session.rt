@@ -35,7 +35,7 @@ fn take_piece<L: Link>(link: &mut L, frames: &mut Frames) -> Result<(), SessionE
     ensures err { IfErr result (λ end. IsNext (inlet_at (L.told link.old) frames.old)
         (inlet_at (L.told link.new) frames.new) (Err end)) }
     ensures written { (L.told link.new).written ≡ (L.told link.old).written }
-    ensures as_shut { (L.told link.new).is_shut ≡ (L.told link.old).is_shut }
+    ensures shut { (L.told link.new).is_shut ≡ (L.told link.old).is_shut }
     ensures kept { (L.told link.old).faults ≤ (L.told link.new).faults }
     ensures unkept { result ≢ Err SessionEnd.Unkept }
 {
@@ -73,7 +73,7 @@ pub(crate) fn next_message<L: Link>(
     ensures next { IsNext (inlet_at (L.told link.old) frames.old)
         (inlet_at (L.told link.new) frames.new) result }
     ensures written { (L.told link.new).written ≡ (L.told link.old).written }
-    ensures as_shut { (L.told link.new).is_shut ≡ (L.told link.old).is_shut }
+    ensures shut { (L.told link.new).is_shut ≡ (L.told link.old).is_shut }
     ensures kept { (L.told link.old).faults ≤ (L.told link.new).faults }
     ensures unkept { result ≢ Err SessionEnd.Unkept }
 {
@@ -100,7 +100,7 @@ fn answer<R: Wait, L: Link, G: Gate, T: Tail>(
     requires framed { IsFramed message.now }
     ensures lock { IsPassOf service.now.turn.now result.1 }
     ensures number { (known_of result.1).number ≡ (known_of pass).number }
-    ensures as_shut { (L.told link.new).is_shut ≡ (L.told link.old).is_shut }
+    ensures shut { (L.told link.new).is_shut ≡ (L.told link.old).is_shut }
     ensures worn { IfSome result.0 (HasReadLast (read_of result.1)) }
     ensures unkept { result.0 ≡ Some SessionEnd.Unkept → T.may_fail }
     ensures goes { CarriesPast message.now
@@ -128,7 +128,7 @@ fn step<R: Wait, L: Link, G: Gate, T: Tail>(
     requires lock { IsPassOf service.now.turn.now pass }
     ensures lock { IsPassOf service.now.turn.now result.1 }
     ensures number { (known_of result.1).number ≡ (known_of pass).number }
-    ensures as_shut { (L.told link.new).is_shut ≡ (L.told link.old).is_shut }
+    ensures shut { (L.told link.new).is_shut ≡ (L.told link.old).is_shut }
     ensures worn { IfSome result.0 (HasReadLast (read_of result.1)) }
     ensures unkept { result.0 ≡ Some SessionEnd.Unkept → T.may_fail }
     ensures goes { Carries (stand_at (known_of pass) (L.told link.old) frames.old session.old)
@@ -155,7 +155,7 @@ fn go_on<R: Wait, L: Link, G: Gate, T: Tail>(
     requires lock { IsPassOf service.now.turn.now pass }
     ensures lock { IsPassOf service.now.turn.now result.1 }
     ensures number { (known_of result.1).number ≡ (known_of pass).number }
-    ensures as_shut { (L.told link.new).is_shut ≡ (L.told link.old).is_shut }
+    ensures shut { (L.told link.new).is_shut ≡ (L.told link.old).is_shut }
     ensures worn { HasReadLast (read_of result.1) result.0 }
     ensures unkept { result.0 ≡ SessionEnd.Unkept → T.may_fail }
     ensures goes { Leads (stand_at (known_of pass) (L.told link.old) frames.old session.old)
@@ -186,7 +186,7 @@ pub fn serve_from<R: Wait, L: Link, G: Gate, T: Tail>(
     requires framed { IsFramed first.now }
     ensures lock { IsPassOf service.now.turn.now result.1 }
     ensures number { (known_of result.1).number ≡ (known_of pass).number }
-    ensures as_shut { (L.told link.new).is_shut ≡ (L.told link.old).is_shut }
+    ensures shut { (L.told link.new).is_shut ≡ (L.told link.old).is_shut }
     ensures worn { HasReadLast (read_of result.1) result.0 }
     ensures unkept { result.0 ≡ SessionEnd.Unkept → T.may_fail }
     ensures goes { LeadsFrom first.now frames.old (L.told link.old) (L.told link.new) result.0

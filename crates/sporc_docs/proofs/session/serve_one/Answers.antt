@@ -18,7 +18,7 @@ returns-in-Err-clause-session g c = (
             c.new-frames.ensures.value c.in-Err.is c.first_message.ensures.first;
         end_is = refl;
         written_is = c.first_message.ensures.written;
-        as_shut = c.first_message.ensures.as_shut;
+        as_shut = c.first_message.ensures.shut;
         shuts = c.shut.ensures.did;
       },
     );
@@ -40,7 +40,7 @@ returns-in_default-clause-session g c = (
             c.new-frames.ensures.value c.in-Ok.is c.first_message.ensures.first;
         end_is = (sym c.named_by.ensures.value ∙ c.in_default.is, refl);
         written_is = c.first_message.ensures.written;
-        as_shut = c.first_message.ensures.as_shut;
+        as_shut = c.first_message.ensures.shut;
         shuts = c.shut-in_default.ensures.did;
       },
     );
@@ -93,8 +93,8 @@ returns-clause-session g c =
                 became_here (λ (q q' : Pass Item). HasReadLast (read_of q') c.serve_at-end.result) hand place old new p p' read at_old' at_new' c.serve_at-end.ensures.worn,
                 λ genesis log.
                     serves_from (g.L.Stream.told c.args.link.now) (g.L.Stream.told c.first_message.new.link) (g.L.Stream.told c.serve_at-end.new.link)
-                    (g.L.Stream.told c.shut-2.new.self) (stream_of []) c.first_message.new.frames c.in-Ok.first first c.first_message.ensures.written c.first_message.ensures.as_shut
-                    c.serve_at-end.ensures.as_shut
+                    (g.L.Stream.told c.shut-2.new.self) (stream_of []) c.first_message.new.frames c.in-Ok.first first c.first_message.ensures.written c.first_message.ensures.shut
+                    c.serve_at-end.ensures.shut
                     c.shut-2.ensures.did
                     genesis (known_of p) (known_of p') c.serve_at-end.result log
                     (became_here (λ (q q' : Pass Item). LeadsFrom c.in-Ok.first c.first_message.new.frames

@@ -7,7 +7,7 @@ pub loop-init : goal.loop-init
 loop-init g c = record {
   waits = ([], waits_none (g.L.Stream.told c.args.link.now).left (g.L.Stream.told c.args.link.now).faults c.args.frames.now c.requires.fresh);
   written = refl;
-  as_shut = refl;
+  shut = refl;
   kept = omega arith;
 }
 
@@ -20,7 +20,7 @@ loop-preserved g c =
     record {
       waits = waits_more a b d w.0 c.next_message.result w.1 c.next_message.ensures.next c.next_message.ensures.kept (c.in-Ok.is ∙ ap Ok c.in_default.is);
       written = c.next_message.ensures.written ∙ c.loop.invariant.written;
-      as_shut = c.next_message.ensures.as_shut ∙ c.loop.invariant.as_shut;
+      shut = c.next_message.ensures.shut ∙ c.loop.invariant.shut;
       kept = omega (arith, c.next_message.ensures.kept, c.loop.invariant.kept);
     }
 

@@ -7,6 +7,6 @@ invariant-loop g l = record {
   waits : (bytes : List ℕ) × Waits (inlet_at (g.L.Stream.told l.initial.link) l.initial.frames)
       (inlet_at (g.L.Stream.told l.link) l.frames) bytes;
   written : (g.L.Stream.told l.link).written ≡ (g.L.Stream.told l.initial.link).written;
-  as_shut : (g.L.Stream.told l.link).is_shut ≡ (g.L.Stream.told l.initial.link).is_shut;
+  shut : (g.L.Stream.told l.link).is_shut ≡ (g.L.Stream.told l.initial.link).is_shut;
   kept : (g.L.Stream.told l.initial.link).faults ≤ (g.L.Stream.told l.link).faults;
 }

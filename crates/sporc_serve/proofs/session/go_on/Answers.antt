@@ -7,7 +7,7 @@ pub loop-init : goal.loop-init
 loop-init g c = record {
   lock = c.requires.lock;
   number = refl;
-  as_shut = refl;
+  shut = refl;
   trace = leads_same (stand_at (known_of c.args.pass) (g.L.Stream.told c.args.link.now)
       c.args.frames.now c.args.session.now);
 }
@@ -25,7 +25,7 @@ loop-preserved g c =
     record {
       lock = c.step-end.ensures.lock;
       number = c.step-end.ensures.number ∙ c.loop.invariant.number;
-      as_shut = c.step-end.ensures.as_shut ∙ c.loop.invariant.as_shut;
+      shut = c.step-end.ensures.shut ∙ c.loop.invariant.shut;
       trace = leads_then a b b' None c.loop.invariant.trace (subst (λ (e : Option SessionEnd). Carries b b' e) c.in_default.is c.step-end.ensures.goes);
     }
 

@@ -11,5 +11,5 @@ returns-clause-session g c genesis log =
     (g.L.Stream.told c.args.link.now).written (g.L.Stream.told c.go_on-end.new.link).written (g.L.Stream.told c.args.link.now).faults (g.L.Stream.told c.go_on-end.new.link).faults
     c.new-frames.result (stream_of []) c.new-session.result false (Some c.go_on-end.result.0) log c.new-frames.ensures.value c.new-session.ensures.value
     c.go_on-end.ensures.goes)
-    c.go_on-end.ensures.as_shut
+    c.go_on-end.ensures.shut
     c.shut.ensures.did
