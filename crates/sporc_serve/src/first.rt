@@ -22,7 +22,7 @@ pub fn first_message<R: Wait, L: Link>(
     ensures written { (L.told link.new).written ≡ (L.told link.old).written }
     ensures shut { (L.told link.new).is_shut ≡ (L.told link.old).is_shut }
     ensures kept { (L.told link.old).faults ≤ (L.told link.new).faults }
-    ensures unkept { result ≢ Err SessionEnd.Unkept }
+    ensures none_unkept { result ≢ Err SessionEnd.Unkept }
 {
     for _ in rt.forever() {
         let found = match next_message(link, frames) {

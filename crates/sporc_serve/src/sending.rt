@@ -34,7 +34,7 @@ pub(crate) fn send<R: Wait, L: Link, G: Gate>(
         → IfSome result (IsSendEnd answer (L.told link.old).written (L.told link.new).written
         (L.told link.old).faults (L.told link.new).faults) }
     ensures worn { (read : ℕ) → IfSome result (HasReadLast read) }
-    ensures unkept { result ≢ Some SessionEnd.Unkept }
+    ensures none_unkept { result ≢ Some SessionEnd.Unkept }
     ensures close { reply.now ≡ Reply.Close → result ≡ Some SessionEnd.Closed }
     ensures left { (L.told link.new).left ≡ (L.told link.old).left }
     ensures shut { (L.told link.new).is_shut ≡ (L.told link.old).is_shut }

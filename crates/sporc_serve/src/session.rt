@@ -37,7 +37,7 @@ fn take_piece<L: Link>(link: &mut L, frames: &mut Frames) -> Result<(), SessionE
     ensures written { (L.told link.new).written ≡ (L.told link.old).written }
     ensures shut { (L.told link.new).is_shut ≡ (L.told link.old).is_shut }
     ensures kept { (L.told link.old).faults ≤ (L.told link.new).faults }
-    ensures unkept { result ≢ Err SessionEnd.Unkept }
+    ensures none_unkept { result ≢ Err SessionEnd.Unkept }
 {
     let mut buffer = [0u8; PIECE];
     let Ok(n) = link.read(&mut buffer) else {
@@ -75,7 +75,7 @@ pub(crate) fn next_message<L: Link>(
     ensures written { (L.told link.new).written ≡ (L.told link.old).written }
     ensures shut { (L.told link.new).is_shut ≡ (L.told link.old).is_shut }
     ensures kept { (L.told link.old).faults ≤ (L.told link.new).faults }
-    ensures unkept { result ≢ Err SessionEnd.Unkept }
+    ensures none_unkept { result ≢ Err SessionEnd.Unkept }
 {
     let found = match frames.next_to_server() {
         Ok(found) => found,

@@ -67,7 +67,7 @@ pub(crate) fn take_look<R: Wait, G, T: Tail>(
     ensures number { (known_of result.1).number ≡ (known_of pass).number }
     ensures worn { IfErr result.0 (HasReadLast (read_of result.1)) }
     ensures looks { Looks (known_of pass) (known_of result.1) result.0 }
-    ensures unkept { IfErr result.0 (λ end. end ≢ SessionEnd.Unkept) }
+    ensures none_unkept { IfErr result.0 (λ end. end ≢ SessionEnd.Unkept) }
 {
     match service.turn.take(service.rt, pass) {
         Ok(mut held) => {
