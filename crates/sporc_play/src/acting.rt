@@ -443,7 +443,7 @@ fn restart_to(client: &mut PlayClient, k: u64) -> Result<(), RestartFault>
         (restart_fault (state_of client.old) k) }
     ensures ok { OnOk result (client.new
         ≡ record client.old { log = log_of_first k (state_of client.old) }) }
-    ensures err { OnErr result (client.new ≡ client.old) }
+    ensures unchanged { OnErr result (client.new ≡ client.old) }
 {
     match u32::try_from(k) {
         Ok(k) => client.restart(k),
