@@ -30,7 +30,7 @@ impl LmsPublic {
         ensures found { IsSome result ↔ ((length bytes.now ≡ 56)
             × IsSome (lms_type_with_code (u32_at bytes.now 0))
             × IsSome (ots_type_with_code (u32_at bytes.now 4))) }
-        ensures spelling { IfSome result (λ key. public_key_bytes key ≡ bytes.now) }
+        ensures written_so { IfSome result (λ key. public_key_bytes key ≡ bytes.now) }
     {
         if bytes.len() != 56 {
             return None;

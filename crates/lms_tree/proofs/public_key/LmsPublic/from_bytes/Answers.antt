@@ -8,8 +8,8 @@ returns-clause-value c =
     let second = rw c.u32_at-2.ensures at (sym c.in_ok-ots.ensures.value) in
     public_key_is c.args.bytes.now _ _ _ _ (omega arith) first second c.copy_from_slice.ensures.after c.copy_from_slice-2.ensures.after
 
-pub returns-clause-spelling : goal.returns-clause-spelling
-returns-clause-spelling c =
+pub returns-clause-written_so : goal.returns-clause-written_so
+returns-clause-written_so c =
     let first = rw c.u32_at.ensures at (sym c.in_ok-lms.ensures.value) in
     let second = rw c.u32_at-2.ensures at (sym c.in_ok-ots.ensures.value) in
     public_key_spelling c.args.bytes.now _ _ _ _ (omega arith) (λ i. (c.type_inv.bytes i).fits) first second
