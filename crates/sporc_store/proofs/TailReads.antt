@@ -5,7 +5,7 @@ use Rattle.sporc_store.proofs.Common.{take-append-add, All, starts_with, w32, to
 use Rattle.sporc_store.proofs.Common.{record_bytes, records_bytes, records_of, tail_head, taken_to, Between, drop-nil}
 use Rattle.std.proofs.lemmas.Bool.{false_from_ne_true}
 use Rattle.sporc_store.specs.TailBytes.{tail_behind, tail_bytes}
-use Rattle.sporc_store.proofs.TailRecords.{number_short, reading, record_len, records_again, records_few, records_more}
+use Rattle.sporc_store.proofs.TailRecords.{number_short, reading, record_len, records_again, records_and, records_few, records_more}
 
 pub head_len : (document : List ℕ) → length document ≡ 16 → length (tail_head document) ≡ TAIL_HEAD_LEN
 head_len document is = omega (arith, is)
@@ -13,11 +13,7 @@ head_len document is = omega (arith, is)
 begins : (xs rest : List ℕ) → starts_with eqb (xs ++ rest) xs ≡ true
 begins xs rest = (starts_is Decides-eqb (xs ++ rest) xs (starts_with eqb (xs ++ rest) xs) refl).1 rest refl
 
--- the records of these entries, and a prefix of the next
-abbrev pub records_and : ℕ → List (List ℕ) → List ℕ → ℕ → List ℕ
-records_and position all next k = records_bytes position all ++ take k (record_bytes (position + length all) next)
-
--- such bytes begin with their first position, unless they end before it does
+-- records of entries and a prefix of the next one begin with their first position, unless they end before it does
 first_number : (position : ℕ) (all : List (List ℕ)) (next : List ℕ) (k : ℕ)
     → ((length (records_and position all next k) < 4) × (all ≡ [])) ⊎ ((rest : List ℕ) × (records_and position all next k ≡ to_be_bytes w32 position ++ rest))
 first_number position (e ∷ es) next k =

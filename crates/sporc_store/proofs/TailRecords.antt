@@ -120,7 +120,7 @@ records_few position (e ∷ es) =
     omega (arith, records_few (position + 1) es, length-append (record_bytes position e) (records_bytes (position + 1) es), record_len position e)
 
 -- the records of these entries, and a prefix of the next
-abbrev records_and : ℕ → List (List ℕ) → List ℕ → ℕ → List ℕ
+abbrev pub records_and : ℕ → List (List ℕ) → List ℕ → ℕ → List ℕ
 records_and position all next k = records_bytes position all ++ take k (record_bytes (position + length all) next)
 
 records_and-cons : (position : ℕ) (e : List ℕ) (es : List (List ℕ)) (next : List ℕ) (k : ℕ)
