@@ -116,7 +116,7 @@ joins_quiet who joining = record { moves = tt; entries = refl }
 
 -- ---- the seat
 
-abbrev no_client : Option (ClientModel MemoryDiskModel)
+abbrev pub no_client : Option (ClientModel MemoryDiskModel)
 no_client = None
 
 opened_is : (o : Opening) → opened o ≡ replay o []

@@ -6,7 +6,7 @@ use Rattle.sporc_play.proofs.Common.{logs_after, Effect, Scene, after, entries_i
 use Rattle.sporc_play.proofs.Common.{IsSubmitted, answer_of, last_with, submission_line, Holds, IsSeatOf, StandsFor, first_device, Forgery, Rogue, forged_entry, sign_line, signs_by, IsRogueAt}
 use Rattle.sporc_play.proofs.Common.{HasSigned, forged_by, signing_line, IsRogueOf}
 use Rattle.sporc_play.specs.Scene.{performed, last_made, submits}
-use Rattle.sporc_play.proofs.Commands.{seat_there}
+use Rattle.sporc_play.proofs.Commands.{no_client, seat_there}
 use Rattle.sporc_play.proofs.Places.{same_or_not, at_place}
 use Rattle.sporc_play.proofs.Seating.{AreOf, client_happens, clients_other, happens_of, log_happens, logs_other, ChangesSeat, IsSameAt, stands_seat, with_client, ChangesRogue, stands_rogue}
 use Rattle.sporc_script.specs.declared.command.Command.TheVariants as commands
@@ -28,9 +28,6 @@ last_is last who next old None is = is
 last_is last who next old (Some e) is = sym (ap (λ (same : Bool). cond same next (last who)) (one_same who))
 
 -- ---- the seat
-
-abbrev no_client : Option (ClientModel MemoryDiskModel)
-no_client = None
 
 -- a scene after a submission of a device that did this
 abbrev submitted_by : Setup → Scene → Device → Effect → Scene
