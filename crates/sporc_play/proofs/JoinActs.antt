@@ -1,6 +1,6 @@
 -- A joiner's client opens with keys of epochs, one of which meets the commitment of the genesis.
 use Rattle.std.proofs.Common.{◌≡◌, ℕ, ◌+◌, Bool, true, false, cond, List, [], ◌∷◌, ◌++◌, length, map, reverse, refl, sym, ap, ◌∙◌, subst, not, Option, None, Some, Result, Ok, Err, IfOk, IfSome}
-use Rattle.sporc_play.proofs.Common.{all_take, Contains, take_while, nat_cmp_total, empty, get, insert, get-empty, get-insert, AllByRecursion, nat_cmp, eq_by_cmp, bytes_eq, map-append, reverse-append}
+use Rattle.sporc_play.proofs.Common.{all_take, Contains, take_while, nat_cmp_total, get, insert, get-empty, get-insert, AllByRecursion, nat_cmp, eq_by_cmp, bytes_eq, map-append, reverse-append}
 use Rattle.sporc_play.proofs.Common.{IsBytes, first_of, unless, mask_of, commitment_of, Genesis, Wrap, IsWrap, HintFault, Keys, previous_stream, stream_of, CommittedChange, changes, LineOpenFault}
 use Rattle.sporc_play.proofs.Common.{Meets, open_checks, PlainClient, Setup, AreEpochKeys, Device, Join, Scene, entries_at, entry_at, joining_by, joining_of, joining_with, joins, with_entry, all_append}
 use Rattle.sporc_play.proofs.Common.{length-mask_from, wrap_opened, IsTypedCommitted, changes_typed, found_typed, IfSome_then}
@@ -12,7 +12,7 @@ use Rattle.sporc_script.specs.declared.command.Command.TheVariants as commands
 use Rattle.sporc_play.proofs.Acts.{made_has, no_act, one_move}
 use Rattle.sporc_play.proofs.ByteClients.{AreByteKeys, AreBytes, bytes_mask, is_bytes}
 use Rattle.sporc_play.proofs.HistoryKeys.{IsByteCommitted, changes_bytes, opened_has}
-use Rattle.sporc_play.proofs.Runs.{MayAct, MayBe}
+use Rattle.sporc_play.proofs.Runs.{MayAct, MayBe, no_keys}
 use Rattle.sporc_play.proofs.Places.{all_both, all_each}
 
 -- ---- the entries that are handed over
@@ -81,9 +81,6 @@ with_are ring ((e, k) ∷ keys) holds all = with_are (insert ring e k) keys (λ 
     go : (epoch : ℕ) (b : Bool) → IfSome (cond b (Some k) (get ring epoch)) IsKey
     go epoch true = all.0
     go epoch false = holds epoch
-
-abbrev no_keys : Keys
-no_keys = empty
 
 none_held : HoldsKeys no_keys
 none_held epoch = subst (λ (o : Option (List ℕ)). IfSome o IsKey) (sym (get-empty nat_cmp epoch)) tt

@@ -87,7 +87,7 @@ runs_on s moves scene (c ∷ cs) come all =
     subst (IsTypedRun s) (append_assoc moves more (moves_from s (after s scene (c scene)) cs))
     (runs_on s (moves ++ more) (after s scene (c scene)) cs (come_further s moves scene (c scene) come (all.0 moves scene come)) all.1)
 
-abbrev no_keys : Keys
+abbrev pub no_keys : Keys
 no_keys = empty
 
 -- what holds of the first key holds of the ring's
