@@ -28,7 +28,7 @@ pub use Rattle.sporc_entry.specs.Version.{version_of}
 pub use Rattle.sporc_entry.specs.declared.change.ChangeBody.{ChangeBody}
 pub use Rattle.sporc_entry.specs.declared.entry.Entry.{Entry}
 pub use Rattle.sporc_entry.specs.declared.genesis.Genesis.{Genesis}
-pub use Rattle.sporc_entry.specs.declared.limits.TheConstants.{MAX_CHANGE_BODY, MAX_EDIT_BODY, MAX_SIGNATURE}
+pub use Rattle.sporc_entry.specs.declared.limits.TheConstants.{MAX_EDIT_BODY, MAX_SIGNATURE}
 pub use Rattle.sporc_epoch.specs.Streams.{stream_of}
 pub use Rattle.sporc_head.proofs.ChecksPass.{first_of-none, first_of-some}
 pub use Rattle.sporc_head.proofs.Grows.{change_in_read, changes_push, epoch_le, removed_push, removes_in, roster_change}

@@ -1,7 +1,7 @@
 -- The sizes of what is read: a body is within its limit, and a delta inserts no more characters than its bytes are many.
 use Rattle.std.proofs.Common.{◌≡◌, ℕ, zero, suc, ◌+◌, ◌≤◌, Bool, true, false, cond, List, [], ◌∷◌, length, take, Option, Some, None, Result, Ok, Err, refl, ap, sym, ◌∙◌, subst, arith}
 use Rattle.sporc_line.proofs.Common.{nat_lt, nat_le, ◌==◌, ltb-false, leb-true, length-take-le, Mark, inserted_len, inserted_len-append, inserted_len-remove_marks, inserted_len-insert_marks}
-use Rattle.sporc_line.proofs.Common.{inserted_len-keep_marks, Entry, MAX_CHANGE_BODY, MAX_EDIT_BODY, MAX_SIGNATURE, header_at, body_limit, body_read, marks_in, w32, result_ok, mask_of}
+use Rattle.sporc_line.proofs.Common.{inserted_len-keep_marks, Entry, MAX_EDIT_BODY, MAX_SIGNATURE, header_at, body_limit, body_read, marks_in, w32, result_ok, mask_of}
 use Rattle.sporc_line.proofs.Common.{length-mask_from, DeltaFault}
 use Rattle.std.proofs.lemmas.Str.{IsUtf8-from_is_utf8}
 use Rattle.sporc_bytes.specs.Fields.{Reading, ◌>>=◌, bytes_at, number_at, only_if, counted_at, end_at, past}
@@ -15,6 +15,7 @@ use Rattle.sporc_delta.specs.Parts.{part_marks, marks_of, kind_of}
 use Rattle.sporc_delta.specs.Reading.{head_at, text_at, body_at, part_at, parts_at, read_delta}
 use Rattle.sporc_delta.proofs.Counted.{length-chars}
 use Rattle.sporc_delta.proofs.Decoding.{head_ok, text_ok}
+use Rattle.sporc_entry.proofs.EntryLaws.{limit_most}
 use Rattle.sporc_entry.specs.Entry.{entry_of}
 
 -- ---- fields
@@ -40,13 +41,6 @@ counted_within limit r x h =
     let t = only_if_ok (nat_le n.0.0 limit) r.at n.0.0 len.0 len.1 in
     omega (arith, bytes_size len.0 n.0.1 x len.2, leb-true n.0.0 limit t.0, t.1)
 
-limit_small : (kind : ℕ) → body_limit kind ≤ MAX_EDIT_BODY
-limit_small kind = go (kind == 1)
-  where
-    go : (t : Bool) → cond t MAX_EDIT_BODY MAX_CHANGE_BODY ≤ MAX_EDIT_BODY
-    go true = omega arith
-    go false = omega arith
-
 -- the body of an entry that was read
 pub body_within : (bytes : List ℕ) (e : Entry) → entry_of bytes ≡ Ok e → length e.body ≤ MAX_EDIT_BODY
 unfolding entry_of
@@ -57,7 +51,7 @@ body_within bytes e h =
     let signature = bind_ok (counted_at MAX_SIGNATURE body.0.1) _ e read.2 in
     let end = bind_ok (end_at signature.0.1) _ e signature.2 in
     let same : body.0.0 ≡ e.body = ap (λ (e : Entry). e.body) (ok_entry _ e end.2) in
-    omega (arith, ap length same, counted_within (body_limit header.0.0.kind) header.0.1 body.0 body.1, limit_small header.0.0.kind)
+    omega (arith, ap length same, counted_within (body_limit header.0.0.kind) header.0.1 body.0 body.1, limit_most header.0.0.kind)
   where
     ok_entry : (a b : Entry) → read_as ℕ a ≡ read_as ℕ b → a ≡ b
     ok_entry a b h = cc
