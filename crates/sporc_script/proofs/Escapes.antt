@@ -19,14 +19,14 @@ pub after_backslash : (xs text : List ℕ) (e : Bool) (i : ℕ) → i < length x
     → step_of e (get_or xs i 0) ≡ Backslash → unescape false xs ≡ option_map (λ t. text ++ t) (unescape true (drop (i + 1) xs))
 after_backslash xs text e i low so_far is = so_far ∙ ap (option_map (λ t. text ++ t)) (rw is at (unescape-drop e xs i low))
 
-joined : (text : List ℕ) (b : ℕ) (o : Option (List ℕ)) → option_map (λ t. text ++ t) (option_map (λ t. b ∷ t) o) ≡ option_map (λ t. (text ++ b ∷ []) ++ t) o
-joined text b None = refl
-joined text b (Some t) = ap Some (sym (append_assoc text (b ∷ []) t))
+pub pushed : (text : List ℕ) (b : ℕ) (o : Option (List ℕ)) → option_map (λ t. text ++ t) (option_map (λ t. b ∷ t) o) ≡ option_map (λ t. (text ++ b ∷ []) ++ t) o
+pushed text b None = refl
+pushed text b (Some t) = ap Some (sym (append_assoc text (b ∷ []) t))
 
 pub after_byte : (xs text : List ℕ) (e : Bool) (i b : ℕ) → i < length xs → unescape false xs ≡ option_map (λ t. text ++ t) (unescape e (drop i xs))
     → step_of e (get_or xs i 0) ≡ Byte b → unescape false xs ≡ option_map (λ t. (text ++ b ∷ []) ++ t) (unescape false (drop (i + 1) xs))
 after_byte xs text e i b low so_far is =
-    so_far ∙ ap (option_map (λ t. text ++ t)) (rw is at (unescape-drop e xs i low)) ∙ joined text b (unescape false (drop (i + 1) xs))
+    so_far ∙ ap (option_map (λ t. text ++ t)) (rw is at (unescape-drop e xs i low)) ∙ pushed text b (unescape false (drop (i + 1) xs))
 
 pub refused_here : (xs text : List ℕ) (e : Bool) (i : ℕ) → i < length xs → unescape false xs ≡ option_map (λ t. text ++ t) (unescape e (drop i xs))
     → step_of e (get_or xs i 0) ≡ Refused → unescape false xs ≡ None

@@ -1,10 +1,11 @@
 -- Lists of numbers, read exactly.
-use Rattle.std.proofs.Common.{◌≡◌, ◌≢◌, ℕ, List, [], ◌∷◌, ◌++◌, Option, Some, None, option_map, refl, sym, ap, ◌∙◌, subst, inl, inr, arith, append_assoc}
+use Rattle.std.proofs.Common.{◌≡◌, ◌≢◌, ℕ, List, [], ◌∷◌, ◌++◌, Option, Some, None, option_map, refl, sym, ap, ◌∙◌, subst, inl, inr, arith}
 use Rattle.sporc_script.proofs.Common.{decimal, eqb_tells, same_Some, Device, device_of, then_read, IsU64, device_text, Lacks, Splits, number_of, AllByRecursion, Join, join_spelling}
 use Rattle.sporc_script.specs.Numbers.{JoinInRange, NumbersInRange, all_numbers, join_of, numbers_of, numbers_spelling, parts_of}
 use Rattle.sporc_script.proofs.Cuts.{decimal_lacks}
 use Rattle.sporc_script.proofs.Exact.{IsExact, map_exact, map_some, pair_exact, then_some}
 use Rattle.sporc_script.proofs.DeviceWords.{device_exact, device_words}
+use Rattle.sporc_script.proofs.Escapes.{pushed}
 use Rattle.sporc_script.proofs.TextWords.{number_exact}
 
 -- ---- the parts between spaces
@@ -129,10 +130,6 @@ first_follows words = all_same (all_numbers (parts_of words))
     all_same : (o : Option (List ℕ)) → o ≡ option_map (λ t. [] ++ t) o
     all_same None = refl
     all_same (Some t) = refl
-
-pushed : (numbers : List ℕ) (n : ℕ) (o : Option (List ℕ)) → option_map (λ t. numbers ++ t) (option_map (λ t. n ∷ t) o) ≡ option_map (λ t. (numbers ++ n ∷ []) ++ t) o
-pushed numbers n None = refl
-pushed numbers n (Some t) = ap (λ zs. Some zs) (sym (append_assoc numbers (n ∷ []) t))
 
 at_split : (rest word after : List ℕ) (o : Option ℕ) → Splits 32 rest word after → number_of word ≡ o
     → all_numbers (parts_of rest) ≡ then_read o (λ n. option_map (λ t. n ∷ t) (all_numbers (parts_of after)))
