@@ -1,6 +1,6 @@
 -- The lines of entries, one after another, and the text that they tell.
 use Rattle.std.proofs.Common.{◌≡◌, ℕ, suc, zero, ◌-◌, ◌<◌, ◌≤◌, List, [], ◌∷◌, ◌++◌, length, take, drop, map, fold, get_or, option_map, Option, None, Some, Result, Ok, refl, sym, ap, ap₂, ◌∙◌, subst, arith, append_assoc}
-use Rattle.sporc_report.proofs.Common.{drop_all, length-map, slice_get, Mark, apply, keep_marks, Genesis, lines_behind}
+use Rattle.sporc_report.proofs.Common.{drop_all, length-map, slice_get, Mark, apply, Genesis, lines_behind}
 use Rattle.std.specs.Result.{IsOk}
 use Rattle.std.proofs.lemmas.List.Sums.{fold-append}
 use Rattle.std.proofs.lemmas.Option.{slice_get-map, slice_get_read}
@@ -15,6 +15,7 @@ use Rattle.sporc_line.specs.Good.{Good}
 use Rattle.sporc_line.proofs.FormLengths.{change_form, forms_take, length-forms}
 use Rattle.sporc_line.proofs.Goods.{good_entry, good_front, good_take, last_passes}
 use Rattle.sporc_line.proofs.MoreForms.{forms_push, text_push}
+use Rattle.sporc_client.proofs.Shown.{apply-keep_marks}
 use Rattle.sporc_report.specs.EntryLines.{committed, committed_by, committed_with, done_by, entry_line, followed, lines_after, text_behind}
 
 -- ---- entries with their forms
@@ -77,10 +78,6 @@ is_read g kit A i b good at = let (e, is, passes) = good_entry g kit A i b good 
 
 -- ---- the text that they tell
 
-all_kept : (s : List ℕ) → apply (keep_marks (length s)) s ≡ s
-all_kept [] = refl
-all_kept (c ∷ s) = ap (λ (t : List ℕ). c ∷ t) (all_kept s)
-
 -- an entry that was read makes the text that its form makes
 told_by_entry : (g : Genesis) (kit : Kit) (A : List (List ℕ)) (b : List ℕ) (e : Entry) → entry_of b ≡ Ok e
     → followed (text_of g kit A) (committed_by (entry_of b) (next_form g kit A b)) ≡ apply (next_form g kit A b) (text_of g kit A)
@@ -90,7 +87,7 @@ told_by_entry g kit A b e is = ap (λ (r : Result Entry ℕ). followed (text_of 
     by None none = ap (λ (o : Option ChangeBody). text_behind (done_by o (next_form g kit A b)) (text_of g kit A)) none
     by (Some c) some =
         ap (λ (o : Option ChangeBody). text_behind (done_by o (next_form g kit A b)) (text_of g kit A)) some
-        ∙ sym (all_kept (text_of g kit A)) ∙ ap (λ (m : List Mark). apply m (text_of g kit A)) (sym (change_form g kit A b e c is some))
+        ∙ sym (apply-keep_marks (text_of g kit A)) ∙ ap (λ (m : List Mark). apply m (text_of g kit A)) (sym (change_form g kit A b e c is some))
 
 abbrev Tells : Genesis → Kit → List (List ℕ) → Type 0
 Tells g kit A = Good g kit A → fold followed [] (committed g kit A) ≡ text_of g kit A

@@ -4,7 +4,7 @@ pub use Rattle.std.proofs.lemmas.Result.{on_ok_weaker}
 pub use Rattle.std.specs.List.{AllByRecursion, slice_get}
 pub use Rattle.std.specs.List.Sorted.{IsStrictlyIncreasing}
 pub use Rattle.std.specs.Prelude.{OnErr, OnOk, find, if◌then◌else◌, is_ok}
-pub use Rattle.sporc_delta.specs.Marks.{Insert, Keep, Mark, Remove, apply, keep_marks}
+pub use Rattle.sporc_delta.specs.Marks.{Insert, Keep, Mark, Remove, apply}
 pub use Rattle.sporc_member.specs.Roster.{Roster, after_change, founded, member_at, numbers_of}
 pub use Rattle.sporc_member.specs.declared.device.Device.{Device}
 pub use Rattle.sporc_entry.specs.declared.genesis.Genesis.{Genesis}
