@@ -155,7 +155,7 @@ pub entries_of_accepts : (entries : List (List ℕ)) → accepted_in (log_of_ent
 entries_of_accepts [] = refl
 entries_of_accepts (b ∷ entries) = ap (λ (es : List (List ℕ)). b ∷ es) (entries_of_accepts entries)
 
-leaves_of_accepts : (entries : List (List ℕ)) → leaves_of (log_of_entries entries) ≡ []
+pub leaves_of_accepts : (entries : List (List ℕ)) → leaves_of (log_of_entries entries) ≡ []
 leaves_of_accepts [] = refl
 leaves_of_accepts (b ∷ entries) = leaves_of_accepts entries
 

@@ -1,6 +1,7 @@
 -- Work that began with a client of which more is known.
-use Rattle.std.proofs.Common.{◌≡◌, ℕ, ◌+◌, ◌-◌, List, [], ◌∷◌, None, length, refl, ap, ◌∙◌, arith, subst}
+use Rattle.std.proofs.Common.{◌≡◌, ℕ, ◌+◌, ◌-◌, List, None, length, ap, ◌∙◌, arith, subst}
 use Rattle.sporc_clients.proofs.Common.{Result, ⊤, ChanceTold, NetTold, Use, LeavesModel, ClientModel, leaves_of, Past, past_of, SessionFault, IsWork, Wanted}
+use Rattle.sporc_client.proofs.AcceptedHistories.{leaves_of_accepts}
 use Rattle.sporc_client.specs.PlainClient.{Opening}
 use Rattle.sporc_client.specs.Step.{log_of_entries}
 
@@ -10,13 +11,9 @@ work_from wanted address before from after net chance result same work =
     subst (λ (p : Past). IsWork wanted address p after net chance result) same work
 
 -- a log that was resumed has no submissions, so the next leaf is its first
-no_leaves : (entries : List (List ℕ)) → leaves_of (log_of_entries entries) ≡ []
-no_leaves [] = refl
-no_leaves (entry ∷ entries) = no_leaves entries
-
 module _ {D : Type 0} (opening : Opening) (leaves : LeavesModel D) (entries : List (List ℕ)) where
   pub past_resumed : (client : ClientModel D) → client ≡ record { opening = opening; log = log_of_entries entries; leaves = leaves; ticket = None }
       → past_of client ≡ record { opening = opening; first_leaf = leaves.next; log = log_of_entries entries }
   past_resumed client is =
-      let first : leaves.next - (length (leaves_of (log_of_entries entries)) + 0) ≡ leaves.next = ap (λ (ns : List ℕ). leaves.next - (length ns + 0)) (no_leaves entries) ∙ omega arith in
+      let first : leaves.next - (length (leaves_of (log_of_entries entries)) + 0) ≡ leaves.next = ap (λ (ns : List ℕ). leaves.next - (length ns + 0)) (leaves_of_accepts entries) ∙ omega arith in
       ap past_of is ∙ (λ i. record { opening = opening; first_leaf = first i; log = log_of_entries entries })
