@@ -6,6 +6,7 @@ use Rattle.sporc_client.proofs.Common.{IsChangeBody, IsWrap, Keys, Sealing, body
 use Rattle.sporc_client.proofs.Common.{first_sealed, new_key_of, commitment_of, new_opens, previous_opens, wraps_name}
 use Rattle.sporc_epoch.specs.Sealing.{body_sealed, change_sealed}
 use Rattle.sporc_head.specs.declared.refusal.Refusal.TheVariants.{NoKey, WrongKey, WrongWraps}
+use Rattle.sporc_line.proofs.NextEntry.{find_any, wraps_any}
 use Rattle.sporc_client.proofs.TypedHistories.{IsSmallMember}
 
 -- ---- the sizes of what is sealed
@@ -51,25 +52,12 @@ member_in me [] h = absurd cc
 member_in me (m ∷ members) h = in_front me m members (member_in me members) (m.member == me) refl h
 
 -- where the wraps name the members after a change, a member is one that has a wrap
-found_any : (me : ℕ) (members : List Member) → is_some (find (λ (m : Member). m.member == me) members) ≡ list_any (λ (n : ℕ). n == me) (numbers_of members)
-found_any me [] = refl
-found_any me (m ∷ members) = go (m.member == me) (found_any me members)
-  where
-    go : (here : Bool) → is_some (find (λ (m : Member). m.member == me) members) ≡ list_any (λ (n : ℕ). n == me) (numbers_of members)
-        → is_some (cond here (Some m) (find (λ (m : Member). m.member == me) members)) ≡ (here || list_any (λ (n : ℕ). n == me) (numbers_of members))
-    go true h = refl
-    go false h = h
-
-wraps_any : (me : ℕ) (ws : List Wrap) → list_any (λ (w : Wrap). w.member == me) ws ≡ list_any (λ (n : ℕ). n == me) (map (λ (w : Wrap). w.member) ws)
-wraps_any me [] = refl
-wraps_any me (w ∷ ws) = ap (λ (t : Bool). (w.member == me) || t) (wraps_any me ws)
-
 pub sealed_for : (roster : Roster) (s : Sealing) (pairs : Keys) (me : ℕ) → s.members ≡ numbers_of (after_change roster s.change).members → least_unpaired pairs s.members ≡ None
     → is_some (member_at (after_change roster s.change) me) ≡ list_any (λ (w : Wrap). w.member == me) (body_sealed s pairs).wraps
 unfolding body_sealed
 sealed_for roster s pairs me named none =
     let ws = wraps_sealed s.stream s.new pairs s.members in
-    found_any me (after_change roster s.change).members
+    find_any me (after_change roster s.change).members
     ∙ ap (list_any (λ (n : ℕ). n == me)) (sym named ∙ sym (wraps_name s.stream s.new pairs s.members none))
     ∙ sym (wraps_any me ws)
 

@@ -42,7 +42,7 @@ at_next g kit A pos b h =
 -- ---- the key that a change starts
 
 -- whether a list of members has one with this number
-find_any : (me : ℕ) (ms : List Member) → is_some (find (λ (m : Member). m.member == me) ms) ≡ list_any (λ (n : ℕ). n == me) (map (λ (m : Member). m.member) ms)
+pub find_any : (me : ℕ) (ms : List Member) → is_some (find (λ (m : Member). m.member == me) ms) ≡ list_any (λ (n : ℕ). n == me) (map (λ (m : Member). m.member) ms)
 find_any me [] = refl
 find_any me (m ∷ ms) = go (m.member == me) (find_any me ms)
   where
@@ -51,7 +51,7 @@ find_any me (m ∷ ms) = go (m.member == me) (find_any me ms)
     go true h = refl
     go false h = h
 
-wraps_any : (me : ℕ) (ws : List Wrap) → list_any (λ (w : Wrap). w.member == me) ws ≡ list_any (λ (n : ℕ). n == me) (map (λ (w : Wrap). w.member) ws)
+pub wraps_any : (me : ℕ) (ws : List Wrap) → list_any (λ (w : Wrap). w.member == me) ws ≡ list_any (λ (n : ℕ). n == me) (map (λ (w : Wrap). w.member) ws)
 wraps_any me [] = refl
 wraps_any me (w ∷ ws) = ap (λ (t : Bool). (w.member == me) || t) (wraps_any me ws)
 
