@@ -15,11 +15,6 @@ pub slice_get_last : {X : Type 0} (xs : List X) (y : X) → slice_get (xs ++ y �
 slice_get_last [] y = refl
 slice_get_last (x ∷ xs) y = slice_get_last xs y
 
-pub slice_get_before : {X : Type 0} (xs ys : List X) (i : ℕ) → i < length xs → slice_get (xs ++ ys) i ≡ slice_get xs i
-slice_get_before [] ys i h = absurd (omega arith)
-slice_get_before (x ∷ xs) ys zero h = refl
-slice_get_before (x ∷ xs) ys (suc i) h = slice_get_before xs ys i (omega arith)
-
 -- the element at a place of the list's first n
 pub slice_get-take : {X : Type 0} (xs : List X) (n i : ℕ) (z : X) → slice_get (take n xs) i ≡ Some z → (i < n) × (slice_get xs i ≡ Some z)
 slice_get-take (x ∷ xs) (suc n) zero z h = (omega arith, h)

@@ -6,7 +6,8 @@ use Rattle.std.proofs.lemmas.List.Sums.{fold-append}
 use Rattle.sporc_line.specs.Keys.{key_after}
 use Rattle.sporc_line.specs.Operations.{operation_in, operation_of}
 use Rattle.sporc_line.specs.Document.{forms_from}
-use Rattle.sporc_line.proofs.Lists.{slice_get_before, map_same}
+use Rattle.sporc_suffix.proofs.Kept.{slice_get_front}
+use Rattle.sporc_line.proofs.Lists.{map_same}
 use Rattle.sporc_line.proofs.Passes.{Passes}
 use Rattle.sporc_line.proofs.Goods.{good_entry, good_front, last_passes}
 
@@ -17,7 +18,7 @@ unfolding key_after
 key_after_front g kit cs ds zero h = refl
 key_after_front g kit cs ds (suc e) h =
     let a = take-append-le (suc e) cs ds h in
-    let b = slice_get_before cs ds e h in
+    let b = slice_get_front cs ds e h in
     ap (λ (l : List CommittedChange). key_started g kit l (suc e) (slice_get (cs ++ ds) e)) a ∙ ap (key_started g kit (take (suc e) cs) (suc e)) b
 
 pub changes_append : (A B : List (List ℕ)) → changes (A ++ B) ≡ changes A ++ changes B

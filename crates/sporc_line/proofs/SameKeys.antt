@@ -9,7 +9,8 @@ use Rattle.sporc_entry.specs.Genesis.{genesis_bytes}
 use Rattle.sporc_line.specs.LineChecks.{key_checks}
 use Rattle.sporc_line.specs.LineStrings.{line_strings}
 use Rattle.sporc_line.specs.Commitments.{commitment_after, commitment_started}
-use Rattle.sporc_line.proofs.Lists.{slice_get_before, slice_get_last, map_same}
+use Rattle.sporc_suffix.proofs.Kept.{slice_get_front}
+use Rattle.sporc_line.proofs.Lists.{slice_get_last, map_same}
 use Rattle.sporc_line.proofs.Passes.{Passes}
 use Rattle.sporc_line.proofs.Goods.{good_entry, good_take, good_front, last_passes}
 use Rattle.sporc_line.proofs.MoreForms.{key_after_front, key_of_take, epoch_front, operation_same}
@@ -63,7 +64,7 @@ change_key g kit A pos e c p is kept =
 
 commitment_at_front : (g : Genesis) (cs ds : List CommittedChange) (e : ℕ) → e ≤ length cs → commitment_after g (cs ++ ds) e ≡ commitment_after g cs e
 commitment_at_front g cs ds zero h = refl
-commitment_at_front g cs ds (suc e) h = ap (commitment_started g) (slice_get_before cs ds e h)
+commitment_at_front g cs ds (suc e) h = ap (commitment_started g) (slice_get_front cs ds e h)
 
 -- one change more, whose key meets its commitment
 meets_more : (g : Genesis) (kit : Kit) (cs : List CommittedChange) (c : CommittedChange) → KeysMeet g kit cs

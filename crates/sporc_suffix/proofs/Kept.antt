@@ -12,7 +12,7 @@ use Rattle.sporc_suffix.proofs.Composed.{left_over, length-pairs, few_left, pair
 
 -- ---- a place in a list
 
-slice_get_front : {X : Type 0} (xs ys : List X) (i : ℕ) → i < length xs → slice_get (xs ++ ys) i ≡ slice_get xs i
+pub slice_get_front : {X : Type 0} (xs ys : List X) (i : ℕ) → i < length xs → slice_get (xs ++ ys) i ≡ slice_get xs i
 slice_get_front [] ys i h = absurd (omega (arith, h))
 slice_get_front (x ∷ xs) ys zero h = refl
 slice_get_front (x ∷ xs) ys (suc i) h = slice_get_front xs ys i (omega (arith, h))
