@@ -66,11 +66,11 @@ code_fits H5 = omega arith
 code_fits _ = omega arith
 
 -- a leaf number is a u32
-height_fits : (t : LmsType) → height_of t ≤ 25
+pub height_fits : (t : LmsType) → height_of t ≤ 25
 height_fits H5 = omega arith
 height_fits _ = omega arith
 
-leaf_fits : (t : LmsType) (q : ℕ) → q < 2 ^ height_of t → q < 2 ^ 32
+pub leaf_fits : (t : LmsType) (q : ℕ) → q < 2 ^ height_of t → q < 2 ^ 32
 leaf_fits t q below =
     let two : 0 < 2 = omega arith in
     let most : 2 ^ height_of t ≤ 2 ^ 25 = pow-le-pow_right two (height_fits t) in

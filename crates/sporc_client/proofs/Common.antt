@@ -26,8 +26,6 @@ pub use Rattle.lms_tree.specs.LmsPublic.{public_key_bytes, public_key_in}
 pub use Rattle.lms_tree.specs.LmsType.{height_of, lms_code_of}
 pub use Rattle.lms_tree.specs.Signatures.{lms_signature_of}
 pub use Rattle.lms_tree.specs.Verification.{lms_signature_len_of, verifies}
-pub use Rattle.lms_tree.specs.declared.lms_type.LmsType.{LmsType}
-pub use Rattle.lms_tree.specs.declared.lms_type.LmsType.TheVariants.{H5}
 pub use Rattle.lms_tree.specs.declared.public_key.LmsPublic.{LmsPublic}
 pub use Rattle.sporc_base.proofs.ListLemmas.{all_append}
 pub use Rattle.sporc_base.specs.Bytes.{IsBytes}

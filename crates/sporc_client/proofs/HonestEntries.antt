@@ -8,6 +8,7 @@ use Rattle.sporc_client.proofs.Common.{is_removed, roster_of, change_in_read, Ki
 use Rattle.sporc_client.proofs.Common.{text_after, text_of, Good, no_fault, good_take, has_left, Pending, new_key_in, new_key_of, randomizer_in, refusal_of, Chosen, current_key, entry_made, kind_of}
 use Rattle.sporc_client.proofs.Common.{next_header, sealing_of, Opening, PlainClient, committed_of, me_of, IsReached, AreStated, IsAt, Move, Setup, IsTypedRun, IsWellFormed, line_of, started_by_wraps}
 use Rattle.sporc_client.proofs.Common.{CanLearnKey, CanReceive, EntriesPass, HasOwnKey, IsOthersEdit}
+use Rattle.lms_tree.proofs.SignatureLemmas.{leaf_fits}
 use Rattle.sporc_line.specs.LineChecks.{key_checks, key_checks_of}
 use Rattle.sporc_line.proofs.Effects.{edit_passes}
 use Rattle.sporc_line.proofs.SameKeys.{HasKeys, committed, has_right, same_epoch_keys, same_operations}
@@ -16,7 +17,7 @@ use Rattle.sporc_client.proofs.HonestChanges.{key_is_new, keys_fine, member_open
 use Rattle.sporc_client.proofs.HonestSignatures.{names_own_leaf, verifies_own}
 use Rattle.sporc_client.proofs.InHistories.{barrier_before, changes_stay, count_stays, last_before}
 use Rattle.sporc_client.proofs.Reached.{reached_at}
-use Rattle.sporc_client.proofs.SignedEntries.{header_made, leaf_small}
+use Rattle.sporc_client.proofs.SignedEntries.{header_made}
 use Rattle.sporc_client.proofs.SoundRuns.{HasKey, IsSoundAndTyped, change_made_is, due_spelled, edit_spelled, entry_read, key_there, new_size, no_change, reads_edit, sealed_change, shown_size, signature_of, sound_and_typed_at}
 use Rattle.sporc_client.proofs.Submitting.{IsDue, IsMadeBy, chosen_in, is_there, made_by_submission}
 
@@ -99,7 +100,7 @@ made_on s who c bytes well reached typed id own makes =
       number = ap (λ (h : Header). h.number) header ∙ ap (λ (d : Device). count_of d c.entries + 1) (sym author);
       epoch = ap (λ (h : Header). h.epoch) header;
       right = ap (λ (k : ℕ). allows_member k (member_at roster e.header.author)) kind ∙ ap (λ (h : Header). allows_member (kind_of makes.item) (member_at roster h.author)) header ∙ makes.due.head.right;
-      leaf = ap (names_leaf e.header.leaf) signature ∙ names_own_leaf c.opening.key e.header.leaf chosen.randomizer message (leaf_small c.opening.key.lms e.header.leaf makes.leaf);
+      leaf = ap (names_leaf e.header.leaf) signature ∙ names_own_leaf c.opening.key e.header.leaf chosen.randomizer message (leaf_fits c.opening.key.lms e.header.leaf makes.leaf);
       key = key;
       is_key = ap (key_of_device roster) author ∙ own;
       signature =

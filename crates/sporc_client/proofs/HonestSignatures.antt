@@ -1,7 +1,7 @@
 -- The signature of an entry that a client makes: how long it is, the random bytes that it shows, and that it verifies.
 use Rattle.std.proofs.Common.{◌≡◌, ℕ, ◌^◌, ◌<◌, ◌≤◌, List, ◌++◌, length, take, drop, ap, ◌∙◌, arith, append_assoc, length-append, zero, suc, true, refl, Some}
 use Rattle.sporc_client.proofs.Common.{w32, to_be_bytes, from_be_bytes, drop_at, take_at, LmsPrivate, lms_public_of, sibling_value, height_of, lms_code_of, lms_signature_len_of, verifies}
-use Rattle.sporc_client.proofs.Common.{MAX_SIGNATURE, IsTrue, and_from, eq-eqb, le-leb, public_key_bytes, public_key_in, names_leaf, verifies_device, verifies_under, LmsType, H5, LmsPublic}
+use Rattle.sporc_client.proofs.Common.{MAX_SIGNATURE, IsTrue, and_from, eq-eqb, le-leb, public_key_bytes, public_key_in, names_leaf, verifies_device, verifies_under, LmsPublic}
 use Rattle.sporc_client.proofs.Common.{length-sha256}
 use Rattle.lms_ots.specs.declared.ots_type.OtsType.{OtsType}
 use Rattle.lms_ots.specs.declared.ots_type.OtsType.TheVariants.{W1}
@@ -11,7 +11,7 @@ use Rattle.lms_ots.specs.Coefficients.{with_checksum, coef_of}
 use Rattle.lms_ots.specs.Signatures.{message_digest, ots_signature_of, signed_part}
 use Rattle.lms_tree.specs.Signatures.{lms_signature_of}
 use Rattle.lms_tree.specs.Verification.{leaf_in}
-use Rattle.lms_tree.proofs.SignatureLemmas.{signatures_verify, field_one}
+use Rattle.lms_tree.proofs.SignatureLemmas.{signatures_verify, field_one, height_fits}
 use Rattle.std.proofs.lemmas.Nat.{from_be_bytes-to_be_bytes_4}
 use Rattle.lms_ots.proofs.ChainLemmas.{length-chain_of}
 use Rattle.lms_ots.proofs.ConcatenatedLemmas.{length-concatenated}
@@ -25,12 +25,8 @@ most_parts : (t : OtsType) → ots_signature_len_of t ≤ 8516
 most_parts W1 = omega arith
 most_parts t = omega arith
 
-most_height : (t : LmsType) → height_of t ≤ 25
-most_height H5 = omega arith
-most_height t = omega arith
-
 pub signature_small : (key : LmsPublic) → lms_signature_len_of key ≤ MAX_SIGNATURE
-signature_small key = omega (arith, most_parts key.ots, most_height key.lms)
+signature_small key = omega (arith, most_parts key.ots, height_fits key.lms)
 
 pub signature_size : (key : LmsPrivate) (q : ℕ) (c message : List ℕ) → length c ≡ 32 → q < 2 ^ height_of key.lms → length (lms_signature_of key q c message) ≤ MAX_SIGNATURE
 signature_size key q c message size within =

@@ -2,8 +2,9 @@
 use Rattle.std.proofs.Common.{◌≡◌, ℕ, ◌^◌, ◌<◌, ◌≤◌, true, List, [], ◌∷◌, length, take, refl, ap, sym, ◌∙◌, arith, Result, Ok}
 use Rattle.sporc_client.proofs.Common.{Contains, is_some, count_by-le-length, height_of, Device, key_of, Entry, Genesis, Header, MAX_SIGNATURE, header_len, IsHeader, author_device, body_limit}
 use Rattle.sporc_client.proofs.Common.{counted_bytes, header_bytes, IsGenesis, genesis_bytes, header_again, MAX_ENTRIES, hash_of, is_by, roster_of, epoch_le, Pending, Chosen, kind_of, next_header}
-use Rattle.sporc_client.proofs.Common.{Submit, PlainClient, me_of, Setup, World, Signing, Move, Happen, start, after, after_all, May, IsRun, IsReached, IsWellFormed, line_of, length-sha256, LmsType}
-use Rattle.sporc_client.proofs.Common.{H5, Reading, ◌>>=◌, counted_at, end_at, bind_ok, ok_is}
+use Rattle.sporc_client.proofs.Common.{Submit, PlainClient, me_of, Setup, World, Signing, Move, Happen, start, after, after_all, May, IsRun, IsReached, IsWellFormed, line_of, length-sha256}
+use Rattle.sporc_client.proofs.Common.{Reading, ◌>>=◌, counted_at, end_at, bind_ok, ok_is}
+use Rattle.lms_tree.proofs.SignatureLemmas.{leaf_fits}
 use Rattle.sporc_hash.specs.Chain.{genesis_string, genesis_value, link_string, next_value, value_after}
 use Rattle.sporc_entry.specs.Entry.{body_read, entry_bytes, entry_of}
 use Rattle.sporc_client.specs.declared.pending.Pending.TheVariants.{Edit}
@@ -55,10 +56,6 @@ length-value_after v (b ∷ entries) h = length-value_after (next_value v b) ent
 pub length-hash_of : (g : Genesis) (entries : List (List ℕ)) → length (hash_of g entries) ≡ 32
 length-hash_of g entries = length-value_after (genesis_value (genesis_bytes g)) entries (length-sha256 (genesis_string (genesis_bytes g)))
 
-pub leaf_small : (t : LmsType) (q : ℕ) → q < 2 ^ height_of t → q < 2 ^ 32
-leaf_small H5 q h = omega (arith, h)
-leaf_small t q h = omega (arith, h)
-
 kind_small : (item : Pending) → (1 ≤ kind_of item) × (kind_of item ≤ 2)
 kind_small (Edit marks) = (omega arith, omega arith)
 kind_small item = (omega arith, omega arith)
@@ -82,7 +79,7 @@ next_is_header s who c leaf item well reached room within live =
       base = omega (arith, room);
       base_hash = length-hash_of c.opening.genesis c.entries;
       epoch = omega (arith, epoch, room);
-      leaf = leaf_small c.opening.key.lms leaf within;
+      leaf = leaf_fits c.opening.key.lms leaf within;
       kind = kind_small item;
     }
 
