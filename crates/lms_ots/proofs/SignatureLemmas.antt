@@ -68,7 +68,7 @@ pub code_fits : (t : OtsType) → ots_code_of t < 2 ^ 32
 code_fits W1 = omega arith
 code_fits _ = omega arith
 
-length-signed_part : (t : OtsType) (id : List ℕ) (q : ℕ) (seed string : List ℕ) (i : ℕ) → length (signed_part t id q seed string i) ≡ 32
+pub length-signed_part : (t : OtsType) (id : List ℕ) (q : ℕ) (seed string : List ℕ) (i : ℕ) → length (signed_part t id q seed string i) ≡ 32
 length-signed_part t id q seed string i = length-chain_of id q i 0 (coef_of string i (width_of t)) _ (length-sha256 _)
 
 -- a signature has its type's length

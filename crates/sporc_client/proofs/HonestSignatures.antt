@@ -5,16 +5,16 @@ use Rattle.sporc_client.proofs.Common.{MAX_SIGNATURE, IsTrue, and_from, eq-eqb, 
 use Rattle.sporc_client.proofs.Common.{length-sha256}
 use Rattle.lms_ots.specs.declared.ots_type.OtsType.{OtsType}
 use Rattle.lms_ots.specs.declared.ots_type.OtsType.TheVariants.{W1}
-use Rattle.lms_ots.specs.OtsType.{ots_code_of, ots_signature_len_of, part_count_of, width_of}
+use Rattle.lms_ots.specs.OtsType.{ots_code_of, ots_signature_len_of, part_count_of}
 use Rattle.lms_ots.specs.Chains.{concatenated}
-use Rattle.lms_ots.specs.Coefficients.{with_checksum, coef_of}
+use Rattle.lms_ots.specs.Coefficients.{with_checksum}
 use Rattle.lms_ots.specs.Signatures.{message_digest, ots_signature_of, signed_part}
 use Rattle.lms_tree.specs.Signatures.{lms_signature_of}
 use Rattle.lms_tree.specs.Verification.{leaf_in}
 use Rattle.lms_tree.proofs.SignatureLemmas.{signatures_verify, field_one, height_fits}
 use Rattle.std.proofs.lemmas.Nat.{from_be_bytes-to_be_bytes_4}
-use Rattle.lms_ots.proofs.ChainLemmas.{length-chain_of}
 use Rattle.lms_ots.proofs.ConcatenatedLemmas.{length-concatenated}
+use Rattle.lms_ots.proofs.SignatureLemmas.{length-signed_part}
 use Rattle.lms_tree.specs.Nodes.{node_of}
 use Rattle.lms_tree.proofs.PublicKeyLemmas.{public_key_read_back}
 use Rattle.lms_tree.proofs.VerificationLemmas.{verifies_decides}
@@ -58,9 +58,6 @@ few_parts : (t : OtsType) → 34 ≤ part_count_of t
 few_parts W1 = omega arith
 few_parts t = omega arith
 
-signed_part_len : (t : OtsType) (id : List ℕ) (q : ℕ) (seed string : List ℕ) (i : ℕ) → length (signed_part t id q seed string i) ≡ 32
-signed_part_len t id q seed string i = length-chain_of id q i 0 (coef_of string i (width_of t)) _ (length-sha256 _)
-
 pub signature_len : (key : LmsPrivate) (q : ℕ) (c message : List ℕ) → 1096 ≤ length (lms_signature_of key q c message)
 unfolding lms_signature_of ots_signature_of
 signature_len key q c message =
@@ -68,7 +65,7 @@ signature_len key q c message =
     let part = signed_part key.ots key.id q key.seed string in
     let n = part_count_of key.ots in
     let code = to_be_bytes w32 (ots_code_of key.ots) in
-    let parts = length-concatenated part (signed_part_len key.ots key.id q key.seed string) n in
+    let parts = length-concatenated part (length-signed_part key.ots key.id q key.seed string) n in
     let ots = code ++ c ++ concatenated part n in
     let front = to_be_bytes w32 q in
     let types = to_be_bytes w32 (lms_code_of key.lms) in
