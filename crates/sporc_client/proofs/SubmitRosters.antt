@@ -1,10 +1,10 @@
 -- The members of a good history: not too many, each with a number above 0. So a change that they accept can be written.
 use Rattle.std.proofs.Common.{◌≡◌, ℕ, ◌<◌, ◌≤◌, Bool, true, false, cond, List, [], ◌∷◌, ◌++◌, length, map, refl, ap, sym, ◌∙◌, subst, arith, Option, None, Some, Ok, Err, ◌≢◌, ◌+◌}
 use Rattle.sporc_client.proofs.Common.{filter, find, is_some, nat_lt, not, ◌==◌, ◌&&◌, fold, is_none, min, AllByRecursion, list_any, and_parts, eqb-false, eqb-true, ltb-true, not-true, first_of}
-use Rattle.sporc_client.proofs.Common.{length-map, from_end, MemberChange, Add, Remove, SetRole, AddDevice, DropDevice, Upgrade, ChangeFault, Device, Member, Roster, after_change, change_fault_of}
+use Rattle.sporc_client.proofs.Common.{length-map, from_end, MemberChange, Add, Remove, SetRole, AddDevice, DropDevice, Upgrade, Device, Member, Roster, after_change, change_fault_of}
 use Rattle.sporc_client.proofs.Common.{device_by, insert_sorted, key_of_device, member_by, is_used, member_at, numbers_of, with_role, has_admin, has_role, first_device, same_device, passes}
 use Rattle.sporc_client.proofs.Common.{ChangeBody, Entry, Genesis, IsChange, change_of, entry_of, fits_version, has_kind, version_of, IsFounder, IsGenesis, Keys, Sealing, body_sealed, body_unless}
-use Rattle.sporc_client.proofs.Common.{least_unpaired, bad_change, roster_checks, Refusal, CommittedChange, change_in, roster_of, change_in_read, roster_change, roster_edit, Good, Kit, good_front}
+use Rattle.sporc_client.proofs.Common.{least_unpaired, roster_checks, CommittedChange, change_in, roster_of, change_in_read, roster_change, roster_edit, Good, Kit, good_front}
 use Rattle.sporc_client.proofs.Common.{last_passes, LineModel, CanTake, IsTypedChange, get, length-filter, count_by-le-length, NoPairKey, sealed, is_admin}
 use Rattle.sporc_member.specs.declared.change.ChangeFault.TheVariants as faults
 use Rattle.sporc_member.specs.declared.limits.TheConstants.{MAX_MEMBERS}
@@ -14,6 +14,7 @@ use Rattle.sporc_member.proofs.Keeping.{numbers_of-founders}
 use Rattle.sporc_member.proofs.Places.{numbers_of-filter, numbers_of-insert_sorted, numbers_of-with_role, place_among-le}
 use Rattle.sporc_entry.specs.ChangeBody.{kind_of}
 use Rattle.sporc_epoch.specs.Sealing.{change_sealed, lesser}
+use Rattle.sporc_head.proofs.OnceChecked.{no_bad_change}
 use Rattle.sporc_client.specs.declared.pending.Pending.TheVariants as items
 use Rattle.sporc_client.proofs.AllItems.{all_added, all_filter, all_map}
 use Rattle.std.proofs.lemmas.List.Edits.{length-insert}
@@ -94,10 +95,6 @@ few_after roster Upgrade is none = record {
 
 abbrev FewIf : Genesis → Kit → List (List ℕ) → Type 0
 FewIf g kit entries = Good g kit entries → IsFew (roster_of g entries)
-
-no_bad_change : (fault : Option ChangeFault) (rest : List (Option Refusal)) → first_of (bad_change fault ∷ rest) ≡ None → fault ≡ None
-no_bad_change None rest h = refl
-no_bad_change (Some fault) rest h = absurd cc
 
 few_more : (g : Genesis) (kit : Kit) (entries : List (List ℕ)) (bytes : List ℕ) → FewIf g kit entries → FewIf g kit (entries ++ bytes ∷ [])
 few_more g kit entries bytes before good =

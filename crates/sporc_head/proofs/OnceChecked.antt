@@ -19,9 +19,9 @@ pub ok_of : {X E : Type 0} (r : Result X E) (P : Type 0) → OnOk r P → IsOk r
 ok_of (Ok x) P h ok = h
 ok_of (Err e) P h ok = absurd cc
 
-accepted : (o : Option ChangeFault) (rest : List (Option Refusal)) → first_of (bad_change o ∷ rest) ≡ None → o ≡ None
-accepted None rest h = refl
-accepted (Some f) rest h = absurd cc
+pub no_bad_change : (o : Option ChangeFault) (rest : List (Option Refusal)) → first_of (bad_change o ∷ rest) ≡ None → o ≡ None
+no_bad_change None rest h = refl
+no_bad_change (Some f) rest h = absurd cc
 
 none_fails : (g : Genesis) (entries : List (List ℕ)) (pos : ℕ) (b : List ℕ) (e : Entry) → entry_of b ≡ Ok e → head_fault g None entries pos b ≡ None → first_of (head_checks g None entries pos e) ≡ None
 unfolding head_fault
@@ -70,7 +70,7 @@ checked_accepted g entries c change k e =
     go None is h = absurd cc
     go (Some b) is h =
         let same : b.change ≡ change = cc in
-        ap (change_fault_of (roster_of g entries)) (sym same) ∙ accepted (change_fault_of (roster_of g entries) b.change) _ h
+        ap (change_fault_of (roster_of g entries)) (sym same) ∙ no_bad_change (change_fault_of (roster_of g entries) b.change) _ h
 
 -- ---- where the first fault is found
 
