@@ -14,7 +14,7 @@ pub use Rattle.std.specs.FinMap.{get}
 pub use Rattle.std.specs.Int.{from_be_bytes, to_be_bytes, w16, w32, w64}
 pub use Rattle.std.specs.List.{All, AllByRecursion, cons_option, filter_map, flat_map, insert, list_any, slice_get, slice_index_or}
 pub use Rattle.std.specs.Prelude.{Bool, Contains, Err, IfOk, IfSome, IsErr, IsSomeAnd, IsTrue, List, None, Ok, OnOk, Option, Result, Some, drop, false, filter, find, fold, is_none, is_some, length}
-pub use Rattle.std.specs.Prelude.{min, nat_le, nat_lt, not, option_and_then, option_map, refl, true, unwrap_or, ℕ, ⊤, ◌&&◌, ◌+◌, ◌<◌, ◌==◌, ◌||◌, ◌≡◌, ◌≢◌, ◌≤◌}
+pub use Rattle.std.specs.Prelude.{nat_le, nat_lt, not, option_and_then, option_map, refl, true, unwrap_or, ℕ, ⊤, ◌&&◌, ◌+◌, ◌<◌, ◌==◌, ◌||◌, ◌≡◌, ◌≢◌, ◌≤◌}
 pub use Rattle.std.specs.Result.{result_ok}
 pub use Rattle.std.specs.Str.{all_scalars, chars, encode_utf8_all}
 pub use Rattle.sha2.proofs.Facts256.{length-sha256}

@@ -1,6 +1,6 @@
 -- The members of a good history: not too many, each with a number above 0. So a change that they accept can be written.
-use Rattle.std.proofs.Common.{◌≡◌, ℕ, ◌<◌, ◌≤◌, Bool, true, false, cond, List, [], ◌∷◌, ◌++◌, length, map, refl, ap, sym, ◌∙◌, subst, arith, Option, None, Some, Ok, Err, ◌≢◌, ◌+◌}
-use Rattle.sporc_client.proofs.Common.{filter, find, is_some, nat_lt, not, ◌==◌, ◌&&◌, fold, is_none, min, AllByRecursion, list_any, and_parts, eqb-false, eqb-true, ltb-true, not-true, first_of}
+use Rattle.std.proofs.Common.{◌≡◌, ℕ, ◌<◌, ◌≤◌, Bool, true, false, cond, List, [], ◌∷◌, ◌++◌, length, map, refl, ap, sym, ◌∙◌, subst, arith, Option, None, Some, Ok, Err, ◌+◌}
+use Rattle.sporc_client.proofs.Common.{find, is_some, nat_lt, not, ◌==◌, ◌&&◌, is_none, AllByRecursion, list_any, and_parts, eqb-false, eqb-true, ltb-true, not-true, first_of}
 use Rattle.sporc_client.proofs.Common.{length-map, from_end, MemberChange, Add, Remove, SetRole, AddDevice, DropDevice, Upgrade, Device, Member, Roster, after_change, change_fault_of}
 use Rattle.sporc_client.proofs.Common.{device_by, insert_sorted, key_of_device, member_by, is_used, member_at, numbers_of, with_role, has_admin, has_role, first_device, same_device, passes}
 use Rattle.sporc_client.proofs.Common.{ChangeBody, Entry, Genesis, IsChange, change_of, entry_of, fits_version, has_kind, version_of, IsFounder, IsGenesis, Keys, Sealing, body_sealed, body_unless}
@@ -13,7 +13,8 @@ use Rattle.sporc_member.proofs.Belonging.{device_passes, founds_live, live_add, 
 use Rattle.sporc_member.proofs.Keeping.{numbers_of-founders}
 use Rattle.sporc_member.proofs.Places.{numbers_of-filter, numbers_of-insert_sorted, numbers_of-with_role, place_among-le}
 use Rattle.sporc_entry.specs.ChangeBody.{kind_of}
-use Rattle.sporc_epoch.specs.Sealing.{change_sealed, lesser}
+use Rattle.sporc_epoch.proofs.SealedKeys.{first_paired}
+use Rattle.sporc_epoch.specs.Sealing.{change_sealed}
 use Rattle.sporc_head.proofs.OnceChecked.{no_bad_change}
 use Rattle.sporc_client.specs.declared.pending.Pending.TheVariants as items
 use Rattle.sporc_client.proofs.AllItems.{all_added, all_filter, all_map}
@@ -244,20 +245,10 @@ some_member roster change me there none = some_found me roster.members there
 
 -- ---- the first has a pairwise key
 
-found : (k : ℕ) (ns : List ℕ) → fold lesser (Some k) ns ≢ None
-found k [] h = cc
-found k (n ∷ ns) h = found (min k n) ns h
-
-first_paired : (pairs : Keys) (m : ℕ) (ms : List ℕ) → least_unpaired pairs (m ∷ ms) ≡ None → is_none (get pairs m) ≡ false
-first_paired pairs m ms h = by (is_none (get pairs m)) refl h
-  where
-    by : (b : Bool) → is_none (get pairs m) ≡ b → fold lesser None (cond b (m ∷ filter (λ n. is_none (get pairs n)) ms) (filter (λ n. is_none (get pairs n)) ms)) ≡ None
-        → is_none (get pairs m) ≡ false
-    by true is h = absurd (found m (filter (λ n. is_none (get pairs n)) ms) h)
-    by false is h = is
-
 pub paired_first : (pairs : Keys) (m : ℕ) (ms : List ℕ) → least_unpaired pairs (m ∷ ms) ≡ None → (pair : List ℕ) × (get pairs m ≡ Some pair)
-paired_first pairs m ms h = go (get pairs m) refl (first_paired pairs m ms h)
+paired_first pairs m ms h =
+    let both = first_paired pairs m ms h in
+    go (get pairs m) refl both.0
   where
     go : (o : Option (List ℕ)) → get pairs m ≡ o → is_none o ≡ false → (pair : List ℕ) × (get pairs m ≡ Some pair)
     go None is none = absurd cc

@@ -18,8 +18,8 @@ found k [] h = cc
 found k (n ∷ ns) h = found (min k n) ns h
 
 -- the first member has a pairwise key, and so have the others
-all_paired : (pairs : Keys) (m : ℕ) (ms : List ℕ) → least_unpaired pairs (m ∷ ms) ≡ None → (is_none (get pairs m) ≡ false) × (least_unpaired pairs ms ≡ None)
-all_paired pairs m ms h = by (is_none (get pairs m)) refl h
+pub first_paired : (pairs : Keys) (m : ℕ) (ms : List ℕ) → least_unpaired pairs (m ∷ ms) ≡ None → (is_none (get pairs m) ≡ false) × (least_unpaired pairs ms ≡ None)
+first_paired pairs m ms h = by (is_none (get pairs m)) refl h
   where
     by : (b : Bool) → is_none (get pairs m) ≡ b
         → fold lesser None (cond b (m ∷ filter (λ n. is_none (get pairs n)) ms) (filter (λ n. is_none (get pairs n)) ms)) ≡ None
@@ -31,7 +31,7 @@ all_paired pairs m ms h = by (is_none (get pairs m)) refl h
 paired : (pairs : Keys) (ms : List ℕ) (m : ℕ) → least_unpaired pairs ms ≡ None → Contains ms m → is_none (get pairs m) ≡ false
 paired pairs [] m h (k, lt, at) = absurd (omega (arith, lt))
 paired pairs (x ∷ xs) m h c =
-    let both = all_paired pairs x xs h in
+    let both = first_paired pairs x xs h in
     elim (first_or_later x xs m c) [
       | inl same ↦ subst (λ m. is_none (get pairs m) ≡ false) same both.0
       | inr later ↦ paired pairs xs m both.1 later
@@ -74,7 +74,7 @@ first_wrap stream key pairs member pair (x ∷ xs) is c =
 pub wraps_name : (stream : ℕ) (key : List ℕ) (pairs : Keys) (ms : List ℕ) → least_unpaired pairs ms ≡ None → map (λ w. w.member) (wraps_sealed stream key pairs ms) ≡ ms
 wraps_name stream key pairs [] h = refl
 wraps_name stream key pairs (x ∷ xs) h =
-    let both = all_paired pairs x xs h in
+    let both = first_paired pairs x xs h in
     by (get pairs x) both.0 (wraps_name stream key pairs xs both.1)
   where
     by : (o : Option (List ℕ)) → is_none o ≡ false → map (λ w. w.member) (wraps_sealed stream key pairs xs) ≡ xs
