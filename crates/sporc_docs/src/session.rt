@@ -3,7 +3,6 @@
 ghost use Rattle.std.specs.Prelude.{◌≡◌, ◌<◌, length, IfSome};
 ghost use Rattle.sporc_outside.specs.Told.{IsTrueIfTold};
 ghost use Rattle.sporc_turn.specs.declared.pass.Pass.{Pass};
-ghost use Rattle.sporc_turn.specs.declared.turn.Turn.{Turn};
 ghost use Rattle.sporc_turn.specs.Passes.{known_of, read_of};
 ghost use Rattle.sporc_order.specs.Sessions.{IsFramed};
 ghost use Rattle.sporc_serve.specs.Crowds.{IsOther};
