@@ -73,7 +73,7 @@ IsFirst shared None more = ⊥
 IsFirst shared (Some p) more =
     IsPassOf shared p × ((known_of p).number ≡ 0) × ((known_of p).splits + more < 2 ^ 32)
 
--- another pass
-abbrev pub IsOther : {D : Type 0} → SharedClient D → Option (Pass Item) → Type 0
-IsOther shared None = ⊥
-IsOther shared (Some p) = IsPassOf shared p
+-- the pass that an editor's thread is to take
+abbrev pub IsEditors : {D : Type 0} → SharedClient D → Option (Pass Item) → Type 0
+IsEditors shared None = ⊥
+IsEditors shared (Some p) = IsPassOf shared p

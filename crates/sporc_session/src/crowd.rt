@@ -7,7 +7,7 @@ ghost use Rattle.sporc_outside.specs.Uses.{use_of};
 ghost use Rattle.sporc_turn.specs.Passes.{known_of};
 ghost use Rattle.sporc_shared.specs.Passes.{IsPassOf};
 ghost use Rattle.sporc_session.specs.Traces.{stand_at};
-ghost use Rattle.sporc_session.specs.Crowds.{CrowdEnds, EditorEnds, IsCrowd, IsFirst, IsOther};
+ghost use Rattle.sporc_session.specs.Crowds.{CrowdEnds, EditorEnds, IsCrowd, IsEditors, IsFirst};
 ghost use Rattle.sporc_session.specs.Replies.{HasReadFor};
 
 use crate::context::Context;
@@ -84,7 +84,7 @@ pub(crate) fn crowd<
             crowd(context, link, inbox, chance, pass, rounds, others)
         },
         &mut || -> WithPass<()>
-            requires { IsOther context.now.shared.now second }
+            requires { IsEditors context.now.shared.now second }
             ensures { IfSome second.entry (λ p. EditorEnds context.entry.now.shared.now p result.1
                 script.entry.now result.0) }
         { do_lines(context, second.take().unwrap(), script.lines()) },
