@@ -1,7 +1,7 @@
 -- The names of this crate and of those below that many of its proofs cite, passed on from one place.
 pub use Rattle.sporc_order.specs.OrderModel.{OrderModel}
 pub use Rattle.sporc_order.specs.declared.tail.Tail.{Ghosts}
-pub use Rattle.sporc_serve.specs.Endings.{Inlet, IsFirst, inlet_at}
+pub use Rattle.sporc_serve.specs.Endings.{Inlet, ReadsFirst, inlet_at}
 pub use Rattle.sporc_serve.specs.Logs.{IsLogOf, by_of, order_at, placed}
 pub use Rattle.sporc_serve.specs.Crowds.{IsOther}
 pub use Rattle.sporc_serve.specs.Served.{IsWornAt, log_at_first}

@@ -1,6 +1,6 @@
 -- Sessions of many documents beside one another.
 use Rattle.std.proofs.Common.{◌≡◌, ℕ, suc, ◌≤◌, false, List, [], ◌∷◌, length, Option, Some, None, Result, Ok, Err, slice_get, refl, sym, subst, arith, bytes_eq}
-use Rattle.sporc_docs.proofs.Common.{NetTold, StreamTold, Pass, Turn, known_of, stream_of, ToServer, Hello, Ghosts, Desk, SessionEnd, ServeFault, Item, stand_at, Inlet, inlet_at, IsFirst, visit}
+use Rattle.sporc_docs.proofs.Common.{NetTold, StreamTold, Pass, Turn, known_of, stream_of, ToServer, Hello, Ghosts, Desk, SessionEnd, ServeFault, Item, stand_at, Inlet, inlet_at, ReadsFirst, visit}
 use Rattle.sporc_docs.proofs.Common.{TellsOf, with_end, Hand, IsCrowd, IsOther, HavePasses, LogsBegin, pass_at, named_by, IsUnboundEnd, Sits}
 use Rattle.sporc_docs.proofs.Common.{IsLastTicket, last_ticket, links_more, links_none}
 use Rattle.sporc_outside.specs.Told.{AppendsItem, TakesItem, IsFalseIfTold}
@@ -22,12 +22,12 @@ has_is t None h = absurd h
 has_is t (Some p) h = (p, refl)
 
 module _ {T : Type 0} {gs : Ghosts T} (turns : List (Turn (Desk T gs) Item)) (documents : List (List ℕ)) where
-  first_last : (a b : Inlet) (r : Result ToServer SessionEnd) (end : SessionEnd) → IsFirst a b r
+  first_last : (a b : Inlet) (r : Result ToServer SessionEnd) (end : SessionEnd) → ReadsFirst a b r
       → IsUnboundEnd (named_by documents) r end → IsLastTicket end
   first_last a b (Ok m) end first is = subst IsLastTicket (sym is.1) tt
   first_last a b (Err why) end first is = subst IsLastTicket (sym is) (at why first)
     where
-      at : (why : SessionEnd) → IsFirst a b (Err why) → IsLastTicket why
+      at : (why : SessionEnd) → ReadsFirst a b (Err why) → IsLastTicket why
       at (Worn ticket) first = absurd first.4
       at why first = tt
 

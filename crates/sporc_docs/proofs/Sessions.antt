@@ -1,6 +1,6 @@
 -- A session of many documents.
 use Rattle.std.proofs.Common.{◌≡◌, ◌∙◌, ℕ, zero, suc, ◌<◌, false, List, [], ◌∷◌, length, set, Option, Some, Ok, slice_index_or, refl, ap, sym, subst, subst₂, arith}
-use Rattle.sporc_docs.proofs.Common.{Shuts, StreamTold, Known, ToServer, Unread, stream_of, next, Ghosts, SessionEnd, inlet_at, IsFirst, IsLogOf, ServerStand, stand, stand_at, Leads, visit}
+use Rattle.sporc_docs.proofs.Common.{Shuts, StreamTold, Known, ToServer, Unread, stream_of, next, Ghosts, SessionEnd, inlet_at, ReadsFirst, IsLogOf, ServerStand, stand, stand_at, Leads, visit}
 use Rattle.sporc_docs.proofs.Common.{IsServedSession, Pass, Turn, Desk, Item, IsOther, HavePasses, pass_at, Became, Genesis}
 use Rattle.std.specs.Io.KnownBytes.{Consumes}
 use Rattle.std.proofs.KnownBytes.{Consumes-nil}
@@ -62,7 +62,7 @@ kept_elsewhere ps i j new p p' apart at_old at_new = let same = at_set_elsewhere
 -- ---- a session whose first message names its document
 
 module _ (before mid link after : StreamTold) (unread unread' : Unread) (m : ToServer)
-    (first : IsFirst (inlet_at before unread) (inlet_at mid unread') (Ok m)) (same : mid.written ≡ before.written)
+    (first : ReadsFirst (inlet_at before unread) (inlet_at mid unread') (Ok m)) (same : mid.written ≡ before.written)
     (as_shut : mid.is_shut ≡ before.is_shut) (as_shut' : link.is_shut ≡ mid.is_shut) (shuts : Shuts (record { before = link; after = after })) where
   pub serves_from : (g : Genesis) (k k' : Known Item) (end : SessionEnd) → IsLogOf g k.seen
       → ((u : Unread) → (next to_server_of u).answer ≡ Ok (Some m) → unread' ≡ (next to_server_of u).after

@@ -12,7 +12,7 @@ use Rattle.sporc_wire.specs.Messages.{Unread, stream_of}
 use Rattle.sporc_serve.specs.declared.end.SessionEnd.{SessionEnd}
 use Rattle.sporc_serve.specs.declared.end.SessionEnd.TheVariants.{Closed}
 use Rattle.sporc_serve.specs.declared.item.Item.{Item}
-use Rattle.sporc_serve.specs.Endings.{inlet_at, IsFirst}
+use Rattle.sporc_serve.specs.Endings.{inlet_at, ReadsFirst}
 use Rattle.sporc_serve.specs.Logs.{OfDocument}
 use Rattle.sporc_serve.specs.Turns.{HasReadLast}
 use Rattle.sporc_serve.specs.Visits.{Visit, IsServedSession}
@@ -39,7 +39,7 @@ module _ {A : Type 0} (named : ToServer → Option A) where
   -- a link whose session is bound to no document: nothing was sent
   pub record Unbound (v : Visit) (link : StreamTold) (unread : Unread)
       (first : Result ToServer SessionEnd) : Type 0 where
-    pub first_is : IsFirst (inlet_at v.before (stream_of [])) (inlet_at link unread) first
+    pub first_is : ReadsFirst (inlet_at v.before (stream_of [])) (inlet_at link unread) first
     pub end_is : IsUnboundEnd first v.end
     pub written_is : link.written ≡ v.before.written
     pub as_shut : link.is_shut ≡ v.before.is_shut
@@ -48,7 +48,7 @@ module _ {A : Type 0} (named : ToServer → Option A) where
   -- a link whose first message names a document
   pub record Names (v : Visit) (document : A) (link : StreamTold) (unread : Unread)
       (message : ToServer) : Type 0 where
-    pub first_is : IsFirst (inlet_at v.before (stream_of [])) (inlet_at link unread) (Ok message)
+    pub first_is : ReadsFirst (inlet_at v.before (stream_of [])) (inlet_at link unread) (Ok message)
     pub names : named message ≡ Some document
 
   -- what a session is bound to

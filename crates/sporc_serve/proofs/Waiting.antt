@@ -1,7 +1,7 @@
 -- The first message of a session.
 use Rattle.std.proofs.Common.{◌≡◌, ℕ, ◌≤◌, List, [], ◌++◌, Option, Some, None, Result, Ok, Err, false, refl, sym, subst, arith}
 use Rattle.sporc_serve.proofs.Common.{Consumes, Consumes-nil, Consumes-trans, Genesis, Known, ToServer, Unread, HandsOut, stream_of, fed, to_server_of, SessionEnd, Item, Inlet, inlet, IsNext, Waits}
-use Rattle.sporc_serve.proofs.Common.{IsFirst, stand, ServerTrace, HandsOut-fed}
+use Rattle.sporc_serve.proofs.Common.{ReadsFirst, stand, ServerTrace, HandsOut-fed}
 use Rattle.sporc_serve.proofs.Tracing.{trace_begins, trace_taken}
 
 -- nothing was taken yet
@@ -27,11 +27,11 @@ module _ (a b c : Inlet) (bytes : List ℕ) (r : Result (Option ToServer) Sessio
       )
 
   -- a message was found
-  pub first_found : (m : ToServer) → r ≡ Ok (Some m) → IsFirst a c (Ok m)
+  pub first_found : (m : ToServer) → r ≡ Ok (Some m) → ReadsFirst a c (Ok m)
   first_found m is = (b, bytes, waits, more, subst (λ (x : Result (Option ToServer) SessionEnd). IsNext b c x) is found)
 
   -- none is to follow
-  pub first_ends : (end : SessionEnd) → r ≡ Err end → IsFirst a c (Err end)
+  pub first_ends : (end : SessionEnd) → r ≡ Err end → ReadsFirst a c (Err end)
   first_ends end is = (b, bytes, waits, more, subst (λ (x : Result (Option ToServer) SessionEnd). IsNext b c x) is found)
 
 -- a session that waited for its first message

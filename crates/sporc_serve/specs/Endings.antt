@@ -85,6 +85,7 @@ IsFirstMessage a b (Ok message) = TakesMessage a b message
 IsFirstMessage a b (Err end) = IsNextEnd a b end
 
 -- the first message, or why there is none
-abbrev pub IsFirst : Inlet → Inlet → Result ToServer SessionEnd → Type 0
-IsFirst a b result = (mid : Inlet) × (bytes : List ℕ) × Waits a mid bytes × (mid.faults ≤ b.faults)
+abbrev pub ReadsFirst : Inlet → Inlet → Result ToServer SessionEnd → Type 0
+ReadsFirst a b result =
+    (mid : Inlet) × (bytes : List ℕ) × Waits a mid bytes × (mid.faults ≤ b.faults)
     × IsFirstMessage mid b result

@@ -2,7 +2,7 @@
 
 ghost use Rattle.std.specs.Prelude.{◌≡◌, ◌≢◌, ◌≤◌, [], Err};
 ghost use Rattle.sporc_wire.specs.Messages.{stream_of};
-ghost use Rattle.sporc_serve.specs.Endings.{inlet_at, IsFirst};
+ghost use Rattle.sporc_serve.specs.Endings.{inlet_at, ReadsFirst};
 
 use crate::end::SessionEnd;
 use crate::session::next_message;
@@ -17,7 +17,7 @@ pub fn first_message<R: Wait, L: Link>(
     frames: &mut Frames,
 ) -> Result<ToServer, SessionEnd>
     requires fresh { frames.old ≡ stream_of [] }
-    ensures first { IsFirst (inlet_at (L.told link.old) frames.old)
+    ensures first { ReadsFirst (inlet_at (L.told link.old) frames.old)
         (inlet_at (L.told link.new) frames.new) result }
     ensures written { (L.told link.new).written ≡ (L.told link.old).written }
     ensures shut { (L.told link.new).is_shut ≡ (L.told link.old).is_shut }

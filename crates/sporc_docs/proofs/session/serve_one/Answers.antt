@@ -1,5 +1,5 @@
 use Rattle.std.proofs.Common.{◌≡◌, ◌∙◌, ℕ, [], Some, None, Result, Ok, Err, set, slice_index_or, refl, ap, sym, subst, subst₂, arith}
-use Rattle.sporc_docs.proofs.Common.{ToServer, Unread, stream_of, Pass, known_of, read_of, SessionEnd, Item, inlet_at, IsFirst, LeadsFrom, pass_at}
+use Rattle.sporc_docs.proofs.Common.{ToServer, Unread, stream_of, Pass, known_of, read_of, SessionEnd, Item, inlet_at, ReadsFirst, LeadsFrom, pass_at}
 use Rattle.sporc_serve.specs.Turns.{HasReadLast}
 use Rattle.sporc_docs.proofs.Sessions.{have_length, have_at, have_set, became_here, kept_elsewhere, serves_from}
 use Rattle.sporc_docs.proofs.session.serve_one.Goals as goal
@@ -13,7 +13,7 @@ returns-in-Err-clause-session g c = (
       c.first_message.new.frames,
       Err c.in-Err.end,
       record {
-        first_is = subst₂ (λ (u : Unread) (r : Result ToServer SessionEnd). IsFirst (inlet_at (g.L.Stream.told c.args.link.now) u)
+        first_is = subst₂ (λ (u : Unread) (r : Result ToServer SessionEnd). ReadsFirst (inlet_at (g.L.Stream.told c.args.link.now) u)
             (inlet_at (g.L.Stream.told c.first_message.new.link) c.first_message.new.frames) r)
             c.new-frames.ensures.value c.in-Err.is c.first_message.ensures.first;
         end_is = refl;
@@ -35,7 +35,7 @@ returns-in_default-clause-session g c = (
       c.first_message.new.frames,
       Ok c.in-Ok.first,
       record {
-        first_is = subst₂ (λ (u : Unread) (r : Result ToServer SessionEnd). IsFirst (inlet_at (g.L.Stream.told c.args.link.now) u)
+        first_is = subst₂ (λ (u : Unread) (r : Result ToServer SessionEnd). ReadsFirst (inlet_at (g.L.Stream.told c.args.link.now) u)
             (inlet_at (g.L.Stream.told c.first_message.new.link) c.first_message.new.frames) r)
             c.new-frames.ensures.value c.in-Ok.is c.first_message.ensures.first;
         end_is = (sym c.named_by.ensures.value ∙ c.in_default.is, refl);
@@ -69,7 +69,7 @@ returns-clause-locks g c =
 
 pub returns-clause-session : goal.returns-clause-session
 returns-clause-session g c =
-    let first = subst₂ (λ (u : Unread) (r : Result ToServer SessionEnd). IsFirst (inlet_at (g.L.Stream.told c.args.link.now) u)
+    let first = subst₂ (λ (u : Unread) (r : Result ToServer SessionEnd). ReadsFirst (inlet_at (g.L.Stream.told c.args.link.now) u)
     (inlet_at (g.L.Stream.told c.first_message.new.link) c.first_message.new.frames) r)
     c.new-frames.ensures.value c.in-Ok.is c.first_message.ensures.first in
     let hand = c.args.hand.now in
