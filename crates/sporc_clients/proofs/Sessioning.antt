@@ -16,14 +16,14 @@ use Rattle.sporc_clients.specs.Counts.{CountedIfFailed}
 use Rattle.sporc_session.proofs.Pasts.{past_goes_on}
 
 -- what number 0 knows as it is handed out
-pub record IsFirst (k : Known Item) : Type 0 where
+pub record IsFirstKnown (k : Known Item) : Type 0 where
   pub number : k.number ≡ 0
   pub splits : k.splits ≡ 0
   pub joined : k.joined ≡ []
   pub allowed : IsAllowedLog k.seen
 
-pub is_first : (k : Known Item) (p : Past) → k ≡ first_known (items_of p) → IsAllowed p → IsFirst k
-is_first k p e allowed = record {
+pub is_first_known : (k : Known Item) (p : Past) → k ≡ first_known (items_of p) → IsAllowed p → IsFirstKnown k
+is_first_known k p e allowed = record {
   number = ap (λ (k : Known Item). k.number) e;
   splits = ap (λ (k : Known Item). k.splits) e;
   joined = ap (λ (k : Known Item). k.joined) e;

@@ -1,12 +1,12 @@
 use Rattle.sporc_clients.proofs.Common.{past_of}
 use Rattle.sporc_turn.specs.Passes.{known_of}
-use Rattle.sporc_clients.proofs.Sessioning.{disk_counted, is_first, session_of}
+use Rattle.sporc_clients.proofs.Sessioning.{disk_counted, is_first_known, session_of}
 use Rattle.sporc_clients.proofs.CountsRose.{session_kept, session_rose}
 use Rattle.sporc_clients.proofs.session.run_session.Goals as goal
 
 pub session-result-requires-clause-allowed : goal.session-result-requires-clause-allowed
 session-result-requires-clause-allowed g c κs within =
-    (is_first (known_of c.in-Ok.first) (past_of c.args.client) c.in-Ok.ensures.first c.in-Ok.ensures.allowed).allowed
+    (is_first_known (known_of c.in-Ok.first) (past_of c.args.client) c.in-Ok.ensures.first c.in-Ok.ensures.allowed).allowed
 
 pub returns-in-Ok-close-clause-session : goal.returns-in-Ok-close-clause-session
 returns-in-Ok-close-clause-session g c =
