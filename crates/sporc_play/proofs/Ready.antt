@@ -1,52 +1,23 @@
 -- A state that stands for a scene of a script can perform the script's next command.
 use Rattle.std.proofs.Common.{◌≡◌, ℕ, zero, suc, ◌+◌, ◌-◌, ◌^◌, ◌<◌, ◌≤◌, true, List, [], ◌∷◌, length, take, get_or, refl, sym, ap, ◌∙◌, subst, arith, length-take, Option, None, Some, IfSome, IsSome}
 use Rattle.std.proofs.Common.{Bool, false, cond, ◌++◌, codes, length-append, inl, inr}
-use Rattle.sporc_play.proofs.Common.{Contains, filter_map, AllByRecursion, and_parts, length-map, LmsPrivate, SignerModel, Genesis, IsGenesis, Opening, ClientModel, Setup, Device, first_device}
+use Rattle.sporc_play.proofs.Common.{Contains, filter_map, and_parts, length-map, LmsPrivate, SignerModel, Genesis, IsGenesis, Opening, ClientModel, Setup, Device, first_device}
 use Rattle.sporc_play.proofs.Common.{declarations, is_client, is_rogue, may_follow, names_performers, none_declared, IsPlayScript, Command, PlayLine, MAX_SCRIPT, Rogue, Seat, PlayState, device_by}
 use Rattle.sporc_play.proofs.Common.{has_admin, IsShortScript, Scene, after, after_each, commands_of, opening, signer_of, text_size, with_more, AreDrawn, IsReady, seated, TakePart, CanPerform}
-use Rattle.sporc_play.proofs.Common.{Holds, IsReadyRogue, IsReadySeat, IsRogueOf, IsSeatOf, StandsFor, ◌==◌, flat_map, encode_utf8_all, eqb-true, len_utf8_ascii, length-encode, spelling, IsNext}
+use Rattle.sporc_play.proofs.Common.{Holds, IsReadyRogue, IsReadySeat, IsRogueOf, IsSeatOf, StandsFor, ◌==◌, encode_utf8_all, spelling, IsNext}
 use Rattle.sporc_play.proofs.Common.{play_line, device_text, stated_spelling, text_edit_spelling, Suffix, What, TextEdit, edit_size, what_size, decimal, encode_lower, ReadsAs, lines_of, with_byte}
 use Rattle.sporc_play.proofs.Common.{signed_spelling_of, suffix_spelling, with_suffix, Insert, Remove}
 use Rattle.sporc_play.specs.Cast.{setup_of}
 use Rattle.sporc_play.proofs.Scripts.{client_named, joiner_named, line_at, rogue_named}
 use Rattle.sporc_play.proofs.Places.{all_each}
 use Rattle.sporc_play.proofs.Reported.{scene_at}
-use Rattle.std.specs.Prelude.{encode_utf8}
 use Rattle.hex.specs.Hex.{encode_with}
-use Rattle.sporc_script.specs.Quoted.{escape, quoted}
+use Rattle.sporc_script.specs.Quoted.{quoted}
+use Rattle.sporc_script.proofs.Sizes.{all_at, behind_size, quoted_size, script_sizes}
 use Rattle.sporc_script.specs.declared.command.Command.TheVariants as commands
 use Rattle.sporc_script.specs.declared.sign.What.TheVariants as whats
 
 -- ---- the texts of a script are no longer than the script
-
--- ---- quoted texts
-
--- an ASCII character has one byte
-one_byte : (c : ℕ) → c < 128 → length (encode_utf8 c) ≤ 2
-one_byte c low = omega (arith, length-encode c, len_utf8_ascii c low)
-
-escape_size : (c : ℕ) → length (encode_utf8 c) ≤ length (escape c)
-escape_size c = go (c == 92) refl (c == 34) refl (c == 10) refl
-  where
-    go : (a : Bool) → (c == 92) ≡ a → (b : Bool) → (c == 34) ≡ b → (d : Bool) → (c == 10) ≡ d
-        → length (encode_utf8 c) ≤ length (cond a (codes "\\\\") (cond b (codes "\\\"") (cond d (codes "\\n") (encode_utf8 c))))
-    go true is b at d on = subst (λ (n : ℕ). length (encode_utf8 n) ≤ 2) (sym (eqb-true c 92 is)) (one_byte 92 (omega arith))
-    go false is true at d on = subst (λ (n : ℕ). length (encode_utf8 n) ≤ 2) (sym (eqb-true c 34 at)) (one_byte 34 (omega arith))
-    go false is false at true on = subst (λ (n : ℕ). length (encode_utf8 n) ≤ 2) (sym (eqb-true c 10 on)) (one_byte 10 (omega arith))
-    go false is false at false on = omega arith
-
-escapes_size : (text : List ℕ) → length (encode_utf8_all text) ≤ length (flat_map escape text)
-escapes_size [] = omega arith
-escapes_size (c ∷ text) =
-    omega (arith, escape_size c, escapes_size text, length-append (encode_utf8 c) (encode_utf8_all text), length-append (escape c) (flat_map escape text))
-
-quoted_size : (text : List ℕ) → length (encode_utf8_all text) ≤ length (quoted text)
-quoted_size text =
-    omega (arith, escapes_size text, length-append (codes "\"") (flat_map escape text ++ codes "\""), length-append (flat_map escape text) (codes "\""))
-
--- a part of a string is no longer
-behind_size : (xs ys : List ℕ) (n : ℕ) → n ≤ length ys → n ≤ length (xs ++ ys)
-behind_size xs ys n low = omega (arith, length-append xs ys, low)
 
 front_size : (xs ys : List ℕ) (n : ℕ) → n ≤ length xs → n ≤ length (xs ++ ys)
 front_size xs ys n low = omega (arith, length-append xs ys, low)
@@ -88,41 +59,7 @@ command_within (commands.Sign f) =
     behind_size (codes "sign ") _ n (behind_size (decimal f.member) _ n (behind_size (codes " from ") _ n (behind_size (device_text f.from) _ n (behind_size (codes " ") (signed_spelling_of f.signed.what f.signed.suffix) n (what_within f.signed.what f.signed.suffix)))))
 command_within c = omega arith
 
--- ---- lines
-
-abbrev AreWithin : ℕ → List (List ℕ) → Type 0
-AreWithin n lines = AllByRecursion (λ (l : List ℕ). length l ≤ n) lines
-
-wider : (n m : ℕ) (lines : List (List ℕ)) → n ≤ m → AreWithin n lines → AreWithin m lines
-wider n m lines low all = all_each (λ (l : List ℕ). length l ≤ n) (λ (l : List ℕ). length l ≤ m) lines (λ l is. omega (arith, low, is)) all
-
-byte_within : (b n : ℕ) (lines : List (List ℕ)) → AreWithin n lines → AreWithin (suc n) (with_byte b lines)
-byte_within b n [] all = (omega arith, tt)
-byte_within b n (l ∷ ls) all = (omega (arith, all.0), wider n (suc n) ls (omega arith) all.1)
-
-lines_within : (bytes : List ℕ) → AreWithin (length bytes) (lines_of bytes)
-lines_within [] = tt
-lines_within (b ∷ bs) = go (b == 10) (lines_within bs)
-  where
-    go : (end : Bool) → AreWithin (length bs) (lines_of bs) → AreWithin (suc (length bs)) (cond end ([] ∷ lines_of bs) (with_byte b (lines_of bs)))
-    go true all = (omega arith, wider (length bs) (suc (length bs)) (lines_of bs) (omega arith) all)
-    go false all = byte_within b (length bs) (lines_of bs) all
-
 -- ---- scripts
-
-sizes : (size : ℕ) (before : List PlayLine) (n : ℕ) (lines : List (List ℕ)) (script : List PlayLine) → ReadsAs play_line IsNext before n lines script → AreWithin size lines
-    → AllByRecursion (λ (l : PlayLine). text_size l.command ≤ size) script
-sizes size before n [] script reads all = subst (AllByRecursion (λ (l : PlayLine). text_size l.command ≤ size)) (sym reads) tt
-sizes size before n (line ∷ lines) script reads all = elim reads [
-  | inl skipped ↦ sizes size before (n + 1) lines script skipped.1 all.1
-  | inr next ↦ subst (AllByRecursion (λ (l : PlayLine). text_size l.command ≤ size)) (sym next.3) (
-    omega (arith, command_within next.0, ap length next.2.0.1, all.0),
-    sizes size (before ++ play_line n next.0 ∷ []) (n + 1) lines next.1 next.4 all.1,
-  )
-]
-
-pub script_sizes : (text : List ℕ) (script : List PlayLine) → IsPlayScript text script → AllByRecursion (λ (l : PlayLine). text_size l.command ≤ length text) script
-script_sizes text script is = sizes (length text) [] 1 (lines_of text) script is (lines_within text)
 
 line_count : (before : List PlayLine) (n : ℕ) (lines : List (List ℕ)) (script : List PlayLine) → ReadsAs play_line IsNext before n lines script → length script ≤ length lines
 line_count before n [] script reads = omega (arith, ap length reads)
@@ -277,9 +214,5 @@ next_can script state i l short low is founded stands =
     can_perform script (scene_at script i) state l.command stands
     (λ who. omega (arith, asked_at text script i who reads, low, count, within))
     (are_named script (scene_at script i) state i l.command stands line.may founded)
-    (size_at (length text) script i l (script_sizes text script reads) low is within)
-  where
-    size_at : (size : ℕ) (lines : List PlayLine) (i : ℕ) (l : PlayLine) → AllByRecursion (λ (l : PlayLine). text_size l.command ≤ size) lines → i < length lines → l ≡ get_or lines i l → size ≤ MAX_SCRIPT → text_size l.command ≤ MAX_SCRIPT
-    size_at size [] i l all low is few = absurd (omega (arith, low))
-    size_at size (x ∷ xs) zero l all low is few = omega (arith, all.0, ap (λ (y : PlayLine). text_size y.command) is, few)
-    size_at size (x ∷ xs) (suc i) l all low is few = size_at size xs i l all.1 (omega (arith, low)) is few
+    (all_at (λ (l : PlayLine). text_size l.command ≤ MAX_SCRIPT) script i l
+    (script_sizes play_line IsNext (λ (l : PlayLine). text_size l.command) (λ before line n c is. omega (arith, command_within c, ap length is.0.1)) text script MAX_SCRIPT reads within) low is)

@@ -15,6 +15,7 @@ pub mod PlainReaders
 pub mod PlayLines
 pub mod ScriptLines
 pub mod SignReaders
+pub mod Sizes
 pub mod TextLines
 pub mod TextWords
 pub mod Common

@@ -1,17 +1,20 @@
 -- The lines of an editor script: how each is spelled, and how it is read.
-use Rattle.std.specs.Prelude.{◌≡◌, ℕ, ◌==◌, Bool, true, List, [], ◌∷◌, ◌++◌, length, codes, Option}
-use Rattle.std.specs.Prelude.{option_map}
+use Rattle.std.specs.Prelude.{◌≡◌, ◌≤◌, ℕ, ◌==◌, Bool, true, List, [], ◌∷◌, ◌++◌, length, codes}
+use Rattle.std.specs.Prelude.{Option, option_map}
 use Rattle.std.specs.Fmt.{decimal}
-use Rattle.std.specs.Str.{all_scalars}
+use Rattle.std.specs.List.{AllByRecursion}
+use Rattle.std.specs.Str.{all_scalars, encode_utf8_all}
 use Rattle.hex.specs.Hex.{encode_lower}
 use Rattle.sporc_base.specs.Bytes.{IsBytes}
 use Rattle.sporc_member.specs.declared.device.LiveDevice.{LiveDevice}
 use Rattle.sporc_member.specs.declared.founder.Founder.{Founder}
 use Rattle.sporc_script.specs.declared.editor_line.EditorCommand.{EditorCommand}
 use Rattle.sporc_script.specs.declared.editor_line.EditorCommand.TheVariants as commands
+use Rattle.sporc_script.specs.declared.editor_line.EditorLine.{EditorLine}
 use Rattle.sporc_script.specs.declared.editor_line.EditorWord.{EditorWord}
 use Rattle.sporc_script.specs.declared.editor_line.EditorWord.TheVariants as words
 use Rattle.sporc_script.specs.declared.editor_line.TheConstants.{KEY_BYTES}
+use Rattle.sporc_script.specs.declared.limits.TheConstants.{MAX_SCRIPT_BYTES}
 use Rattle.sporc_script.specs.Edits.{insertion_of, removal_of}
 use Rattle.sporc_script.specs.Hex.{hex_of}
 use Rattle.sporc_script.specs.Plain.{member_device_of, member_role_of, role_of}
@@ -67,6 +70,18 @@ EditorInRange commands.Upgrade = Unit {0}
 
 abbrev pub SpellsEditor : List ℕ → EditorCommand → Type 0
 SpellsEditor bytes command = EditorInRange command × (bytes ≡ editor_spelling command)
+
+-- the bytes of the text that a line inserts
+abbrev pub inserted_bytes : EditorCommand → ℕ
+inserted_bytes (commands.Insert e) = length (encode_utf8_all e.text)
+inserted_bytes command = 0
+
+-- it inserts no more bytes than a script has at most
+abbrev pub IsShort : EditorCommand → Type 0
+IsShort command = inserted_bytes command ≤ MAX_SCRIPT_BYTES
+
+abbrev pub AreShort : List EditorLine → Type 0
+AreShort lines = AllByRecursion (λ line. IsShort line.command) lines
 
 -- ---- reading
 

@@ -3,6 +3,7 @@
 ghost use Rattle.std.specs.Prelude.{◌≡◌, ◌≤◌, ℕ, IfOk, length};
 ghost use Rattle.sporc_script.specs.declared.limits.TheConstants.{MAX_SCRIPT_BYTES};
 ghost use Rattle.sporc_script.specs.declared.lines.LineFault.TheVariants as faults;
+ghost use Rattle.sporc_script.specs.EditorLines.{AreShort};
 ghost use Rattle.sporc_script.specs.Grammar.{IsEditorFault, IsEditorScript};
 ghost use Rattle.sporc_script.specs.Reading.{IsBadEditorLine, ReadsEditorLine};
 
@@ -12,7 +13,8 @@ use crate::lines::{LineFault, is_skipped, keep, next_line};
 use std::alloc::Global;
 use std::marker::Model;
 
-/// An editor script, seen as the list of its lines that are not skipped.
+/// An editor script, seen as the list of its lines that are not skipped. None of them inserts more
+/// bytes than a script has at most.
 #[derive(Drop)]
 pub struct EditorScript {
     lines: Vec<EditorLine>,
@@ -21,16 +23,20 @@ pub struct EditorScript {
 impl Model for EditorScript {
     ghost use Rattle.std.specs.Prelude.{List};
     ghost use Rattle.sporc_script.specs.declared.editor_line.EditorLine.{EditorLine};
+    ghost use Rattle.sporc_script.specs.EditorLines.{AreShort};
 
     ghost Value = { List EditorLine };
 
     ghost view = { λ s. s.lines.items };
+
+    ghost invariant = { λ s. AreShort s.lines.items };
 }
 
 impl EditorScript {
     /// The lines that are not skipped, in order.
     pub fn lines(&self) -> &[EditorLine]
         ensures value { result.now ≡ self.now }
+        ensures short { AreShort result.now }
     {
         self.lines.as_slice()
     }

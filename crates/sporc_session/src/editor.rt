@@ -5,6 +5,7 @@ ghost use Rattle.std.specs.Result.{result_err};
 ghost use Rattle.sporc_member.specs.declared.change.Change.TheVariants.{Add, SetRole, AddDevice};
 ghost use Rattle.sporc_member.specs.declared.change.Change.TheVariants.{DropDevice};
 ghost use Rattle.sporc_script.specs.declared.editor_line.EditorCommand.TheVariants as commands;
+ghost use Rattle.sporc_script.specs.EditorLines.{AreShort, IsShort};
 ghost use Rattle.sporc_turn.specs.Passes.{known_of};
 ghost use Rattle.sporc_delta.specs.declared.limits.TheConstants.{MAX_COUNT};
 ghost use Rattle.sporc_delta.specs.Marks.{base_len, insertion, removal};
@@ -20,13 +21,13 @@ use crate::fault::SessionFault;
 use crate::receiver::{WithPass, plain};
 use sporc_base::Memory;
 use sporc_client::EditFault;
-use sporc_delta::{Delta, MAX_COUNT};
+use sporc_delta::Delta;
 use sporc_member::{Change, Device, Founder, LiveDevice};
 use sporc_outside::{Gate, LeafDisk};
 use sporc_script::{EditorCommand, EditorLine, Insertion, MemberRole, Removal};
 use sporc_shared::{Answered, Front, Look, Pass, Reply};
 use sporc_turn::Worn;
-use std::alloc::{AllocError, Global};
+use std::alloc::Global;
 use std::sync::Wait;
 
 // The fault of a session in which a line isn't done.
@@ -105,19 +106,15 @@ fn edit_at<R: Wait, D: LeafDisk, G>(
     }
 }
 
-// The delta of an insertion into a text of this length. No memory holds one of more than MAX_COUNT
-// bytes.
+// The delta of an insertion into a text of this length.
 fn inserted(alloc: Global, len: u64, asked: &Insertion) -> Result<Delta, Memory>
-    requires { len ≤ MAX_COUNT }
+    requires limit { len ≤ MAX_COUNT }
+    requires short { IsShort (commands.Insert asked.now) }
     ensures ok { IfOk result
         (λ delta. delta ≡ insertion len (min asked.now.at len) asked.now.text) }
 {
-    let text = asked.text.as_str();
-    if text.len() as u64 > MAX_COUNT {
-        return Err(AllocError);
-    }
     let at = asked.at.min(len);
-    let delta = Delta::insert_at(alloc, len, at, text)?;
+    let delta = Delta::insert_at(alloc, len, at, asked.text.as_str())?;
     Ok(delta)
 }
 
@@ -141,6 +138,7 @@ fn insert<R: Wait, D: LeafDisk, G>(
     asked: &Insertion,
 ) -> WithPass<()>
     requires lock { IsPassOf context.now.shared.now pass }
+    requires short { IsShort (commands.Insert asked.now) }
     ensures lock { IsPassOf context.now.shared.now result.1 }
     ensures counts { CountsSame (known_of pass) (known_of result.1) }
     ensures did { AskedDid (known_of pass) (known_of result.1) line
@@ -211,6 +209,7 @@ fn do_line<R: Wait, D: LeafDisk, G: Gate>(
     line: &EditorLine,
 ) -> WithPass<()>
     requires lock { IsPassOf context.now.shared.now pass }
+    requires short { IsShort line.now.command }
     ensures lock { IsPassOf context.now.shared.now result.1 }
     ensures counts { CountsSame (known_of pass) (known_of result.1) }
     ensures did { LineDid (known_of pass) (known_of result.1) line.now result.0 }
@@ -280,6 +279,7 @@ pub(crate) fn do_lines<R: Wait, D: LeafDisk, G: Gate>(
     lines: &[EditorLine],
 ) -> WithPass<()>
     requires lock { IsPassOf context.now.shared.now pass }
+    requires short { AreShort lines.now }
     ensures lock { IsPassOf context.now.shared.now result.1 }
     ensures counts { CountsSame (known_of pass) (known_of result.1) }
     ensures did { LinesDid (known_of pass) (known_of result.1) lines.now (result_err result.0) }

@@ -2,6 +2,7 @@ use Rattle.std.proofs.Common.{sym, ◌∙◌}
 use Rattle.sporc_script.proofs.Common.{editor_line}
 use Rattle.sporc_script.proofs.EditorReaders.{IsEditorNext, editor_part}
 use Rattle.sporc_script.proofs.ScriptLines.{all_read, line_read, none_read}
+use Rattle.sporc_script.proofs.Sizes.{editor_sizes}
 use Rattle.sporc_script.proofs.editor_script.read_editor.Goals as goal
 
 pub loop-rest-init : goal.loop-rest-init
@@ -16,3 +17,7 @@ loop-rest-preserved c =
 
 pub returns-clause-ok : goal.returns-clause-ok
 returns-clause-ok c = all_read (sym c.is_empty.ensures ∙ c.loop-rest-test.false) c.loop-rest.invariant
+
+pub invariant_of-result : goal.invariant_of-result
+invariant_of-result c =
+    editor_sizes c.args.text.now c.loop-rest.lines.items (all_read (sym c.is_empty.ensures ∙ c.loop-rest-test.false) c.loop-rest.invariant) c.requires.limit

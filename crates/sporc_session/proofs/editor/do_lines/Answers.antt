@@ -4,6 +4,8 @@ use Rattle.std.proofs.Math.Seq.{drop-cons, take-suc}
 use Rattle.sporc_session.proofs.Knowing.{counts_then}
 use Rattle.sporc_session.proofs.Lining.{did_all, did_err, done_none, done_push}
 use Rattle.sporc_session.proofs.Wearing.{worn_at}
+use Rattle.sporc_script.proofs.Sizes.{all_at}
+use Rattle.sporc_script.specs.EditorLines.{IsShort}
 use Rattle.sporc_session.proofs.editor.do_lines.Goals as goal
 
 pub loop-line-init : goal.loop-line-init
@@ -24,6 +26,10 @@ loop-line-preserved g c =
       counts = counts_then (known_of c.args.pass) (known_of c.loop-line.mine) k2 c.loop-line.invariant.counts c.do_line-one.ensures.counts;
       done = (did.0 ++ more.0 ∷ [], subst (λ (ls : List EditorLine). LinesDone (known_of c.args.pass) k2 ls (did.0 ++ more.0 ∷ [])) front more.1);
     }
+
+pub do_line-one-requires-clause-short : goal.do_line-one-requires-clause-short
+do_line-one-requires-clause-short g c =
+    all_at (λ (l : EditorLine). IsShort l.command) c.args.lines.now c.loop-line.line-index c.line-item.result c.requires.short c.loop-line-test.true c.line-item.is
 
 pub returns-in-Err-clause-did : goal.returns-in-Err-clause-did
 returns-in-Err-clause-did g c =
