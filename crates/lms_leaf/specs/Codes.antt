@@ -1,4 +1,4 @@
--- What a value that numbers leaves holds, as numbers beside its disk: proofs tell it apart by them.
+-- What a value that numbers leaves holds, as numbers beside its disk, which tell it apart.
 use Rattle.std.specs.Prelude.{ℕ, Bool, refl}
 use Rattle.std.specs.Coded.{Coded, code_by, coded×, coded_ℕ, coded_bool}
 use Rattle.lms_leaf.specs.Leaves.{LeavesModel}
