@@ -21,7 +21,7 @@ pub use Rattle.sporc_bytes.proofs.Fields.{IsWide, Takes, Takes-then, bind_ok, by
 pub use Rattle.sporc_bytes.proofs.Fields.{present_ok, u16_again, u16_within_again, u32_again, wide16, wide32, wide8, within_takes}
 pub use Rattle.sporc_bytes.proofs.Lists.{AreSoFar, ascending_begins, ascending_ends, ascending_goes_on, ascending_is_done}
 pub use Rattle.sporc_bytes.specs.Fields.{Reading, bytes_at, end_at, fault_as, number_at, number_within, only_if, present, ◌>>=◌}
-pub use Rattle.sporc_outside.specs.Told.{AppendsItem, AppendsItems}
+pub use Rattle.sporc_outside.specs.Told.{AppendsItem}
 pub use Rattle.sporc_member.specs.Device.{IsMember, first_device, same_device}
 pub use Rattle.sporc_member.specs.Lists.{place_among}
 pub use Rattle.sporc_member.specs.declared.device.Device.{Device}

@@ -1,35 +1,22 @@
 -- Keys that are drawn one word after another.
-use Rattle.std.proofs.Common.{◌≡◌, ℕ, suc, ◌+◌, ◌-◌, ◌<◌, ◌≤◌, List, [], ◌∷◌, ◌++◌, length, get_or, take, drop, Option, Some, None, Result, Ok, Err, refl, sym, ap, subst, ◌∙◌, append_assoc, add-one, arith, drop-cons, map}
+use Rattle.std.proofs.Common.{◌≡◌, ℕ, suc, ◌+◌, ◌-◌, ◌<◌, ◌≤◌, List, [], ◌∷◌, ◌++◌, length, get_or, take, drop, Option, Result, Ok, Err, refl, sym, ap, subst, ◌∙◌, append_assoc, add-one, arith, drop-cons, map}
 use Rattle.sporc_keys.proofs.Common.{append-nil, drop_all, length-append, length-drop, length-map, length-take, map-append, map_more, take_all, SharedKey, SharesMore, numbers_in, pairs_of, all_append}
-use Rattle.sporc_keys.proofs.Common.{AppendsItem, AppendsItems, DrawsWords, DrawsWordsUpTo}
+use Rattle.sporc_keys.proofs.Common.{AppendsItem, DrawsWords, DrawsWordsUpTo}
+use Rattle.sporc_outside.proofs.Growing.{word_drawn, words_none, words_then}
 use Rattle.sporc_keys.specs.Founding.{row}
-
-grows_then : (a b c : Option (List (List ℕ))) (xs ys : List (List ℕ)) → AppendsItems a b xs → AppendsItems b c ys → AppendsItems a c (xs ++ ys)
-grows_then None b c xs ys p q = tt
-grows_then (Some given) None c xs ys p q = absurd p
-grows_then (Some given) (Some more) None xs ys p q = absurd q
-grows_then (Some given) (Some more) (Some most) xs ys p q = q ∙ ap (λ (t : List (List ℕ)). t ++ ys) p ∙ append_assoc given xs ys
-
-grows_nothing : (a : Option (List (List ℕ))) → AppendsItems a a []
-grows_nothing None = tt
-grows_nothing (Some given) = sym (append-nil given)
-
-grows_one : (a b : Option (List (List ℕ))) (word : List ℕ) → AppendsItem a b word → AppendsItems a b (word ∷ [])
-grows_one None b word p = tt
-grows_one (Some given) b word p = p
 
 -- what was made shows no fault
 pub made_not_failed : {A E P : Type 0} {x : A} {e : E} → ◌≡◌ {A = Result A E} (Ok x) (Err e) → P
 made_not_failed is = absurd cc
 
 pub draws_nothing : (a : Option (List (List ℕ))) → DrawsWords a a []
-draws_nothing a = record { sized = tt; told = grows_nothing a }
+draws_nothing a = record { sized = tt; told = words_none a }
 
 pub draws_one : (a b : Option (List (List ℕ))) (word : List ℕ) → length word ≡ 32 → AppendsItem a b word → DrawsWords a b (word ∷ [])
-draws_one a b word len p = record { sized = (len, tt); told = grows_one a b word p }
+draws_one a b word len p = record { sized = (len, tt); told = word_drawn a b word p }
 
 pub draws_then : (a b c : Option (List (List ℕ))) (xs ys : List (List ℕ)) → DrawsWords a b xs → DrawsWords b c ys → DrawsWords a c (xs ++ ys)
-draws_then a b c xs ys p q = record { sized = all_append (λ word. length word ≡ 32) xs ys p.sized q.sized; told = grows_then a b c xs ys p.told q.told }
+draws_then a b c xs ys p q = record { sized = all_append (λ word. length word ≡ 32) xs ys p.sized q.sized; told = words_then a b c xs ys p.told q.told }
 
 pub draws_two : (a b c : Option (List (List ℕ))) (first second : List ℕ) → length first ≡ 32 → length second ≡ 32 → AppendsItem a b first → AppendsItem b c second → DrawsWords a c (first ∷ second ∷ [])
 draws_two a b c first second len_first len_second told_first told_second =

@@ -3,11 +3,12 @@ use Rattle.std.proofs.Common.{◌≡◌, ◌≤◌, ℕ, Bool, true, false, List
 use Rattle.sporc_session.proofs.Common.{Result, ⊤, result_err, append-nil, MAX_ENTRIES, Known, Pass, known_of, ToServer, Item, Past, client_of, items_of, IsLookAt, membership_of, SessionFault, Looked, LookAct}
 use Rattle.sporc_session.proofs.Common.{SendEnds, Unsent, unsent, Trace, Stand, stand, Did, DidOrStopped, Asking, Greeting, Between, Pulling, always, is_unsettled, greets, FirstPhase, SecondPhase}
 use Rattle.sporc_session.proofs.Common.{Rounds, settles, doesnt_settle, stops, Exchanged, LinkStand, spelled}
+use Rattle.sporc_outside.proofs.Growing.{words_none}
 use Rattle.sporc_wire.specs.declared.to_server.ToServer.TheVariants as to_server
 use Rattle.sporc_shared.specs.declared.look.Look.{Look}
 use Rattle.sporc_shared.specs.declared.membership.Membership.{Membership}
 use Rattle.sporc_session.specs.declared.fault.SessionFault.TheVariants as faults
-use Rattle.sporc_session.proofs.Tracing.{words_none, did_then, did_stopped, stopped_within}
+use Rattle.sporc_session.proofs.Tracing.{did_then, did_stopped, stopped_within}
 use Rattle.sporc_session.proofs.Knowing.{knows_none, seen_after}
 use Rattle.sporc_session.proofs.Stepping.{act_did, ask_stopped, look_did, look_trace}
 use Rattle.sporc_session.proofs.Telling.{Replied, Tells, worn_stopped}

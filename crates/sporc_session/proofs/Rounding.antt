@@ -4,9 +4,10 @@ use Rattle.sporc_session.proofs.Common.{Result, IfOk, IfErr, ⊤, not-true, not-
 use Rattle.sporc_session.proofs.Common.{client_of, SessionFault, Pull, Send, ServerReply, Ordered, Rejected, handed_out, reply_message, AskFails, Gathered, IsReply, taking, Stand, stand, Trace, Did}
 use Rattle.sporc_session.proofs.Common.{Stopped, TookAll, GatheredAll, SubmittedOne, DidOrStopped, Mode, Between, Pulling, Taking, Sending, Checking, Submits, Drains, Goes, pulls, drains, sends}
 use Rattle.sporc_session.proofs.Common.{rejected, plain_of, checked_of, Exchanged, LinkStand, spelled}
+use Rattle.sporc_outside.proofs.Growing.{words_none}
 use Rattle.sporc_wire.specs.declared.to_server.ToServer.TheVariants as to_server
 use Rattle.sporc_session.proofs.Knowing.{knows_none}
-use Rattle.sporc_session.proofs.Tracing.{words_none, did_then, did_stopped}
+use Rattle.sporc_session.proofs.Tracing.{did_then, did_stopped}
 use Rattle.sporc_session.proofs.Stepping.{act_did, ask_stopped, gathered_did, drained_did, gather_stopped, quiet_did, entry_did, submit_stopped, check_did, check_stopped}
 use Rattle.sporc_session.proofs.Telling.{Replied, Tells, WornAs, told}
 

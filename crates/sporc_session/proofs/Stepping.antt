@@ -7,12 +7,12 @@ use Rattle.sporc_session.proofs.Common.{Trace, KnowsMore, Cause, IsAnswer, IsTak
 use Rattle.sporc_session.proofs.Common.{Greeting, Between, Pulling, Taking, Sending, Checking, Stuck, Then, Submits, Drains, Leads, Goes, IsQuiet, asks, looks, takes, drained, is_gone, is_there}
 use Rattle.sporc_session.proofs.Common.{submits_none, submits_entry, message_due, rounds_begun, Exchanged, LinkStand, spelled}
 use Rattle.lms_leaf.specs.declared.faults.LeafFault.TheVariants as leaves
+use Rattle.sporc_outside.proofs.Growing.{words_none}
 use Rattle.sporc_wire.specs.declared.to_server.ToServer.TheVariants as to_server
 use Rattle.sporc_client.specs.declared.fault.AcceptFault.TheVariants as accepts
 use Rattle.sporc_client.specs.declared.submitted.Submitted.TheVariants as submitted
 use Rattle.sporc_session.specs.Endings.{IsBeside}
 use Rattle.sporc_session.specs.declared.fault.SessionFault.TheVariants as faults
-use Rattle.sporc_session.proofs.Tracing.{words_none}
 use Rattle.sporc_session.proofs.Exchanging.{exchanged_none}
 use Rattle.sporc_session.proofs.Knowing.{call_client, call_knows, call_later, call_point, knows_none, seen_after}
 

@@ -4,10 +4,10 @@ use Rattle.sporc_session.proofs.Common.{take_all, ◌<◌, Result, IfOk, IfSome,
 use Rattle.sporc_session.proofs.Common.{submission_added, Answered, IsCall, SubmitsAt, Item, Happened, Past, client_of, items_of, SessionFault, KnowsMore, IsWornFault, SubmitCause, SubmitGives, Submission, Drew, DrewFew}
 use Rattle.sporc_session.proofs.Common.{SubmittedOne, IsPoint, made_of, plain_of}
 use Rattle.sporc_base.specs.Outcome.{GivesUnless}
+use Rattle.sporc_outside.proofs.Growing.{word_drawn, words_none}
 use Rattle.sporc_client.specs.declared.fault.SubmitFault.TheVariants as submits
 use Rattle.sporc_client.specs.declared.submitted.Submitted.TheVariants as submitted
 use Rattle.sporc_session.specs.declared.fault.SessionFault.TheVariants as faults
-use Rattle.sporc_session.proofs.Tracing.{words_none}
 use Rattle.sporc_session.proofs.EntryLengths.{submitted_len}
 use Rattle.sporc_session.proofs.Knowing.{call_client, call_drop, call_knows, call_later, call_point, knows_none}
 use Rattle.sporc_session.proofs.Taking.{none_point}
@@ -21,13 +21,7 @@ both_put half both first second one two all put put' =
     let front : take 32 half ≡ first = ap (λ (n : ℕ). take n half) size ∙ put in
     sym (take_all (32 + length second) both (omega (arith, two, all))) ∙ put' ∙ ap (λ (l : List ℕ). l ++ second) front
 
--- one word was drawn
-word_drawn : (u v : Option (List (List ℕ))) (first : List ℕ) → AppendsItem u v first → AppendsItems u v (first ∷ [])
-word_drawn None v first one = tt
-word_drawn (Some given) None first one = one
-word_drawn (Some given) (Some more) first one = one
-
--- two words were, one after the other
+-- two words were drawn, one after the other
 words_drawn : (u v w : Option (List (List ℕ))) (first second : List ℕ) → AppendsItem u v first → AppendsItem v w second → AppendsItems u w (first ∷ second ∷ [])
 words_drawn None v w first second one two = tt
 words_drawn (Some given) None w first second one two = absurd one

@@ -1,21 +1,12 @@
 -- Traces in a row.
-use Rattle.std.proofs.Common.{◌≡◌, ℕ, ◌≤◌, Bool, List, [], ◌++◌, length, Option, Some, None, refl, sym, ap, ◌∙◌, subst, append_assoc, arith}
+use Rattle.std.proofs.Common.{◌≡◌, ℕ, ◌≤◌, Bool, List, [], ◌++◌, length, refl, sym, ap, ◌∙◌, subst, append_assoc, arith}
 use Rattle.sporc_session.proofs.Common.{Result, Ok, Err, ⊤, append-nil, AppendsItems, starts_length, ToClient, Item, SessionFault, Act, items_by, messages_by, answers_by, words_by, all_of}
 use Rattle.sporc_session.proofs.Common.{FitAll, Stand, KnowsMore, Trace, Cause, Did, Stopped, DidOrStopped, Mode, rounds_begun, Exchanged, spelled}
+use Rattle.sporc_outside.proofs.Growing.{words_none, words_then}
 use Rattle.sporc_session.specs.declared.fault.SessionFault.TheVariants as faults
 use Rattle.sporc_session.proofs.Exchanging.{exchanged_none, exchanged_then, rose_then, spelled_append}
 use Rattle.sporc_session.proofs.Fitting.{all_of_append, fit_all_later, fit_all_append, in_order_append, leads_append}
 use Rattle.sporc_session.proofs.Knowing.{knows_none, knows_then}
-
-pub words_none : (u : Option (List (List ℕ))) → AppendsItems u u []
-words_none None = tt
-words_none (Some xs) = sym (append-nil xs)
-
-pub words_then : (u v w : Option (List (List ℕ))) (a b : List (List ℕ)) → AppendsItems u v a → AppendsItems v w b → AppendsItems u w (a ++ b)
-words_then None v w a b x y = tt
-words_then (Some xs) None w a b x y = absurd x
-words_then (Some xs) (Some ys) None a b x y = y
-words_then (Some xs) (Some ys) (Some zs) a b x y = y ∙ ap (λ (t : List (List ℕ)). t ++ b) x ∙ append_assoc xs a b
 
 -- what acts in a row give, and what comes beside the last ones
 row : {X : Type 0} (f : Act → List X) (xs ys : List Act) (more : List X) → (all_of f xs ++ []) ++ (all_of f ys ++ more) ≡ all_of f (xs ++ ys) ++ more
