@@ -1,5 +1,6 @@
--- Words that are told, as they grow.
-use Rattle.std.proofs.Common.{ℕ, List, [], ◌∷◌, ◌++◌, Option, Some, None, sym, ap, ◌∙◌, append_assoc, append-nil}
+-- Words that are told and counts of faults, as they grow.
+use Rattle.std.proofs.Common.{ℕ, ◌≤◌, List, [], ◌∷◌, ◌++◌, Option, Some, None, sym, ap, ◌∙◌, append_assoc, append-nil, arith}
+use Rattle.sporc_outside.specs.Counts.{Rose}
 use Rattle.sporc_outside.specs.Told.{AppendsItem, AppendsItems}
 
 pub words_none : (u : Option (List (List ℕ))) → AppendsItems u u []
@@ -16,3 +17,6 @@ pub word_drawn : (u v : Option (List (List ℕ))) (first : List ℕ) → Appends
 word_drawn None v first one = tt
 word_drawn (Some given) None first one = one
 word_drawn (Some given) (Some more) first one = one
+
+pub rose_then : (n m k : ℕ) → n ≤ m → Rose m k → Rose n k
+rose_then n m k low rose = omega (arith, low, rose)

@@ -1,9 +1,9 @@
 -- A session goes on, or ends.
-use Rattle.std.proofs.Common.{◌≡◌, ◌≢◌, ℕ, ◌≤◌, Bool, false, List, [], ◌∷◌, ◌++◌, length, take, Option, Some, None, Result, Ok, Err, refl, ap, sym, subst, ◌∙◌, append-nil, arith, IfNone, IfSome, inl, inr}
+use Rattle.std.proofs.Common.{◌≡◌, ◌≢◌, ℕ, ◌≤◌, Bool, false, List, [], ◌∷◌, ◌++◌, length, take, Option, Some, None, Result, Ok, Err, refl, ap, sym, subst, ◌∙◌, append-nil, IfNone, IfSome, inl, inr}
 use Rattle.sporc_serve.proofs.Common.{Consumes, Appends, Consumes-trans, Appends-trans, Genesis, Known, FrameFault, ToServer, Unread, fed, next_unless, next_frame, next_read, to_server_of, Answer}
 use Rattle.sporc_serve.proofs.Common.{Close, SessionEnd, Closed, LinkEnded, LinkFault, BadFrame, Worn, Memory, Unkept, Item, bytes_of, sent_of, IsAnswered, TakesTurn, IsSendEnd, Inlet, inlet}
 use Rattle.sporc_serve.proofs.Common.{IsNextEnd, IsNext, Exchange, ServerStand, answers_of, NoneCloses, Did, ServerTrace, Broken, IsEnd, GoesOn, FirstFrame, partial, too_long, whole, first_frame}
-use Rattle.sporc_outside.specs.Counts.{Rose}
+use Rattle.sporc_outside.proofs.Growing.{rose_then}
 use Rattle.sporc_wire.specs.Messages.{next}
 use Rattle.sporc_serve.proofs.Tracing.{did_more, answer_more, trace_taken, trace_fed, trace_unanswered}
 use Rattle.std.proofs.SliceLists.{all_by_recursion_push}
@@ -31,9 +31,6 @@ next_waits {M = M} read s waits = by_fault s.fault waits
 written_as : (g : Genesis) (a b : ServerStand) (bytes : List ℕ) (xs : List Exchange) (written : Option (List ℕ)) → written ≡ b.written
     → ServerTrace g a b bytes xs → ServerTrace g a (record b { written = written }) bytes xs
 written_as g a b bytes xs written same c = subst (λ (w : Option (List ℕ)). ServerTrace g a (record b { written = w }) bytes xs) (sym same) c
-
-pub rose_before : (x y z : ℕ) → x ≤ y → Rose y z → Rose x z
-rose_before x y z le rose = omega (arith, le, rose)
 
 module _ (g : Genesis) (a b : ServerStand) (bytes : List ℕ) (xs : List Exchange) (c : ServerTrace g a b bytes xs) where
   -- nothing was taken
@@ -67,7 +64,7 @@ module _ (g : Genesis) (a b : ServerStand) (bytes : List ℕ) (xs : List Exchang
       bytes,
       xs,
       inl (record { trace = kept d.left d.faults written h.0 more same; none_left = h.2 }),
-      rose_before a.faults b.faults d.faults c.did.faults h.1,
+      rose_then a.faults b.faults d.faults c.did.faults h.1,
     ),
   )
   goes_no_further d written BadFrame h same more =
@@ -153,7 +150,7 @@ module _ (g : Genesis) (a b : ServerStand) (bytes : List ℕ) (xs : List Exchang
         bytes,
         xs ++ x ∷ [],
         inr (answers_of g false xs, answer, e.0.0, cut e.0.0 e.0.2, e.0.1),
-        rose_before a.faults b.faults faults c.did.faults e.1,
+        rose_then a.faults b.faults faults c.did.faults e.1,
       ),
     )
     goes_cut Memory e = (

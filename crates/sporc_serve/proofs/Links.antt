@@ -2,9 +2,9 @@
 use Rattle.std.proofs.Common.{◌≡◌, ◌≢◌, ℕ, suc, ◌≤◌, List, [], ◌∷◌, ◌++◌, Option, Some, None, Result, Ok, Err, refl, ap, sym, subst, ◌∙◌, append_assoc, append-nil, option_map, ◌+◌, ◌-◌, arith, inl, inr}
 use Rattle.sporc_serve.proofs.Common.{NetTold, StreamTold, Genesis, MAX_TICKETS, SessionEnd, Worn, Memory, Unkept, ServerStand, IsEnd, Visit, visit, came, handed_back, AreFrom, AreBehind, NoneUnkept}
 use Rattle.sporc_serve.proofs.Common.{TellsOf, TookLinks, with_end, AreShutBehind, AppendsItem, TakesItem, IsFalseIfTold, IsTrueIfTold, LeavesNet, ServeFault}
+use Rattle.sporc_outside.proofs.Growing.{rose_then}
 use Rattle.sporc_outside.proofs.Returning.{shut_more, shut_none}
 use Rattle.sporc_serve.specs.declared.fault.ServeFault.TheVariants as faults
-use Rattle.sporc_serve.proofs.Going.{rose_before}
 
 -- a session that ended for want of a ticket did so for want of the last
 abbrev pub IsLastTicket : SessionEnd → Type 0
@@ -25,7 +25,7 @@ tells_more : (n f0 f1 f2 : ℕ) (b a : StreamTold) (end : SessionEnd) (vs : List
 tells_more n f0 f1 f2 b a end vs (Err faults.Unkept) le h last = inr h
 tells_more n f0 f1 f2 b a Unkept vs rest le h last = inl refl
 tells_more n f0 f1 f2 b a end vs (Err (faults.Worn t)) le h last = (h.0, inr h.1)
-tells_more n f0 f1 f2 b a end vs (Err faults.ListenFault) le h last = rose_before f0 f1 f2 le h
+tells_more n f0 f1 f2 b a end vs (Err faults.ListenFault) le h last = rose_then f0 f1 f2 le h
 tells_more n f0 f1 f2 b a (Worn t) vs rest le h last = (last, inl refl)
 tells_more n f0 f1 f2 b a Memory vs rest le h last = tt
 tells_more n f0 f1 f2 b a end vs (Err faults.Memory) le h last = tt
@@ -60,7 +60,7 @@ behind_none (Some ls) = sym (append-nil ls)
 
 -- what is told where the net's count rose before too
 tells_before : (n x y z : ℕ) (vs : List Visit) (result : Result (Unit {0}) ServeFault) → x ≤ y → TellsOf n y z vs result → TellsOf n x z vs result
-tells_before n x y z vs (Err faults.ListenFault) le h = rose_before x y z le h
+tells_before n x y z vs (Err faults.ListenFault) le h = rose_then x y z le h
 tells_before n x y z vs result le h = h
 
 -- no link came

@@ -1,15 +1,12 @@
 -- Exchanges in a row.
-use Rattle.std.proofs.Common.{◌≡◌, ℕ, ◌+◌, ◌^◌, ◌<◌, ◌≤◌, List, [], ◌∷◌, ◌++◌, length, Option, Some, None, refl, sym, ap, ◌∙◌, subst, append_assoc, arith}
-use Rattle.sporc_session.proofs.Common.{append-nil, length-append, Appends, Consumes, Rose, ToClient, ToServer, Unread, HandsOut, counted_to_end, fed, next, frame, Exchanged, InboxModel, LinkStand}
+use Rattle.std.proofs.Common.{◌≡◌, ℕ, ◌+◌, ◌^◌, ◌<◌, List, [], ◌∷◌, ◌++◌, length, Option, Some, None, refl, sym, ap, ◌∙◌, subst, append_assoc, arith}
+use Rattle.sporc_session.proofs.Common.{append-nil, length-append, Appends, Consumes, ToClient, ToServer, Unread, HandsOut, counted_to_end, fed, next, frame, Exchanged, InboxModel, LinkStand}
 use Rattle.sporc_session.proofs.Common.{Received, spelled, unread_of}
 use Rattle.std.proofs.lemmas.List.Concat.{flat_map-append}
 use Rattle.std.proofs.KnownBytes.{Appends-trans, Consumes-trans}
 use Rattle.sporc_wire.specs.ToClient.{to_client_of}
 use Rattle.sporc_wire.specs.ToServer.{to_server_bytes}
 use Rattle.sporc_wire.proofs.Readings.{HandsOut-fed}
-
-pub rose_then : (n m k : ℕ) → n ≤ m → Rose m k → Rose n k
-rose_then n m k low rose = omega (arith, low, rose)
 
 pub appends_none : (u : Option (List ℕ)) → Appends u u []
 appends_none None = tt

@@ -3,13 +3,14 @@ use Rattle.std.proofs.Common.{◌≡◌, ◌≢◌, ℕ, ◌+◌, ◌≤◌, Boo
 use Rattle.sporc_session.proofs.Common.{le-ltb, append-nil, length-append, Appends, Consumes, Rose, IfErr, IfOk, if◌then◌else◌, Refusal, MAX_BODY, ToClient, ToServer, Unread, counted_to_end, framed}
 use Rattle.sporc_session.proofs.Common.{frame, SessionFault, ServerReply, Ordered, Rejected, reply_message, AskEnds, AskFails, Asks, IsReply, IsOutcomeOf, IsSilent, ReceiveEnds, SilentFor, SubmitEnds}
 use Rattle.sporc_session.proofs.Common.{Took, Unsent, silent, wrong, IsAnswer, Exchanged, InboxModel, IsLastFrom, LinkStand, more_taken, spelled, unread_of}
+use Rattle.sporc_outside.proofs.Growing.{rose_then}
 use Rattle.sporc_outside.specs.Writing.{AppendsPrefix}
 use Rattle.sporc_wire.specs.declared.fault.FrameFault.TheVariants.{TooLong}
 use Rattle.sporc_wire.specs.declared.to_client.ToClient.TheVariants as to_client
 use Rattle.sporc_wire.specs.declared.to_server.ToServer.TheVariants as to_server
 use Rattle.sporc_wire.specs.ToServer.{to_server_bytes}
 use Rattle.sporc_session.specs.declared.fault.SessionFault.TheVariants as faults
-use Rattle.sporc_session.proofs.Exchanging.{appends_none, consumes_none, exchanged_none, exchanged_then, received_nothing, rose_then}
+use Rattle.sporc_session.proofs.Exchanging.{appends_none, consumes_none, exchanged_none, exchanged_then, received_nothing}
 
 -- ---- one call
 
