@@ -159,6 +159,10 @@ within_takes low high w limit wide r x h e =
     let Q : ℕ → Type 0 = λ n. P (n, a.0.1) in
     subst P (ok_is (b.0, a.0.1) x b.2) (subst Q g.1 (t.0, leb-true low a.0.0 both.0, leb-true a.0.0 high both.1))
 
+-- a number of one byte is that byte
+pub byte_is : (n : ℕ) → n < 2 ^ 8 → to_be_bytes w8 n ≡ n ∷ []
+byte_is n small = ap (λ (x : ℕ). x ∷ []) (omega (arith, small))
+
 pub byte_takes : (low high : ℕ) (r : Reading) (x : ℕ × Reading) → high < 256 → IsBytes r.rest → number_within low high w8 r ≡ Ok x → Takes r (x.0 ∷ []) x.1 × (low ≤ x.0) × (x.0 ≤ high)
 byte_takes low high r x small h e =
     let t = within_takes low high w8 (2 ^ 8) wide8 r x h e in

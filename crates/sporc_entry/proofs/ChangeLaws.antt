@@ -4,6 +4,7 @@ use Rattle.sporc_entry.proofs.Common.{IfOk, flat_map, w8, w16, to_be_bytes, eqb-
 use Rattle.sporc_entry.proofs.Common.{bind_ok, ok_is, Takes, Takes-then, wide16, wide8, number_takes, bytes_takes, bytes_again, u8_again, u16_again, end_takes, within_takes, u16_within_again}
 use Rattle.sporc_entry.proofs.Common.{fault_as_ok, MAX_MEMBERS, HIGHEST_MEMBER, Add, Remove, SetRole, AddDevice, DropDevice, Upgrade, role_code_of, ChangeBody, Malformed, Memory, GivesUnless, ADD}
 use Rattle.sporc_entry.proofs.Common.{REMOVE, SET_ROLE, ADD_DEVICE, DROP_DEVICE, UPGRADE, wrap_bytes, IsChangeBody, has_kind}
+use Rattle.sporc_bytes.proofs.Fields.{byte_is}
 use Rattle.sporc_bytes.proofs.ListLaws.{values_take, values_again}
 use Rattle.sporc_member.specs.declared.change.Change.{Change}
 use Rattle.sporc_entry.specs.declared.fault.EntryFault.{EntryFault}
@@ -12,7 +13,7 @@ use Rattle.sporc_entry.specs.Fields.{role_at}
 use Rattle.sporc_member.specs.Device.{IsMember}
 use Rattle.sporc_entry.specs.ChangeBody.{kind_at, change_of_device, change_of_member, change_of_kind, change_at, wrap_at, change_body_at, change_body_from, kind_of, change_fields, change_bytes}
 use Rattle.sporc_entry.specs.ChangeBody.{change_body_bytes, IsChange, IsWrap}
-use Rattle.sporc_entry.proofs.FieldLaws.{Leaves, byte_is, role_takes, role_again}
+use Rattle.sporc_entry.proofs.FieldLaws.{Leaves, role_takes, role_again}
 use Rattle.sporc_entry.proofs.VersionLaws.{kind_known, kind_takes, kind_again}
 
 -- ---- changes

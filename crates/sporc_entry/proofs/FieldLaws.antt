@@ -1,6 +1,6 @@
 -- A role that is read is spelled by the byte that it took, and a spelled role is read again.
-use Rattle.std.proofs.Common.{◌≡◌, ℕ, ◌+◌, ◌<◌, ◌≤◌, ◌^◌, List, [], ◌∷◌, Ok, refl, sym, ap, subst, arith}
-use Rattle.sporc_entry.proofs.Common.{◌==◌, w8, to_be_bytes, eqb-true, IsBytes, Reading, ◌>>=◌, number_within, present, bind_ok, ok_is, present_ok, Takes, byte_takes, byte_again, role_code_of}
+use Rattle.std.proofs.Common.{◌≡◌, ℕ, ◌+◌, ◌≤◌, List, [], ◌∷◌, Ok, refl, sym, ap, subst, arith}
+use Rattle.sporc_entry.proofs.Common.{◌==◌, w8, eqb-true, IsBytes, Reading, ◌>>=◌, number_within, present, bind_ok, ok_is, present_ok, Takes, byte_takes, byte_again, role_code_of}
 use Rattle.sporc_entry.proofs.Common.{role_with_code}
 use Rattle.sporc_base.proofs.ListLemmas.{found_passes}
 pub use Rattle.sporc_bytes.proofs.Fields.{fault_as_ok}
@@ -15,10 +15,6 @@ pub record Leaves (old : Reading) (spelled : List ℕ → List ℕ) (new : Readi
 
 pub is_one : (n : ℕ) → 1 ≤ n → n ≤ 1 → n ≡ 1
 is_one n low high = omega (arith, low, high)
-
--- a number of one byte is that byte
-pub byte_is : (n : ℕ) → n < 2 ^ 8 → to_be_bytes w8 n ≡ n ∷ []
-byte_is n small = ap (λ (x : ℕ). x ∷ []) (omega (arith, small))
 
 -- ---- roles
 

@@ -2,8 +2,8 @@
 use Rattle.std.proofs.Common.{◌≡◌, ℕ, ◌+◌, ◌^◌, ◌<◌, ◌≤◌, Bool, true, false, cond, eqb, leb, List, [], ◌∷◌, ◌++◌, length, Result, Ok, refl, sym, ap, subst, ◌∙◌, arith}
 use Rattle.sporc_entry.proofs.Common.{◌&&◌, ◌||◌, w8, eqb-true, eqb-false, leb-true, and_parts, IsBytes, Reading, ◌>>=◌, number_at, only_if, bind_ok, ok_is, only_if_ok, Takes, Takes-nothing, wide8}
 use Rattle.sporc_entry.proofs.Common.{number_takes, u8_again, device_at, device_bytes, names_device, fits_version, has_kind, header_len}
+use Rattle.sporc_bytes.proofs.Fields.{byte_is}
 use Rattle.sporc_entry.specs.ChangeBody.{kind_at}
-use Rattle.sporc_entry.proofs.FieldLaws.{byte_is}
 
 -- ---- versions
 

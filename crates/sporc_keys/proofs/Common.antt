@@ -17,7 +17,7 @@ pub use Rattle.sporc_base.proofs.ListLemmas.{all_append, found_passes}
 pub use Rattle.sporc_base.specs.Bytes.{IsBytes}
 pub use Rattle.sporc_base.specs.Outcome.{GivesUnless}
 pub use Rattle.sporc_bytes.proofs.Ascending.{Ascends, ascends_below, ascends_increasing, increasing_from_zero}
-pub use Rattle.sporc_bytes.proofs.Fields.{IsWide, Takes, Takes-then, bind_ok, byte_again, byte_takes, bytes_again, bytes_takes, end_takes, fault_as_ok, number_again, number_takes, ok_is, only_if_ok}
+pub use Rattle.sporc_bytes.proofs.Fields.{IsWide, Takes, Takes-then, bind_ok, byte_again, byte_is, byte_takes, bytes_again, bytes_takes, end_takes, fault_as_ok, number_again, number_takes, ok_is, only_if_ok}
 pub use Rattle.sporc_bytes.proofs.Fields.{present_ok, u16_again, u16_within_again, u32_again, wide16, wide32, wide8, within_takes}
 pub use Rattle.sporc_bytes.proofs.Lists.{AreSoFar, ascending_begins, ascending_ends, ascending_goes_on, ascending_is_done}
 pub use Rattle.sporc_bytes.specs.Fields.{Reading, bytes_at, end_at, fault_as, number_at, number_within, only_if, present, ◌>>=◌}
@@ -27,7 +27,7 @@ pub use Rattle.sporc_member.specs.Lists.{place_among}
 pub use Rattle.sporc_member.specs.declared.device.Device.{Device}
 pub use Rattle.sporc_member.specs.declared.device.TheConstants.{FIRST_DEVICE}
 pub use Rattle.sporc_member.specs.declared.limits.TheConstants.{MAX_MEMBERS}
-pub use Rattle.sporc_entry.proofs.FieldLaws.{Leaves, byte_is}
+pub use Rattle.sporc_entry.proofs.FieldLaws.{Leaves}
 pub use Rattle.sporc_keys.specs.Drawn.{DrawsWords, DrawsWordsUpTo}
 pub use Rattle.sporc_keys.specs.Fields.{whole}
 pub use Rattle.sporc_keys.specs.Founding.{IsKnownKey, SharesMore, epoch_key_of, founders_in, genesis_of, in_order, insert_named, number_of, numbers_in, numbers_of, pair_keys_of, pairs_of, ring_of}

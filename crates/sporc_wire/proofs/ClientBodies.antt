@@ -4,10 +4,10 @@ use Rattle.sporc_wire.proofs.Common.{present_ok, eqb-true, append-nil, flat_map,
 use Rattle.sporc_wire.proofs.Common.{Entries, Empty, to_client_bytes, bind_ok, ok_is, Takes, Takes-then, Takes-nothing, wide8, wide32, number_takes, u8_again, u32_again, counted_takes, counted_again}
 use Rattle.sporc_wire.proofs.Common.{end_takes, byte_takes, byte_again, refusal_code_of, ORDERED, REJECTED, ENTRIES, EMPTY, MAX_PULLED, MAX_CODE, refusal_detail_of, refusal_with}
 use Rattle.std.proofs.lemmas.List.Concat.{flat_map-cons}
+use Rattle.sporc_bytes.proofs.Fields.{byte_is}
 use Rattle.sporc_bytes.specs.Fields.{values_at}
 use Rattle.sporc_wire.specs.declared.to_client.ToClient.{ToClient}
 use Rattle.sporc_wire.specs.ToClient.{ordered_at, rejected_at, entries_at, empty_at, to_client_of_kind, to_client_of, IsToClient}
-use Rattle.sporc_wire.proofs.ServerBodies.{byte_is}
 use Rattle.sporc_wire.proofs.RefusalNumbers.{refusal_takes, refusal_again, code_within}
 
 -- the message was read from bytes that are these

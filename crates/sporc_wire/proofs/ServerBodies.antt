@@ -1,7 +1,8 @@
 -- A message to a server that is read is spelled so, and one that is spelled so is read again.
-use Rattle.std.proofs.Common.{◌≡◌, ℕ, ◌^◌, ◌<◌, Bool, true, false, cond, eqb, List, [], ◌∷◌, ◌++◌, Ok, Err, refl, sym, ap, ◌∙◌, subst, arith}
+use Rattle.std.proofs.Common.{◌≡◌, ℕ, ◌^◌, Bool, true, false, cond, eqb, List, [], ◌∷◌, ◌++◌, Ok, Err, refl, sym, ap, ◌∙◌, subst, arith}
 use Rattle.sporc_wire.proofs.Common.{eqb-true, append-nil, w8, w16, w32, to_be_bytes, IsBytes, Reading, number_at, to_server_bytes, bind_ok, ok_is, wide8, wide16, wide32, number_takes, bytes_takes}
 use Rattle.sporc_wire.proofs.Common.{bytes_again, u8_again, u16_again, u32_again, end_takes, Hello, Submit, Pull}
+use Rattle.sporc_bytes.proofs.Fields.{byte_is}
 use Rattle.sporc_wire.specs.declared.to_server.ToServer.{ToServer}
 use Rattle.sporc_wire.specs.declared.to_server.TheConstants.{HELLO, SUBMIT, PULL}
 use Rattle.sporc_wire.specs.ToServer.{hello_at, pull_at, to_server_of_kind, to_server_of, IsToServer}
@@ -45,9 +46,6 @@ kind_takes kind r m h e = go (eqb kind HELLO) (eqb kind SUBMIT) (eqb kind PULL) 
     go false true c p q s e = at_kind SUBMIT q (subst (IsSpelled SUBMIT r.rest) (ok_is (Submit r.rest) m e) (tt, refl))
     go false false true p q s e = at_kind PULL s (pull_takes r m h e)
     go false false false p q s e = absurd cc
-
-pub byte_is : (n : ℕ) → n < 2 ^ 8 → to_be_bytes w8 n ≡ n ∷ []
-byte_is n small = ap (λ (x : ℕ). x ∷ []) (omega (arith, small))
 
 pub to_server_takes : (body : List ℕ) (m : ToServer) → IsBytes body → to_server_of body ≡ Ok m → IsToServer m × (body ≡ to_server_bytes m)
 unfolding to_server_of
