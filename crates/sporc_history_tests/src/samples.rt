@@ -1,7 +1,7 @@
 //! Sample histories, each in a box: a function that owns a history itself is slow to prove.
 
 use sporc_member::Change;
-use sporc_samples::{Cast, History, insertion, short_history};
+use sporc_samples::{Cast, History, short_history};
 use std::alloc::Global;
 use std::process::Abort;
 
@@ -24,9 +24,6 @@ pub(crate) fn upgraded_sample(rt: &impl Abort, alloc: Global, cast: &Cast) -> Bo
     sample
         .change(alloc, cast, 1, Change::Upgrade, &[1, 2, 3, 5])
         .expect(rt, "a change");
-    let delta = insertion(alloc, 4, b"e").expect(rt, "memory");
-    sample
-        .edit(alloc, cast, 5, delta.as_slice())
-        .expect(rt, "an edit");
+    sample.insert(alloc, cast, 5, 4, b"e").expect(rt, "an edit");
     sample
 }

@@ -1,6 +1,5 @@
 //! A short history.
 
-use crate::bodies::insertion;
 use crate::cast::Cast;
 use crate::fault::SampleFault;
 use crate::history::History;
@@ -17,21 +16,8 @@ pub fn short_history(alloc: Global, cast: &Cast) -> Result<History, SampleFault>
 }
 
 fn append_four(alloc: Global, cast: &Cast, sample: &mut History) -> Result<(), SampleFault> {
-    append_insertion(alloc, cast, sample, 2, 0, b"ab")?;
-    append_insertion(alloc, cast, sample, 4, 2, b"c")?;
+    sample.insert(alloc, cast, 2, 0, b"ab")?;
+    sample.insert(alloc, cast, 4, 2, b"c")?;
     sample.change(alloc, cast, 1, Change::Remove { member: 4 }, &[1, 2, 3, 5])?;
-    append_insertion(alloc, cast, sample, 5, 3, b"d")
-}
-
-// Appends an author's insertion of a text behind so many characters.
-fn append_insertion(
-    alloc: Global,
-    cast: &Cast,
-    sample: &mut History,
-    author: u16,
-    keep: u64,
-    text: &[u8],
-) -> Result<(), SampleFault> {
-    let delta = insertion(alloc, keep, text)?;
-    sample.edit(alloc, cast, author, delta.as_slice())
+    sample.insert(alloc, cast, 5, 3, b"d")
 }

@@ -2,7 +2,7 @@
 
 ghost use Rattle.sporc_entry.specs.Genesis.{IsGenesis};
 
-use crate::bodies::{change_body, edit_body};
+use crate::bodies::{change_body, edit_body, insertion};
 use crate::cast::{Cast, DOCUMENT};
 use crate::draft::Draft;
 use crate::fault::SampleFault;
@@ -85,6 +85,19 @@ impl History {
         delta: &[u8],
     ) -> Result<(), SampleFault> {
         self.edit_by(alloc, cast.member(author)?, delta)
+    }
+
+    /// Appends an edit by an author's first device, which inserts a text behind so many characters.
+    pub fn insert(
+        &mut self,
+        alloc: Global,
+        cast: &Cast,
+        author: u16,
+        keep: u64,
+        text: &[u8],
+    ) -> Result<(), SampleFault> {
+        let delta = insertion(alloc, keep, text)?;
+        self.edit(alloc, cast, author, delta.as_slice())
     }
 
     /// Appends an edit by the device that these keys are of.

@@ -13,7 +13,7 @@
 //! ```text
 //! let cast = Cast::new(alloc)?;
 //! let mut sample = History::new(alloc, &cast.genesis(alloc)?)?;
-//! sample.edit(alloc, &cast, 2, insertion(alloc, 0, b"hi")?.as_slice())?;
+//! sample.insert(alloc, &cast, 2, 0, b"hi")?;
 //! let mut draft = Draft::new(sample.header(2, EDIT));
 //! draft.header.number += 1;                        // no check but that of the number fails
 //! let bytes = draft.signed(alloc, cast.member(2)?, body)?;

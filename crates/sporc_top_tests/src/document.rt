@@ -5,7 +5,7 @@ use crate::place::named;
 use sporc_entry::write_genesis;
 use sporc_head::MAX_ENTRIES;
 use sporc_outside::NamedFile;
-use sporc_samples::{Cast, DOCUMENT, History, epoch_key, insertion};
+use sporc_samples::{Cast, DOCUMENT, History, epoch_key};
 use sporc_store::save;
 use std::alloc::Global;
 use std::process::Abort;
@@ -39,9 +39,8 @@ fn add_entry(
     author: u16,
     place: u32,
 ) {
-    let delta = insertion(alloc, u64::from(place), b"a").expect(rt, "memory");
     sample
-        .edit(alloc, cast, author, delta.as_slice())
+        .insert(alloc, cast, author, u64::from(place), b"a")
         .expect(rt, "an entry");
 }
 

@@ -10,7 +10,7 @@ use sporc_head::Refusal;
 use sporc_line::Line;
 use sporc_member::{Change, FIRST_DEVICE, Role};
 use sporc_outside::{Gate, OpenGate};
-use sporc_samples::{Cast, History, epoch_key, insertion, pair_key, short_history};
+use sporc_samples::{Cast, History, epoch_key, pair_key, short_history};
 use sporc_store::{Stop, load_many};
 use std::alloc::Global;
 use std::process::Abort;
@@ -142,9 +142,8 @@ fn changed<R: Threads + Wait + Sync + Abort>(rt: &R, alloc: Global, cast: &Cast)
     sample
         .change(alloc, cast, 1, add, &[1, 2, 3, 5, 6])
         .expect(rt, "a change");
-    let edit = insertion(alloc, 4, b"e").expect(rt, "memory");
     sample
-        .edit(alloc, cast, 5, edit.as_slice())
+        .insert(alloc, cast, 5, 4, b"e")
         .expect(rt, "an entry");
     let file = history_file(rt, alloc, sample.entries());
     drop(sample);

@@ -9,7 +9,7 @@ use sporc_files::Fault;
 use sporc_member::Device;
 use sporc_memory::MemorySink;
 use sporc_outside::OpenGate;
-use sporc_samples::{Cast, History, insertion};
+use sporc_samples::{Cast, History};
 use sporc_words::{EntriesFrom, TextAt, Word};
 use std::alloc::Global;
 use std::process::Abort;
@@ -39,9 +39,8 @@ fn add_edit(
     keep: u64,
     text: &str,
 ) {
-    let delta = insertion(alloc, keep, text.as_bytes()).expect(rt, "memory");
     sample
-        .edit(alloc, cast, 2, delta.as_slice())
+        .insert(alloc, cast, 2, keep, text.as_bytes())
         .expect(rt, "an entry");
 }
 

@@ -7,7 +7,7 @@ use sporc_epoch::{Pairs, Ring};
 use sporc_head::Refusal;
 use sporc_line::Line;
 use sporc_member::{Change, FIRST_DEVICE};
-use sporc_samples::{Cast, History, Member, epoch_key, insertion, pair_key};
+use sporc_samples::{Cast, History, Member, epoch_key, pair_key};
 use std::alloc::Global;
 use std::process::Abort;
 
@@ -67,9 +67,8 @@ pub(crate) fn insert(
     keep: u64,
     text: &[u8],
 ) {
-    let delta = insertion(alloc, keep, text).expect(rt, "memory");
     sample
-        .edit(alloc, cast, author, delta.as_slice())
+        .insert(alloc, cast, author, keep, text)
         .expect(rt, "an entry");
 }
 

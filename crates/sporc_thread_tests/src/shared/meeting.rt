@@ -4,7 +4,7 @@ use crate::checks::{check, check_text};
 use crate::shared::scene::one_entry;
 use crate::shared::staging::{FRESH, Outcome, Wanted, Work, held, scripts};
 use sporc_outside::Gate;
-use sporc_samples::{Cast, History, insertion};
+use sporc_samples::{Cast, History};
 use std::alloc::Global;
 use std::process::Abort;
 use std::sync::Wait;
@@ -71,9 +71,8 @@ impl Gate for Meeting {
 // Two entries of another member.
 fn two_entries(rt: &impl Abort, alloc: Global, cast: &Cast) -> Box<History> {
     let mut sample = one_entry(rt, alloc, cast, b"ab");
-    let edit = insertion(alloc, 2, b"c").expect(rt, "memory");
     sample
-        .edit(alloc, cast, 2, edit.as_slice())
+        .insert(alloc, cast, 2, 2, b"c")
         .expect(rt, "an entry");
     sample
 }

@@ -14,7 +14,7 @@ use sporc_head::MAX_ENTRIES;
 use sporc_member::FIRST_DEVICE;
 use sporc_memory::MemoryDisk;
 use sporc_outside::LeafDisk;
-use sporc_samples::{Cast, History, epoch_key, insertion};
+use sporc_samples::{Cast, History, epoch_key};
 use std::alloc::Global;
 use std::process::Abort;
 
@@ -187,9 +187,8 @@ pub(crate) fn lived(
 /// A history of one entry, by which member 2 inserts a text.
 pub(crate) fn one_entry(rt: &impl Abort, alloc: Global, cast: &Cast, text: &[u8]) -> Box<History> {
     let mut sample = empty_history(rt, alloc, cast);
-    let edit = insertion(alloc, 0, text).expect(rt, "memory");
     sample
-        .edit(alloc, cast, 2, edit.as_slice())
+        .insert(alloc, cast, 2, 0, text)
         .expect(rt, "an entry");
     sample
 }
