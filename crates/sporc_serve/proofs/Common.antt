@@ -32,7 +32,7 @@ pub use Rattle.sporc_entry.specs.declared.genesis.Genesis.{Genesis}
 pub use Rattle.sporc_head.specs.HeadChecks.{head_fault}
 pub use Rattle.sporc_head.specs.declared.refusal.Refusal.{Refusal}
 pub use Rattle.sporc_serve.specs.Crowds.{IsCrowd, LeavesNet}
-pub use Rattle.sporc_serve.specs.Endings.{Inlet, ReadsFirst, IsNext, IsNextEnd, IsSendEnd, TakesMessage, Waits, inlet, inlet_at}
+pub use Rattle.sporc_serve.specs.Endings.{Inlet, IsNext, IsNextEnd, IsSendEnd, ReadsFirst, TakesMessage, Waits, inlet, inlet_at}
 pub use Rattle.sporc_serve.specs.Logs.{IsLogOf, OfDocument, added_of, by_of, entries_in, if_answered, log_of, order_at, placed, placed_by, unless_refused}
 pub use Rattle.sporc_serve.specs.Sending.{CanBeSent, bytes_of, sent_of}
 pub use Rattle.sporc_serve.specs.Traces.{Broken, Carries, Did, Exchange, GoesOn, Grows, IsEnd, Leads, NoneCloses, ServerStand, ServerTrace, answers_of, entries_of, greeted_after, messages_of, stand}
