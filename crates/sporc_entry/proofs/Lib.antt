@@ -1,6 +1,7 @@
 pub mod FieldLaws
 pub mod VersionLaws
 pub mod ChangeLaws
+pub mod Changes
 pub mod BodyLengths
 pub mod EntryLaws
 pub mod GenesisLaws

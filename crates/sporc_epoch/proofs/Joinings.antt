@@ -7,6 +7,7 @@ use Rattle.std.proofs.Math.Seq.{drop-cons}
 use Rattle.std.proofs.lemmas.Bool.{and_parts, ltb-true}
 use Rattle.std.proofs.lemmas.List.Elements.{filter_map-append}
 use Rattle.std.proofs.lemmas.List.Folds.{find-append}
+use Rattle.sporc_entry.proofs.Changes.{changes_push}
 use Rattle.sporc_entry.specs.declared.committed.CommittedChange.{CommittedChange}
 use Rattle.sporc_epoch.specs.declared.streams.TheConstants.{MAX_EPOCH}
 
@@ -15,15 +16,11 @@ pub record Scanned (me : ℕ) (entries : List (List ℕ)) (starts : List EpochSt
   pub told : starts ≡ map start_by (changes entries)
   pub none : joining me (changes entries) ≡ None
 
-changes-push : (entries : List (List ℕ)) (bytes : List ℕ) (o : Option CommittedChange) → change_in bytes ≡ o → changes (entries ++ bytes ∷ []) ≡ changes entries ++ cons_option o []
-changes-push entries bytes o h =
-    filter_map-append change_in entries (bytes ∷ []) ∙ ap (λ (o : Option CommittedChange). changes entries ++ cons_option o []) h
-
 -- an entry that is no change
 pub scanned_other : (me : ℕ) (entries : List (List ℕ)) (starts : List EpochStart) (bytes : List ℕ) → Scanned me entries starts → change_in bytes ≡ None
     → Scanned me (entries ++ bytes ∷ []) starts
 scanned_other me entries starts bytes s h =
-    let same : changes (entries ++ bytes ∷ []) ≡ changes entries = changes-push entries bytes None h ∙ append-nil (changes entries) in
+    let same : changes (entries ++ bytes ∷ []) ≡ changes entries = changes_push entries bytes None h ∙ append-nil (changes entries) in
     record {
       told = s.told ∙ ap (map start_by) (sym same);
       none = ap (joining me) same ∙ s.none;
@@ -33,7 +30,7 @@ scanned_other me entries starts bytes s h =
 pub scanned_change : (me : ℕ) (entries : List (List ℕ)) (starts : List EpochStart) (bytes : List ℕ) (c : CommittedChange) → Scanned me entries starts
     → change_in bytes ≡ Some c → joins me c ≡ false → Scanned me (entries ++ bytes ∷ []) (starts ++ start_by c ∷ [])
 scanned_change me entries starts bytes c s h other =
-    let same : changes (entries ++ bytes ∷ []) ≡ changes entries ++ c ∷ [] = changes-push entries bytes (Some c) h in
+    let same : changes (entries ++ bytes ∷ []) ≡ changes entries ++ c ∷ [] = changes_push entries bytes (Some c) h in
     record {
       told = ap (λ (ss : List EpochStart). ss ++ start_by c ∷ []) s.told ∙ sym (map-append start_by (changes entries) (c ∷ [])) ∙ ap (map start_by) (sym same);
       none = ap (joining me) same ∙ find-append (joins me) (changes entries) (c ∷ [])

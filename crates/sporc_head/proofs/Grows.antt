@@ -4,11 +4,11 @@ use Rattle.sporc_head.proofs.Common.{cond, is_some, ◌||◌, count_by, fold, ma
 use Rattle.sporc_head.proofs.Common.{Entry, ChangeBody, Genesis, author_device, entry_of, change_of, genesis_bytes, CommittedChange, changes, change_read, committed_by, is_read_by, epoch_of, roster_of}
 use Rattle.sporc_head.proofs.Common.{last_from, count_of, hash_of, is_removed}
 use Rattle.std.specs.List.{cons_option, list_any}
-use Rattle.std.proofs.lemmas.List.Elements.{filter_map-append}
 use Rattle.std.proofs.lemmas.List.Folds.{list_any-append}
 use Rattle.std.proofs.lemmas.List.Sums.{count_by-le-length}
 use Rattle.sporc_hash.specs.Chain.{chain_after, value_after, chain}
 use Rattle.sporc_hash.proofs.ChainLemmas.{chain_push, length-chain_after}
+use Rattle.sporc_entry.proofs.Changes.{changes_push}
 use Rattle.sporc_head.specs.History.{change_in, is_by}
 
 -- ---- the chain
@@ -56,9 +56,6 @@ pub count_le : (d : Device) (entries : List (List ℕ)) → count_of d entries �
 count_le d entries = count_by-le-length (is_by d) entries
 
 -- ---- changes
-
-pub changes_push : (entries : List (List ℕ)) (b : List ℕ) (o : Option CommittedChange) → change_in b ≡ o → changes (entries ++ b ∷ []) ≡ changes entries ++ cons_option o []
-changes_push entries b o e = filter_map-append change_in entries (b ∷ []) ∙ ap (λ (o : Option CommittedChange). changes entries ++ cons_option o []) e
 
 pub epoch_push : (entries : List (List ℕ)) (b : List ℕ) (o : Option CommittedChange) → change_in b ≡ o → epoch_of (entries ++ b ∷ []) ≡ cond (is_some o) (epoch_of entries + 1) (epoch_of entries)
 epoch_push entries b o e = ap length (changes_push entries b o e) ∙ length-append (changes entries) (cons_option o []) ∙ one o

@@ -23,6 +23,7 @@ pub use Rattle.sporc_delta.specs.declared.fault.DeltaFault.{DeltaFault}
 pub use Rattle.sporc_member.proofs.Checks.{holds, passes}
 pub use Rattle.sporc_member.specs.Roster.{Roster, after_change, key_of, member_at, numbers_of, removes, roster_after}
 pub use Rattle.sporc_member.specs.declared.device.Device.{Device}
+pub use Rattle.sporc_entry.proofs.Changes.{changes_push}
 pub use Rattle.sporc_entry.specs.Entry.{author_device, body_limit, body_read, change_of, entry_of, header_at, signed_string}
 pub use Rattle.sporc_entry.specs.Version.{version_of}
 pub use Rattle.sporc_entry.specs.declared.change.ChangeBody.{ChangeBody}
@@ -31,7 +32,7 @@ pub use Rattle.sporc_entry.specs.declared.genesis.Genesis.{Genesis}
 pub use Rattle.sporc_entry.specs.declared.limits.TheConstants.{MAX_EDIT_BODY, MAX_SIGNATURE}
 pub use Rattle.sporc_epoch.specs.Streams.{stream_of}
 pub use Rattle.sporc_head.proofs.ChecksPass.{first_of-none, first_of-some}
-pub use Rattle.sporc_head.proofs.Grows.{change_in_read, changes_push, epoch_le, removed_push, removes_in, roster_change}
+pub use Rattle.sporc_head.proofs.Grows.{change_in_read, epoch_le, removed_push, removes_in, roster_change}
 pub use Rattle.sporc_head.proofs.OnceChecked.{ok_of, unless_exit}
 pub use Rattle.sporc_head.specs.CheckedModel.{CheckedModel}
 pub use Rattle.sporc_head.specs.HeadChecks.{author_checks, fault_read, head_fault, history_checks, place_checks, roster_checks}
