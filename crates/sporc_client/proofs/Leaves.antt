@@ -5,34 +5,28 @@ use Rattle.sporc_client.proofs.Common.{slice_get, cons_option, Rise, StandOnce, 
 use Rattle.sporc_client.proofs.Common.{LeafFault, SignerModel, LineModel, client_model, plain_of, ClientInvariant, AreInOrder, ClientModel, state_of, IsDraw, MayDraw, at_hand, drawn}
 use Rattle.sporc_client.proofs.Common.{leaf_for, PlainClient, WorkspaceModel, AreUses, IsReopening, LeafSupply, LeafUse, Uses, leaves_used, filter_map-append, first_leaf_of, kept_count}
 use Rattle.sporc_client.proofs.Common.{leaf_in, leaves_of, Logged, Submit, Opening, submission_added, SubmitFault, IsUse, leaf_given, supply_of, Submitted}
+use Rattle.sporc_bytes.proofs.Ascending.{Ascends, ascends_below}
 use Rattle.sporc_outside.specs.LeafDisk.{DiskTold}
 use Rattle.lms_leaf.specs.declared.faults.LeafFault.TheVariants.{Exhausted, DiskFault}
 use Rattle.sporc_client.specs.declared.submitted.Submitted.TheVariants as submitted
 
--- numbers of which each is above all before it, from the first on
-abbrev Climb : ℕ → List ℕ → Type 0
-Climb first [] = Unit {0}
-Climb first (n ∷ ns) = (first ≤ n) × Climb (n + 1) ns
+-- ---- numbers in ascending order
 
-climb_from : (first : ℕ) (ns : List ℕ) (i n : ℕ) → Climb first ns → slice_get ns i ≡ Some n → first ≤ n
+climb_from : (first : ℕ) (ns : List ℕ) (i n : ℕ) → Ascends first ns → slice_get ns i ≡ Some n → first ≤ n
 climb_from first [] i n climb at = absurd cc
 climb_from first (m ∷ ns) zero n climb at = let same : m ≡ n = cc in omega (arith, climb.0, same)
 climb_from first (m ∷ ns) (suc i) n climb at = omega (arith, climb.0, climb_from (m + 1) ns i n climb.1 at)
 
-climb_once : (first : ℕ) (ns : List ℕ) (i j n : ℕ) → Climb first ns → slice_get ns i ≡ Some n → slice_get ns j ≡ Some n → i ≡ j
+climb_once : (first : ℕ) (ns : List ℕ) (i j n : ℕ) → Ascends first ns → slice_get ns i ≡ Some n → slice_get ns j ≡ Some n → i ≡ j
 climb_once first [] i j n climb at at' = absurd cc
 climb_once first (m ∷ ns) zero zero n climb at at' = refl
 climb_once first (m ∷ ns) zero (suc j) n climb at at' = let same : m ≡ n = cc in absurd (omega (arith, same, climb_from (m + 1) ns j n climb.1 at'))
 climb_once first (m ∷ ns) (suc i) zero n climb at at' = let same : m ≡ n = cc in absurd (omega (arith, same, climb_from (m + 1) ns i n climb.1 at))
 climb_once first (m ∷ ns) (suc i) (suc j) n climb at at' = ap suc (climb_once (m + 1) ns i j n climb.1 at at')
 
-climb_lower : (first lower : ℕ) (ns : List ℕ) → Climb first ns → lower ≤ first → Climb lower ns
-climb_lower first lower [] climb le = tt
-climb_lower first lower (n ∷ ns) climb le = (omega (arith, climb.0, le), climb.1)
-
 -- ---- those of a log
 
-rise_climbs : (first end : ℕ) (ns : List ℕ) → Rise first end ns → Climb first ns
+rise_climbs : (first end : ℕ) (ns : List ℕ) → Rise first end ns → Ascends first ns
 rise_climbs first end [] rise = tt
 rise_climbs first end (n ∷ ns) rise = (rise.0, rise_climbs (n + 1) end ns rise.2)
 
@@ -80,11 +74,11 @@ unfolding least
 opening_goes s call was is =
     rw is.none (record { drawn = rw is.given_up tt; rises = rw is.given_up (omega (arith, is.forward, least-le s.ticket s.next was)) })
 
-climb_on : (leaf : Option ℕ) (low high : ℕ) (ns : List ℕ) → Rises low leaf high → Climb high ns → Climb low (cons_option leaf ns)
-climb_on (Some leaf) low high ns rises climb = (rises.0, climb_lower high (leaf + 1) ns climb (omega (arith, rises.1)))
-climb_on None low high ns rises climb = climb_lower high low ns climb rises
+climb_on : (leaf : Option ℕ) (low high : ℕ) (ns : List ℕ) → Rises low leaf high → Ascends high ns → Ascends low (cons_option leaf ns)
+climb_on (Some leaf) low high ns rises climb = (rises.0, ascends_below (leaf + 1) high ns (omega (arith, rises.1)) climb)
+climb_on None low high ns rises climb = ascends_below low high ns rises climb
 
-uses_climb : (s : LeafSupply) (uses : List LeafUse) → AreUses s uses → WasDrawn s.ticket s.next → Climb (least s.ticket s.next) (leaves_used uses)
+uses_climb : (s : LeafSupply) (uses : List LeafUse) → AreUses s uses → WasDrawn s.ticket s.next → Ascends (least s.ticket s.next) (leaves_used uses)
 uses_climb s [] are was = tt
 uses_climb s (call ∷ uses) are was =
     let goes : Goes s.ticket s.next call.leaf call.after = elim (are.0) [
