@@ -1,5 +1,6 @@
 pub mod Rebased
 pub mod Shown
+pub mod ShownCounts
 pub mod Soundness
 pub mod Small
 pub mod Checked

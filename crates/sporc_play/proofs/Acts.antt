@@ -19,7 +19,8 @@ use Rattle.sporc_play.specs.Scene.{gives}
 use Rattle.sporc_play.proofs.ByteClients.{AreBytes, bytes_take, is_bytes, IsByteChange, IsByteEvent, IsByteMove}
 use Rattle.sporc_play.proofs.MadeBytes.{key_bytes, own_key_len}
 use Rattle.sporc_play.proofs.Places.{at_place}
-use Rattle.sporc_play.proofs.ShortTexts.{short_texts_of, shown_count}
+use Rattle.sporc_client.proofs.ShownCounts.{shown_count}
+use Rattle.sporc_play.proofs.ShortTexts.{short_texts_of}
 use Rattle.sporc_play.proofs.Runs.{HasCome, MayAct, MayBe}
 use Rattle.sporc_play.proofs.Seating.{if_open_has}
 

@@ -94,7 +94,7 @@ pub use Rattle.sporc_client.specs.Calls.{mover_of}
 pub use Rattle.sporc_client.specs.ClientModel.{ClientModel, state_of}
 pub use Rattle.sporc_client.specs.Entries.{Chosen, bytes_made, current_key}
 pub use Rattle.sporc_client.specs.Genuine.{Genuine}
-pub use Rattle.sporc_client.specs.Log.{Accept, Change, Discard, Dropped, Edit, Logged, Submit, entries_by, journal_from, journal_of}
+pub use Rattle.sporc_client.specs.Log.{Accept, Change, Discard, Dropped, Edit, Logged, Submit, journal_of}
 pub use Rattle.sporc_client.specs.PlainClient.{Opening, PlainClient, committed_of, line_of, me_of, opened, shown_after, shown_of}
 pub use Rattle.sporc_client.specs.Rebasing.{beyond, rebased}
 pub use Rattle.sporc_client.specs.Run.{Give, Happen, IsAt, IsRun, May, Move, Open, Restart, Restart as GoesBack, Setup, World, after as after_move, after_all, given, opening_of, start}

@@ -1,11 +1,11 @@
 -- No text that a client has shown is long: an edit adds few characters, entries that come add few in all, and giving up
 -- goes back to the committed text.
-use Rattle.std.proofs.Common.{◌≡◌, ℕ, zero, suc, ◌+◌, ◌*◌, ◌^◌, ◌≤◌, Bool, true, false, cond, List, [], ◌∷◌, ◌++◌, length, take, drop, refl, sym, ap, ◌∙◌, subst, arith, add-zero, zero-add}
-use Rattle.std.proofs.Common.{length-append, Option, append_assoc, append-nil, Result, Ok, Err, IfOk}
+use Rattle.std.proofs.Common.{◌≡◌, ℕ, zero, suc, ◌+◌, ◌*◌, ◌^◌, ◌≤◌, Bool, true, false, cond, List, [], ◌∷◌, ◌++◌, length, take, drop, sym, ap, ◌∙◌, subst, arith, add-zero, zero-add}
+use Rattle.std.proofs.Common.{length-append, Option, Result, Ok, Err, IfOk}
 use Rattle.sporc_play.proofs.Common.{is_some, and_parts, take-append-le, take_all, fold-append, MAX_COUNT, Mark, apply, base_len, remove_marks, inserted_len, insert_marks, out_len}
 use Rattle.sporc_play.proofs.Common.{replacement, keep_marks, Genesis, change_in, Good, Meets, epoch_key, Kit, MAX_EDIT_BYTES, MAX_EVENTS, Event, ClientModel, state_of, Logged, Edit}
 use Rattle.sporc_play.proofs.Common.{Accept, Discard, Opening, PlainClient, committed_of, opened, shown_after, shown_of, change_comes, edit_comes, form_coming, is_flight, keeps, own_comes}
-use Rattle.sporc_play.proofs.Common.{replay_from, restated, step, replay_opening, added, entries_by, journal_from, journal_of, accepted, forms_of, next_form, text_after, beyond, IsSound}
+use Rattle.sporc_play.proofs.Common.{replay_from, restated, step, replay_opening, added, journal_of, forms_of, next_form, text_after, beyond, IsSound}
 use Rattle.sporc_hash.proofs.Lists.{from_end}
 use Rattle.sporc_delta.proofs.Lengths.{inserted_len-keep_marks, out_len-append, out_len-remove_marks, out_len-insert_marks}
 use Rattle.sporc_suffix.specs.Forms.{Follow, all_inserted}
@@ -20,42 +20,10 @@ use Rattle.sporc_client.specs.Allowed.{can_log, can_log_all, is_allowed}
 use Rattle.sporc_client.specs.Step.{replay}
 use Rattle.sporc_client.proofs.AcceptedHistories.{accept_passes}
 use Rattle.sporc_client.proofs.Comings.{follow_last}
+use Rattle.sporc_client.proofs.ShownCounts.{journal_from_count, log_grows, shown_count}
 use Rattle.sporc_client.proofs.Small.{inserted_len-beyond, inserted_len-bytes, few_inserted, length-text_of}
 
 -- ---- the shown deltas of a client: one for each event of its log
-
--- lists of which one begins with the other
-abbrev pub Grows : List (List Mark) → List (List Mark) → ℕ → Type 0
-Grows old new n = (more : List (List Mark)) × (new ≡ old ++ more) × (length more ≡ n)
-
-step_grows : (c : PlainClient) (event : Logged) → Grows c.shown (step c event).shown 1
-step_grows c (Accept by bytes) = go (is_flight c bytes) (is_some (change_in bytes))
-  where
-    go : (own change : Bool) → Grows c.shown (cond own (own_comes c bytes) (cond change (change_comes c bytes) (edit_comes c bytes))).shown 1
-    go true change = (_, refl, refl)
-    go false true = (_, refl, refl)
-    go false false = (_, refl, refl)
-step_grows c event = (_, refl, refl)
-
-pub log_grows : (c : PlainClient) (log : List Logged) → Grows c.shown (replay_from c log).shown (length log)
-log_grows c [] = ([], sym (append-nil c.shown), refl)
-log_grows c (event ∷ log) =
-    let one = step_grows c event in
-    let rest = log_grows (step c event) log in (
-      one.0 ++ rest.0,
-      rest.1 ∙ ap (λ (xs : List (List Mark)). xs ++ rest.0) one.1 ∙ append_assoc c.shown one.0 rest.0,
-      omega (arith, length-append one.0 rest.0, one.2, rest.2),
-    )
-
--- a client has shown a delta for each event
-pub shown_count : (o : Opening) (log : List Logged) → length (replay o log).shown ≡ length log
-unfolding replay
-shown_count o log = let grown = log_grows (opened o) log in ap length grown.1 ∙ grown.2
-
--- and its journal has so many events
-journal_from_count : (accepted : ℕ) (log : List Logged) → length (journal_from accepted log) ≡ length log
-journal_from_count accepted [] = refl
-journal_from_count accepted (event ∷ log) = ap suc (journal_from_count (accepted + length (entries_by event)) log)
 
 pub journal_count : (o : Opening) (log : List Logged) (journal : List Event) → journal ≡ journal_of log → length journal ≡ length (replay o log).shown
 journal_count o log journal is = ap length is ∙ journal_from_count 0 log ∙ sym (shown_count o log)

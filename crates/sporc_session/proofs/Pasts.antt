@@ -5,7 +5,7 @@ use Rattle.sporc_session.proofs.Common.{replay_from, step, replay_append, Item, 
 use Rattle.std.specs.Option.{is_some}
 use Rattle.sporc_head.specs.History.{change_in}
 use Rattle.sporc_line.specs.Document.{text_after}
-use Rattle.sporc_shared.proofs.Journals.{length_shown}
+use Rattle.sporc_client.proofs.ShownCounts.{shown_count}
 use Rattle.sporc_session.proofs.Knowing.{starts_then}
 
 -- the events among items
@@ -73,6 +73,6 @@ shows_later p q s =
     let c = client_of p in
     let goes : StartsWith (client_of q).shown c.shown = subst (λ (d : PlainClient). StartsWith d.shown c.shown) (sym (ap client_of t.1 ∙ client_more p t.0)) (replay_shown c t.0) in
     let n = length p.log in
-    let all : length c.shown ≡ n = length_shown p.opening p.log in
+    let all : length c.shown ≡ n = shown_count p.opening p.log in
     let same : take n (client_of q).shown ≡ take n c.shown = ap (take n) goes.1 ∙ take-append-le n c.shown goes.0 (omega (arith, all)) in
     record { low = omega (arith, all, starts_length (client_of q).shown c.shown goes); same = ap text_after same }

@@ -1,6 +1,7 @@
 use Rattle.std.proofs.Common.{◌≡◌, ℕ, ◌<◌, ◌≤◌, length, Some, refl, sym, ap, ◌∙◌, subst}
 use Rattle.sporc_play.proofs.Common.{MAX_COUNT, state_of, MAX_EVENTS, marks_of}
-use Rattle.sporc_play.proofs.ShortTexts.{short_texts, journal_count, shown_count}
+use Rattle.sporc_client.proofs.ShownCounts.{shown_count}
+use Rattle.sporc_play.proofs.ShortTexts.{short_texts, journal_count}
 use Rattle.sporc_play.proofs.Reported.{ahead, not_below, within}
 use Rattle.sporc_play.proofs.acting.delta_by.Goals as goal
 

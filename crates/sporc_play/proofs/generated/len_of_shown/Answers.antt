@@ -1,6 +1,7 @@
 use Rattle.std.proofs.Common.{List, ℕ, length, ap, refl, ◌∙◌, arith}
 use Rattle.sporc_play.proofs.Common.{take_all, Mark, state_of, shown_after, text_after}
-use Rattle.sporc_play.proofs.ShortTexts.{short_texts, journal_count, shown_count}
+use Rattle.sporc_client.proofs.ShownCounts.{shown_count}
+use Rattle.sporc_play.proofs.ShortTexts.{short_texts, journal_count}
 use Rattle.sporc_play.proofs.generated.len_of_shown.Goals as goal
 
 pub unreachable-requires : goal.unreachable-requires
