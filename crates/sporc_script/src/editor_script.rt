@@ -36,7 +36,7 @@ impl EditorScript {
     /// The lines that are not skipped, in order.
     pub fn lines(&self) -> &[EditorLine]
         ensures value { result.now ≡ self.now }
-        ensures short { AreShort result.now }
+        ensures within { AreShort result.now }
     {
         self.lines.as_slice()
     }

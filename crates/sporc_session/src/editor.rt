@@ -109,7 +109,7 @@ fn edit_at<R: Wait, D: LeafDisk, G>(
 // The delta of an insertion into a text of this length.
 fn inserted(alloc: Global, len: u64, asked: &Insertion) -> Result<Delta, Memory>
     requires limit { len ≤ MAX_COUNT }
-    requires short { IsShort (commands.Insert asked.now) }
+    requires text_limit { IsShort (commands.Insert asked.now) }
     ensures ok { IfOk result
         (λ delta. delta ≡ insertion len (min asked.now.at len) asked.now.text) }
 {
@@ -138,7 +138,7 @@ fn insert<R: Wait, D: LeafDisk, G>(
     asked: &Insertion,
 ) -> WithPass<()>
     requires lock { IsPassOf context.now.shared.now pass }
-    requires short { IsShort (commands.Insert asked.now) }
+    requires limit { IsShort (commands.Insert asked.now) }
     ensures lock { IsPassOf context.now.shared.now result.1 }
     ensures counts { CountsSame (known_of pass) (known_of result.1) }
     ensures did { AskedDid (known_of pass) (known_of result.1) line
@@ -209,7 +209,7 @@ fn do_line<R: Wait, D: LeafDisk, G: Gate>(
     line: &EditorLine,
 ) -> WithPass<()>
     requires lock { IsPassOf context.now.shared.now pass }
-    requires short { IsShort line.now.command }
+    requires limit { IsShort line.now.command }
     ensures lock { IsPassOf context.now.shared.now result.1 }
     ensures counts { CountsSame (known_of pass) (known_of result.1) }
     ensures did { LineDid (known_of pass) (known_of result.1) line.now result.0 }
@@ -279,7 +279,7 @@ pub(crate) fn do_lines<R: Wait, D: LeafDisk, G: Gate>(
     lines: &[EditorLine],
 ) -> WithPass<()>
     requires lock { IsPassOf context.now.shared.now pass }
-    requires short { AreShort lines.now }
+    requires limit { AreShort lines.now }
     ensures lock { IsPassOf context.now.shared.now result.1 }
     ensures counts { CountsSame (known_of pass) (known_of result.1) }
     ensures did { LinesDid (known_of pass) (known_of result.1) lines.now (result_err result.0) }

@@ -2,8 +2,8 @@ use Rattle.std.proofs.Common.{subst}
 use Rattle.sporc_script.specs.EditorLines.{IsShort}
 use Rattle.sporc_session.proofs.editor.do_line.Goals as goal
 
-pub insert-requires-clause-short : goal.insert-requires-clause-short
-insert-requires-clause-short g c = subst IsShort c.in-Insert.is c.requires.short
+pub insert-requires-clause-limit : goal.insert-requires-clause-limit
+insert-requires-clause-limit g c = subst IsShort c.in-Insert.is c.requires.limit
 
 pub returns-in-Insert-clause-did : goal.returns-in-Insert-clause-did
 returns-in-Insert-clause-did g c = rw c.in-Insert.is c.insert.ensures.did

@@ -27,9 +27,9 @@ loop-line-preserved g c =
       done = (did.0 ++ more.0 ∷ [], subst (λ (ls : List EditorLine). LinesDone (known_of c.args.pass) k2 ls (did.0 ++ more.0 ∷ [])) front more.1);
     }
 
-pub do_line-one-requires-clause-short : goal.do_line-one-requires-clause-short
-do_line-one-requires-clause-short g c =
-    all_at (λ (l : EditorLine). IsShort l.command) c.args.lines.now c.loop-line.line-index c.line-item.result c.requires.short c.loop-line-test.true c.line-item.is
+pub do_line-one-requires-clause-limit : goal.do_line-one-requires-clause-limit
+do_line-one-requires-clause-limit g c =
+    all_at (λ (l : EditorLine). IsShort l.command) c.args.lines.now c.loop-line.line-index c.line-item.result c.requires.limit c.loop-line-test.true c.line-item.is
 
 pub returns-in-Err-clause-did : goal.returns-in-Err-clause-did
 returns-in-Err-clause-did g c =
