@@ -3,8 +3,8 @@
 ghost use Rattle.std.specs.Prelude.{◌≡◌};
 ghost use Rattle.lms_leaf.specs.declared.faults.LeafOpenFault.TheVariants as open_faults;
 
-use sporc_base::Memory;
 use sporc_outside::Failed;
+use std::alloc::AllocError;
 use thiserror::Error;
 
 /// Why a leaf file was not opened.
@@ -18,10 +18,10 @@ pub enum LeafOpenFault {
     Memory,
 }
 
-impl From<Memory> for LeafOpenFault {
+impl From<AllocError> for LeafOpenFault {
     ghost from_gives = { λ _ fault. fault ≡ open_faults.Memory };
 
-    fn from(_: Memory) -> LeafOpenFault {
+    fn from(_: AllocError) -> LeafOpenFault {
         LeafOpenFault::Memory
     }
 }

@@ -7,9 +7,9 @@ ghost use Rattle.sporc_client.specs.declared.fault.RestartFault.TheVariants as r
 ghost use Rattle.sporc_client.specs.declared.fault.SubmitFault.TheVariants as submits;
 
 use lms_leaf::LeafFault;
-use sporc_base::Memory;
 use sporc_head::Refusal;
 use sporc_line::LineOpenFault;
+use std::alloc::AllocError;
 use thiserror::Error;
 
 /// Why a client was not opened.
@@ -79,18 +79,18 @@ pub enum RestartFault {
     Memory,
 }
 
-impl From<Memory> for EditFault {
+impl From<AllocError> for EditFault {
     ghost from_gives = { λ _ fault. fault ≡ edits.Memory };
 
-    fn from(_: Memory) -> EditFault {
+    fn from(_: AllocError) -> EditFault {
         EditFault::Memory
     }
 }
 
-impl From<Memory> for SubmitFault {
+impl From<AllocError> for SubmitFault {
     ghost from_gives = { λ _ fault. fault ≡ submits.Memory };
 
-    fn from(_: Memory) -> SubmitFault {
+    fn from(_: AllocError) -> SubmitFault {
         SubmitFault::Memory
     }
 }
@@ -108,18 +108,18 @@ impl From<LeafFault> for SubmitFault {
     }
 }
 
-impl From<Memory> for AcceptFault {
+impl From<AllocError> for AcceptFault {
     ghost from_gives = { λ _ fault. fault ≡ accepts.Memory };
 
-    fn from(_: Memory) -> AcceptFault {
+    fn from(_: AllocError) -> AcceptFault {
         AcceptFault::Memory
     }
 }
 
-impl From<Memory> for RestartFault {
+impl From<AllocError> for RestartFault {
     ghost from_gives = { λ _ fault. fault ≡ restarts.Memory };
 
-    fn from(_: Memory) -> RestartFault {
+    fn from(_: AllocError) -> RestartFault {
         RestartFault::Memory
     }
 }

@@ -1,8 +1,7 @@
 //! Why a sample can't be made.
 
-use sporc_base::Memory;
 use sporc_entry::GenesisFault;
-use std::alloc::AllocFailed;
+use std::alloc::{AllocError, AllocFailed};
 use thiserror::Error;
 
 /// Why a sample can't be made.
@@ -20,8 +19,8 @@ pub enum SampleFault {
     Memory,
 }
 
-impl From<Memory> for SampleFault {
-    fn from(_: Memory) -> SampleFault {
+impl From<AllocError> for SampleFault {
+    fn from(_: AllocError) -> SampleFault {
         SampleFault::Memory
     }
 }
