@@ -17,7 +17,7 @@
 //! `proofs/Lists.antt` what a loop that reads them keeps.
 //!
 //! Proved: what each call reads or writes, where it stands after, and which place it names if a
-//! field is cut short. Only tested: the bytes of one example, and that memory suffices if there is
+//! field is cut short. Only tested, by the formats that use it: that memory suffices if there is
 //! ample. Neither: nothing else is claimed.
 #![tactic(auto)]
 

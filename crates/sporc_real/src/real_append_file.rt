@@ -53,7 +53,7 @@ fn append_to(file: &mut File, bytes: &[u8]) -> io::Result<()> {
     file.write_all(bytes)
 }
 
-// Takes away all bytes of a file but the first.
+// Takes away all bytes of a file but the first `len`.
 fn cut_to(file: &File, len: u64) -> io::Result<()> {
     if file.metadata()?.len() < len {
         return Err(io::Error::from(ErrorKind::InvalidInput));

@@ -20,8 +20,8 @@ ghost use Rattle.sporc_top.specs.Uses.{OutsideUse};
 
 use sporc_outside::LeafDisk;
 
-/// If `play` answers 0 for a text that the source tells, it played that script, and its clients
-/// agree at any two moments. docs/HEADLINE.md says more.
+/// If `play` answers 0 for a text that the source tells, the text is a script, which it played; if
+/// that has an admin, its clients agree at any two moments. docs/HEADLINE.md says more.
 pub fn plays_agree<D: LeafDisk>()
     ensures { (words : List (List ℕ)) (did : OutsideUse) → RunOutcome D.told words did 0
         → command_of words ≡ Some Play → (text : List ℕ) → did.source.before.left ≡ Some text
