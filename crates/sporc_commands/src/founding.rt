@@ -121,10 +121,8 @@ fn make_founding<C: Chance>(
         (IsOutsideFault (C.told chance.old).faults (C.told chance.new).faults) }
     ensures kept { (C.told chance.old).faults ≤ (C.told chance.new).faults }
 {
-    match sporc_keys::found(alloc, chance, named) {
-        Ok(founding) => Ok(founding),
-        Err(fault) => Err(Fault::from(fault)),
-    }
+    let founding = sporc_keys::found(alloc, chance, named)?;
+    Ok(founding)
 }
 
 // Writes the files of a document.

@@ -67,10 +67,8 @@ fn make_key<R: Threads + Sync, C: Chance>(
         (IsOutsideFault (C.told chance.old).faults (C.told chance.new).faults) }
     ensures kept { (C.told chance.old).faults ≤ (C.told chance.new).faults }
 {
-    match sporc_keys::keygen(rt, alloc, chance, asked.device, asked.height, asked.width) {
-        Ok(key) => Ok(key),
-        Err(fault) => Err(Fault::from(fault)),
-    }
+    let key = sporc_keys::keygen(rt, alloc, chance, asked.device, asked.height, asked.width)?;
+    Ok(key)
 }
 
 // The line that is printed of a key.

@@ -62,10 +62,8 @@ fn hints_of(alloc: Global, member: u16, pairs: &Pairs, entries: &[Vec<u8>]) -> R
     ensures value { AnswersUnlessOutside (λ keys. keys.keys) ⊥ result (fault_as fault_of_hints
         (hints_of (map (λ e. e.items) entries.now) member (pairs_in pairs.now))) }
 {
-    match hints_from(alloc, entries, member, pairs) {
-        Ok(hints) => Ok(hints),
-        Err(fault) => Err(Fault::from(fault)),
-    }
+    let hints = hints_from(alloc, entries, member, pairs)?;
+    Ok(hints)
 }
 
 // The empty line of a device with these keys.
@@ -82,8 +80,6 @@ fn open_with(
     ensures genesis { IfOk result (λ line. line.genesis ≡ genesis) }
     ensures empty { IfOk result (λ line. line.entries ≡ []) }
 {
-    match Line::open(alloc, genesis, device.member, device.number, keys, pairs) {
-        Ok(line) => Ok(line),
-        Err(fault) => Err(Fault::from(fault)),
-    }
+    let line = Line::open(alloc, genesis, device.member, device.number, keys, pairs)?;
+    Ok(line)
 }

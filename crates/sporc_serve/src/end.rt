@@ -1,5 +1,7 @@
 //! How a session ended.
 
+use sporc_order::Unanswered;
+
 /// How a session of a server ended.
 #[derive(Clone, Copy)]
 pub enum SessionEnd {
@@ -18,4 +20,18 @@ pub enum SessionEnd {
     /// The entry that was submitted fails no check, and the tail did not keep it, so it was not
     /// ordered.
     Unkept,
+}
+
+impl From<Unanswered> for SessionEnd {
+    ghost use Rattle.std.specs.Prelude.{◌≡◌};
+    ghost use Rattle.sporc_serve.specs.Turns.{end_of};
+
+    ghost from_gives = { λ why end. end ≡ end_of why };
+
+    fn from(why: Unanswered) -> SessionEnd {
+        match why {
+            Unanswered::Memory => SessionEnd::Memory,
+            Unanswered::Unkept => SessionEnd::Unkept,
+        }
+    }
 }

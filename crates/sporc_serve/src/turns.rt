@@ -112,9 +112,6 @@ fn answered(reply: Result<Reply, Unanswered>) -> Result<Reply, SessionEnd>
     ensures ok { IfOk reply (λ r. result ≡ Ok r) }
     ensures err { IfErr reply (λ why. result ≡ Err (end_of why)) }
 {
-    match reply {
-        Ok(reply) => Ok(reply),
-        Err(Unanswered::Memory) => Err(SessionEnd::Memory),
-        Err(Unanswered::Unkept) => Err(SessionEnd::Unkept),
-    }
+    let reply = reply?;
+    Ok(reply)
 }
