@@ -33,5 +33,4 @@ pub use Rattle.sporc_store.specs.declared.stop.Stop.{Stop}
 pub use Rattle.sporc_store.specs.declared.stop.Stop.TheVariants.{Cut, End, Foreign, Refused, Refused as RefusedAt}
 pub use Rattle.sporc_store.specs.declared.tail_fault.TailFault.{TailFault}
 pub use Rattle.sporc_store.specs.declared.tail_fault.TailFault.TheVariants.{Malformed}
-pub use Rattle.sporc_store.specs.declared.tail_head.TheConstants.{TAIL_HEAD_LEN}
 pub use Rattle.sporc_store.specs.declared.head.TheConstants.{HEAD_LEN}

@@ -1,13 +1,13 @@
 -- A tail that was written is read again behind a log, also where its last record is cut.
 use Rattle.std.proofs.Common.{◌≡◌, ℕ, ◌+◌, ◌-◌, ◌^◌, ◌<◌, ◌≤◌, ◌⊎◌, inl, inr, true, false, leb, eqb, List, [], ◌∷◌, ◌++◌, length, take, drop, Ok, refl, sym, ap, ◌∙◌, subst, arith, append-nil, append_assoc}
 use Rattle.sporc_store.proofs.Common.{le-leb, cases_lt, Decides-eqb, length-append, length-take, take_all, take_at, drop_at, take-append-drop, All-append, All-cons, All-nil, starts_is}
-use Rattle.sporc_store.proofs.Common.{take-append-add, All, starts_with, w32, to_be_bytes, number_at, u32_again, TAIL_HEAD_LEN, IsPrefix, Agree, FitsRecord, GivesBehind, IsTail, Recovers}
+use Rattle.sporc_store.proofs.Common.{take-append-add, All, starts_with, w32, to_be_bytes, number_at, u32_again, HEAD_LEN, IsPrefix, Agree, FitsRecord, GivesBehind, IsTail, Recovers}
 use Rattle.sporc_store.proofs.Common.{record_bytes, records_bytes, records_of, tail_head, taken_to, Between, drop-nil}
 use Rattle.std.proofs.lemmas.Bool.{false_from_ne_true}
 use Rattle.sporc_store.specs.TailBytes.{tail_behind, tail_bytes}
 use Rattle.sporc_store.proofs.TailRecords.{number_short, reading, record_len, records_again, records_and, records_few, records_more}
 
-pub head_len : (document : List ℕ) → length document ≡ 16 → length (tail_head document) ≡ TAIL_HEAD_LEN
+pub head_len : (document : List ℕ) → length document ≡ 16 → length (tail_head document) ≡ HEAD_LEN
 head_len document is = omega (arith, is)
 
 begins : (xs rest : List ℕ) → starts_with eqb (xs ++ rest) xs ≡ true
@@ -41,23 +41,23 @@ first_number position [] next k =
 -- what is behind the head
 records_found : (log all : List (List ℕ)) (from : ℕ) (next : List ℕ) (k : ℕ) → from ≤ length log → Agree (drop from log) all → All FitsRecord all → FitsRecord next
     → from + length all + 1 < 2 ^ 32 → k < length (record_bytes (from + 1 + length all) next)
-    → records_of log (reading (records_and (from + 1) all next k) TAIL_HEAD_LEN) (number_at w32 (reading (records_and (from + 1) all next k) TAIL_HEAD_LEN))
-    ≡ Ok (taken_to (drop (length (drop from log)) all) (TAIL_HEAD_LEN + length (records_bytes (from + 1) all)))
+    → records_of log (reading (records_and (from + 1) all next k) HEAD_LEN) (number_at w32 (reading (records_and (from + 1) all next k) HEAD_LEN))
+    ≡ Ok (taken_to (drop (length (drop from log)) all) (HEAD_LEN + length (records_bytes (from + 1) all)))
 records_found log all from next k within agree fit next_fits below short =
     let bytes = records_and (from + 1) all next k in
     elim (first_number (from + 1) all next k) [
       | inl few ↦
-          rw (number_short bytes TAIL_HEAD_LEN few.0) (
-          ap (λ (l : List (List ℕ)). Ok (taken_to l TAIL_HEAD_LEN)) (sym (drop-nil (length (drop from log))))
-          ∙ ap (λ (l : List (List ℕ)). Ok (taken_to (drop (length (drop from log)) l) (TAIL_HEAD_LEN + length (records_bytes (from + 1) l)))) (sym few.1)
+          rw (number_short bytes HEAD_LEN few.0) (
+          ap (λ (l : List (List ℕ)). Ok (taken_to l HEAD_LEN)) (sym (drop-nil (length (drop from log))))
+          ∙ ap (λ (l : List (List ℕ)). Ok (taken_to (drop (length (drop from log)) l) (HEAD_LEN + length (records_bytes (from + 1) l)))) (sym few.1)
           )
       | inr first ↦
           let size : length all ≤ length bytes = omega (arith, records_few (from + 1) all, length-append (records_bytes (from + 1) all) (take k (record_bytes (from + 1 + length all) next))) in
-          let number : number_at w32 (reading bytes TAIL_HEAD_LEN) ≡ Ok (from + 1, reading first.0 (TAIL_HEAD_LEN + 4)) =
-          ap (λ (bs : List ℕ). number_at w32 (reading bs TAIL_HEAD_LEN)) first.1 ∙ u32_again (from + 1) TAIL_HEAD_LEN first.0 (omega (arith, below)) in
+          let number : number_at w32 (reading bytes HEAD_LEN) ≡ Ok (from + 1, reading first.0 (HEAD_LEN + 4)) =
+          ap (λ (bs : List ℕ). number_at w32 (reading bs HEAD_LEN)) first.1 ∙ u32_again (from + 1) HEAD_LEN first.0 (omega (arith, below)) in
           let back : from + 1 - 1 ≡ from = omega arith in
           rw (number, le-leb 1 (from + 1) (omega arith), le-leb (from + 1) (length log + 1) (omega (arith, within)), back)
-          (records_again all (drop from log) (length bytes) (from + 1) TAIL_HEAD_LEN next k agree fit next_fits (omega (arith, below)) short size)
+          (records_again all (drop from log) (length bytes) (from + 1) HEAD_LEN next k agree fit next_fits (omega (arith, below)) short size)
     ]
 
 pub tail_again : (log all : List (List ℕ)) (document : List ℕ) (from : ℕ) (next : List ℕ) (k : ℕ) → length document ≡ 16 → from ≤ length log
@@ -72,10 +72,10 @@ tail_again log all document from next k is within agree fit next_fits below shor
     let grouped : (tail_head document ++ records_bytes (from + 1) all) ++ take k (record_bytes (from + length all + 1) next) ≡ tail_head document ++ bytes =
     append_assoc (tail_head document) (records_bytes (from + 1) all) (take k (record_bytes (from + length all + 1) next))
     ∙ ap (λ (p : ℕ). tail_head document ++ (records_bytes (from + 1) all ++ take k (record_bytes p next))) place in
-    let size : TAIL_HEAD_LEN + length (records_bytes (from + 1) all) ≡ length (tail_head document ++ records_bytes (from + 1) all) =
+    let size : HEAD_LEN + length (records_bytes (from + 1) all) ≡ length (tail_head document ++ records_bytes (from + 1) all) =
     omega (arith, length-append (tail_head document) (records_bytes (from + 1) all), head_len document is) in
     ap (tail_behind log document) grouped
-    ∙ rw (begins (tail_head document) bytes, drop_at (tail_head document) bytes TAIL_HEAD_LEN (head_len document is))
+    ∙ rw (begins (tail_head document) bytes, drop_at (tail_head document) bytes HEAD_LEN (head_len document is))
     (records_found log all from next k within agree fit next_fits below short'
     ∙ ap (λ (w : ℕ). Ok (taken_to (drop (length (drop from log)) all) w)) size)
 
@@ -176,7 +176,7 @@ no_start xs head short = false_from_ne_true (starts_with eqb xs head) (λ is.
     let parts = (starts_is Decides-eqb xs head (starts_with eqb xs head) refl).0 is in
     omega (arith, short, ap length parts, length-append head (drop (length head) xs)))
 
-pub head_reads : (log : List (List ℕ)) (document : List ℕ) (k : ℕ) → length document ≡ 16 → k < TAIL_HEAD_LEN
+pub head_reads : (log : List (List ℕ)) (document : List ℕ) (k : ℕ) → length document ≡ 16 → k < HEAD_LEN
     → tail_behind log document (take k (tail_head document)) ≡ Ok (taken_to [] 0)
 unfolding tail_behind
 head_reads log document k is short =
@@ -185,5 +185,5 @@ head_reads log document k is short =
     let size : length part < length head = omega (arith, length-take k head, head_len document is, short) in
     rw (no_start part head size, ap (λ (l : List ℕ). starts_with eqb l part) (sym (take-append-drop k head)) ∙ begins part (drop k head)) refl
 
-pub head_gives : (log : List (List ℕ)) (document : List ℕ) (k : ℕ) → length document ≡ 16 → k < TAIL_HEAD_LEN → GivesBehind log document (take k (tail_head document)) log
+pub head_gives : (log : List (List ℕ)) (document : List ℕ) (k : ℕ) → length document ≡ 16 → k < HEAD_LEN → GivesBehind log document (take k (tail_head document)) log
 head_gives log document k is short = record { taken = taken_to [] 0; reads = head_reads log document k is short; all = append-nil log }

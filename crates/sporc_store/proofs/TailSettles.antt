@@ -2,7 +2,7 @@
 use Rattle.std.proofs.Common.{◌≡◌, ℕ, zero, suc, ◌+◌, ◌-◌, ◌^◌, ◌<◌, ◌≤◌, ◌⊎◌, inl, inr, Bool, true, false, cond, leb, List, [], ◌∷◌, ◌++◌, length, take, drop, eqb, Result, Ok, Err, refl, sym, ap, ◌∙◌, subst, arith, append-nil, append_assoc}
 use Rattle.sporc_store.proofs.Common.{◌&&◌, OnOk, cases_lt, leb-true, and_parts, Decides-eqb, length-append, length-drop, length-take, take_all, take_at, drop_at, take-append-drop, take-nil, All-nil}
 use Rattle.sporc_store.proofs.Common.{starts_is, All, starts_with, w32, IsBytes, Reading, number_at, ok_is, MAX_ENTRIES, AppendTold, GrowsBy, MayBeCut, FileSteps, file_images, MAX_FILE, TailFault}
-use Rattle.sporc_store.proofs.Common.{Malformed, TAIL_HEAD_LEN, Agree, FitsRecord, GivesBehind, GivesSame, IsTail, TailTaken, behind_head, records_behind, records_bytes, records_of, tail_head, taken_to}
+use Rattle.sporc_store.proofs.Common.{Malformed, HEAD_LEN, Agree, FitsRecord, GivesBehind, GivesSame, IsTail, TailTaken, behind_head, records_behind, records_bytes, records_of, tail_head, taken_to}
 use Rattle.sporc_store.proofs.Common.{AreSynced, Between, Cuts, OpensBehind, Settles, StaysFound, Writes, counting, counting_of, head_behind, tail_on, IsBytes-drop, IsSame, use_of}
 use Rattle.sporc_store.specs.TailBytes.{tail_behind, tail_bytes}
 use Rattle.sporc_store.proofs.TailReads.{gives_whole, head_gives, head_len, head_reads}
@@ -98,7 +98,7 @@ head_stands log document taken none few = record {
 -- any first part of it
 pub part_gives : (log : List (List ℕ)) (document : List ℕ) (k : ℕ) → length document ≡ 16 → length log ≤ MAX_ENTRIES
     → GivesBehind log document (take k (tail_head document)) (log ++ [])
-part_gives log document k is few = elim (cases_lt k TAIL_HEAD_LEN) [
+part_gives log document k is few = elim (cases_lt k HEAD_LEN) [
   | inl short ↦ rw append-nil (head_gives log document k is short)
   | inr all ↦
       rw (take_all k (tail_head document) (omega (arith, head_len document is, all)))
@@ -124,16 +124,16 @@ front_of xs rest bytes n is len = ap (take n) is ∙ take_at xs rest n len
 
 module _ (log : List (List ℕ)) (document bytes : List ℕ) (is16 : length document ≡ 16) (few : length log ≤ MAX_ENTRIES) (small : length bytes ≤ MAX_FILE) (fits : IsBytes bytes) where
   -- the head counts, and the log has all
-  only_head : (rest : List ℕ) (taken : TailTaken) → bytes ≡ tail_head document ++ rest → taken.entries ≡ [] → TAIL_HEAD_LEN ≤ taken.whole → Counted log document bytes taken
+  only_head : (rest : List ℕ) (taken : TailTaken) → bytes ≡ tail_head document ++ rest → taken.entries ≡ [] → HEAD_LEN ≤ taken.whole → Counted log document bytes taken
   only_head rest taken is none le =
-      let counts : counting taken ≡ suc (TAIL_HEAD_LEN - 1) = ap (λ (es : List (List ℕ)). counting_of es taken.whole) none ∙ omega (arith, le) in
+      let counts : counting taken ≡ suc (HEAD_LEN - 1) = ap (λ (es : List (List ℕ)). counting_of es taken.whole) none ∙ omega (arith, le) in
       let front : take (counting taken) bytes ≡ tail_head document =
       front_of (tail_head document) rest bytes (counting taken) is (head_len document is16 ∙ sym counts) in
-      inr (TAIL_HEAD_LEN - 1, counts, subst (Stands log document taken) (sym front) (head_stands log document taken none few))
+      inr (HEAD_LEN - 1, counts, subst (Stands log document taken) (sym front) (head_stands log document taken none few))
 
   -- records count
   records_count : (first : ℕ) (all : List (List ℕ)) (rest behind : List ℕ) (taken : TailTaken) (e : List ℕ) (es : List (List ℕ)) → bytes ≡ tail_head document ++ behind
-      → 1 ≤ first → first ≤ length log + 1 → TakesRecords (drop (first - 1) log) first (record { rest = behind; at = TAIL_HEAD_LEN }) taken all rest
+      → 1 ≤ first → first ≤ length log + 1 → TakesRecords (drop (first - 1) log) first (record { rest = behind; at = HEAD_LEN }) taken all rest
       → taken.entries ≡ e ∷ es → Counted log document bytes taken
   unfolding tail_bytes
   records_count first all rest behind taken e es is low high t some =
@@ -145,7 +145,7 @@ module _ (log : List (List ℕ)) (document bytes : List ℕ) (is16 : length docu
       let split : all ≡ ahead ++ taken.entries = agree_splits ahead all t.agree longer ∙ ap (λ (l : List (List ℕ)). ahead ++ l) (sym t.lacking) in
       let size : length (take from log) ≡ from = omega (arith, length-take from log, high, low) in
       let whole : counting taken ≡ taken.whole = ap (λ (l : List (List ℕ)). counting_of l taken.whole) some in
-      let counts : counting taken ≡ suc (TAIL_HEAD_LEN - 1 + length records) = omega (arith, whole, t.whole) in
+      let counts : counting taken ≡ suc (HEAD_LEN - 1 + length records) = omega (arith, whole, t.whole) in
       let parts : bytes ≡ (tail_head document ++ records) ++ rest =
       is ∙ ap (λ (l : List ℕ). tail_head document ++ l) t.parts ∙ sym (append_assoc (tail_head document) records rest) in
       let len : length (tail_head document ++ records) ≡ counting taken = omega (arith, length-append (tail_head document) records, head_len document is16, counts) in
@@ -153,7 +153,7 @@ module _ (log : List (List ℕ)) (document bytes : List ℕ) (is16 : length docu
       let count : length all ≤ MAX_FILE =
       omega (arith, small, records_few first all, ap length parts, length-append (tail_head document ++ records) rest, length-append (tail_head document) records) in
       inr (
-        TAIL_HEAD_LEN - 1 + length records,
+        HEAD_LEN - 1 + length records,
         counts,
         record {
           before = take from log;
@@ -169,14 +169,14 @@ module _ (log : List (List ℕ)) (document bytes : List ℕ) (is16 : length docu
 
   -- behind a head
   behind_counts : (behind : List ℕ) (taken : TailTaken) (found : Result (ℕ × Reading) ℕ) → bytes ≡ tail_head document ++ behind
-      → records_of log (record { rest = behind; at = TAIL_HEAD_LEN }) found ≡ Ok taken → Counted log document bytes taken
+      → records_of log (record { rest = behind; at = HEAD_LEN }) found ≡ Ok taken → Counted log document bytes taken
   behind_counts behind taken (Err at) is e =
-      let same : taken_to [] TAIL_HEAD_LEN ≡ taken = ok_is (taken_to [] TAIL_HEAD_LEN) taken e in
+      let same : taken_to [] HEAD_LEN ≡ taken = ok_is (taken_to [] HEAD_LEN) taken e in
       only_head behind taken is (ap (λ (t : TailTaken). t.entries) (sym same)) (omega (arith, ap (λ (t : TailTaken). t.whole) same))
   behind_counts behind taken (Ok first) is e = by (leb 1 first.0 && leb first.0 (length log + 1)) refl e
     where
       r : Reading
-      r = record { rest = behind; at = TAIL_HEAD_LEN }
+      r = record { rest = behind; at = HEAD_LEN }
 
       some : (all : List (List ℕ)) (rest : List ℕ) → 1 ≤ first.0 → first.0 ≤ length log + 1 → TakesRecords (drop (first.0 - 1) log) first.0 r taken all rest
           → (es : List (List ℕ)) → taken.entries ≡ es → Counted log document bytes taken
@@ -184,7 +184,7 @@ module _ (log : List (List ℕ)) (document bytes : List ℕ) (is16 : length docu
       some all rest low high t (x ∷ es) more = records_count first.0 all rest behind taken x es is low high t more
 
       by : (b : Bool) → (leb 1 first.0 && leb first.0 (length log + 1)) ≡ b
-          → cond b (records_behind (length behind) (drop (first.0 - 1) log) first.0 r) (Err (Malformed TAIL_HEAD_LEN)) ≡ Ok taken → Counted log document bytes taken
+          → cond b (records_behind (length behind) (drop (first.0 - 1) log) first.0 r) (Err (Malformed HEAD_LEN)) ≡ Ok taken → Counted log document bytes taken
       by false not e = absurd cc
       by true holds e =
           let both = and_parts (leb 1 first.0) (leb first.0 (length log + 1)) holds in
@@ -203,9 +203,9 @@ module _ (log : List (List ℕ)) (document bytes : List ℕ) (is16 : length docu
       by : (whole part : Bool) → starts_with eqb bytes (tail_head document) ≡ whole → answer whole part ≡ Ok taken → Counted log document bytes taken
       by true part is e =
           let begins = (starts_is Decides-eqb bytes (tail_head document) (starts_with eqb bytes (tail_head document)) refl).0 is in
-          let behind : bytes ≡ tail_head document ++ drop TAIL_HEAD_LEN bytes =
+          let behind : bytes ≡ tail_head document ++ drop HEAD_LEN bytes =
           begins ∙ ap (λ (n : ℕ). tail_head document ++ drop n bytes) (head_len document is16) in
-          behind_counts (drop TAIL_HEAD_LEN bytes) taken (number_at w32 (behind_head bytes)) behind e
+          behind_counts (drop HEAD_LEN bytes) taken (number_at w32 (behind_head bytes)) behind e
       by false true is e =
           let same : taken_to [] 0 ≡ taken = ok_is (taken_to [] 0) taken e in
           inl (ap counting (sym same), ap (λ (t : TailTaken). t.entries) (sym same))

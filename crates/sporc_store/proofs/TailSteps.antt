@@ -1,6 +1,6 @@
 -- Records of a tail, taken one after another as a loop does.
 use Rattle.std.proofs.Common.{◌≡◌, ℕ, suc, ◌+◌, ◌-◌, ◌<◌, ◌≤◌, List, [], ◌++◌, length, take, drop, Bool, true, false, cond, ltb, leb, Result, Ok, Err, refl, sym, ap, ◌∙◌, subst, arith, append-nil}
-use Rattle.sporc_store.proofs.Common.{le-leb, ltb-false, length-drop, take_all, w32, from_be_bytes, Reading, bind_ok, ok_is, TailFault, TAIL_HEAD_LEN, GoesOn, TailTaken, behind_head, taken_from}
+use Rattle.sporc_store.proofs.Common.{le-leb, ltb-false, length-drop, take_all, w32, from_be_bytes, Reading, bind_ok, ok_is, TailFault, HEAD_LEN, GoesOn, TailTaken, behind_head, taken_from}
 use Rattle.sporc_store.proofs.Common.{records_of, taken_to}
 use Rattle.sporc_bytes.specs.Fields.{bytes_at, number_at, past}
 use Rattle.sporc_store.specs.TailBytes.{records_behind}
@@ -44,8 +44,8 @@ ends front ahead count i position r whole total le at so_far =
 pub slice_from : {A : Type 0} (k : ℕ) (xs : List A) → take (length xs - k) (drop k xs) ≡ drop k xs
 slice_from k xs = take_all (length xs - k) (drop k xs) (omega (arith, length-drop k xs))
 
-pub begins_at : (log ahead : List (List ℕ)) (bytes : List ℕ) (start cursor after : Reading) (first : ℕ) → start.rest ≡ drop TAIL_HEAD_LEN bytes → start.at ≡ TAIL_HEAD_LEN
-    → cursor.rest ≡ drop TAIL_HEAD_LEN bytes → cursor.at ≡ TAIL_HEAD_LEN → number_at w32 start ≡ Ok (first, after) → ahead ≡ drop (first - 1) log → 1 ≤ first → first ≤ length log + 1
+pub begins_at : (log ahead : List (List ℕ)) (bytes : List ℕ) (start cursor after : Reading) (first : ℕ) → start.rest ≡ drop HEAD_LEN bytes → start.at ≡ HEAD_LEN
+    → cursor.rest ≡ drop HEAD_LEN bytes → cursor.at ≡ HEAD_LEN → number_at w32 start ≡ Ok (first, after) → ahead ≡ drop (first - 1) log → 1 ≤ first → first ≤ length log + 1
     → records_behind (length cursor.rest) ahead first cursor ≡ records_of log (behind_head bytes) (number_at w32 (behind_head bytes))
 begins_at log ahead bytes start cursor after first start_rest start_at rest at number is low high =
     let started : start ≡ behind_head bytes = λ i. record { rest = start_rest i; at = start_at i } in

@@ -20,9 +20,9 @@ use Rattle.std.specs.Str.{bytes_eq}
 use Rattle.sporc_bytes.specs.Fields.{Reading, ◌>>=◌, fault_as, number_at, bytes_at, only_if}
 use Rattle.sporc_bytes.specs.Fields.{counted}
 use Rattle.sporc_entry.specs.declared.limits.TheConstants.{MAX_ENTRY}
+use Rattle.sporc_store.specs.declared.head.TheConstants.{HEAD_LEN}
 use Rattle.sporc_store.specs.declared.tail_fault.TailFault.{TailFault}
 use Rattle.sporc_store.specs.declared.tail_fault.TailFault.TheVariants.{Malformed, Memory}
-use Rattle.sporc_store.specs.declared.tail_head.TheConstants.{TAIL_HEAD_LEN}
 use Rattle.sporc_store.specs.declared.tail_reading.RecordEnd.{RecordEnd}
 use Rattle.sporc_store.specs.declared.tail_reading.RecordEnd.TheVariants.{Cut, Misfit}
 use Rattle.sporc_store.specs.SavedFile.{IsPrefix}
@@ -131,7 +131,7 @@ records_of log r (Ok first) =
     else Err (Malformed r.at)
 
 abbrev pub behind_head : List ℕ → Reading
-behind_head bytes = record { rest = drop TAIL_HEAD_LEN bytes; at = TAIL_HEAD_LEN }
+behind_head bytes = record { rest = drop HEAD_LEN bytes; at = HEAD_LEN }
 
 -- what a document's tail of these bytes has behind a log
 unfoldable pub tail_behind : List (List ℕ) → List ℕ → List ℕ → Result TailTaken TailFault

@@ -8,11 +8,11 @@ use Rattle.sporc_head.specs.declared.limits.TheConstants.{MAX_ENTRIES}
 use Rattle.sporc_outside.specs.AppendFile.{AppendTold, GrowsBy, MayBeCut, FileSteps, file_images}
 use Rattle.sporc_outside.specs.declared.file_fault.TheConstants.{MAX_FILE}
 use Rattle.sporc_outside.specs.Uses.{use_of}
+use Rattle.sporc_store.specs.declared.head.TheConstants.{HEAD_LEN}
 use Rattle.sporc_store.specs.declared.stop.Stop.{Stop}
 use Rattle.sporc_store.specs.declared.stop.Stop.TheVariants.{End, Refused as RefusedAt}
 use Rattle.sporc_store.specs.declared.tail_fault.TailFault.{TailFault}
 use Rattle.sporc_store.specs.declared.tail_fault.TailFault.TheVariants.{Malformed, Refused, Memory}
-use Rattle.sporc_store.specs.declared.tail_head.TheConstants.{TAIL_HEAD_LEN}
 use Rattle.sporc_store.specs.SavedFile.{Taken, read_to}
 use Rattle.sporc_store.specs.Loading.{an_order, accepted_from}
 use Rattle.sporc_store.specs.TailBytes.{FitsRecord, GivesSame, IsTail, Recovers, TailTaken}
@@ -132,7 +132,7 @@ SettlesRead file_told document taken old new result =
 -- how many bytes of a file count: up to the last whole record, or those of the head if the log has
 -- all records
 abbrev pub counting_of : List (List ℕ) → ℕ → ℕ
-counting_of [] whole = min whole TAIL_HEAD_LEN
+counting_of [] whole = min whole HEAD_LEN
 counting_of (e ∷ es) whole = whole
 
 abbrev pub counting : TailTaken → ℕ

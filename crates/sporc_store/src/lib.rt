@@ -57,7 +57,6 @@ mod saving;
 mod stop;
 mod tail_fault;
 mod tail_file;
-mod tail_head;
 mod tail_reading;
 mod workers;
 

@@ -22,7 +22,7 @@ pub(crate) fn open<'a>(document: &[u8; 16], bytes: &'a [u8]) -> Result<(u32, Cur
         (opened document.now bytes.entry.now) }
     ensures named { IfErr result NamesCheck }
 {
-    if !bytes.starts_with(&head_of(document)) {
+    if !bytes.starts_with(&head_of(b"SPH1", document)) {
         return Err(Stop::Foreign);
     }
     let mut cursor = Cursor::within(&bytes[HEAD_LEN..], HEAD_LEN);

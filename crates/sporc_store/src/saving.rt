@@ -28,7 +28,7 @@ pub fn save(alloc: Global, document: &[u8; 16], entries: &[Vec<u8>]) -> Result<V
         return Err(SaveFault::TooLong(len));
     }
     let mut file = Out::with_capacity(alloc, len as usize)?;
-    file.put_bytes(&head_of(document))?;
+    file.put_bytes(&head_of(b"SPH1", document))?;
     file.put_u32(entries.len() as u32)?;
     put_entries(&mut file, entries)?;
     Ok(file.into_bytes())

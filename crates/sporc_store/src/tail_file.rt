@@ -21,9 +21,9 @@ ghost use Rattle.sporc_store.specs.TailReadings.{AreTold, IsFaultOfRead, IsReadi
 ghost use Rattle.sporc_store.specs.TailReadings.{TakesRead};
 
 use crate::appending::append_part;
+use crate::head::{HEAD_LEN, head_of};
 use crate::stop::Stop;
 use crate::tail_fault::TailFault;
-use crate::tail_head::{TAIL_HEAD_LEN, tail_head_of};
 use crate::tail_reading::{TailEntries, read_tail};
 use sporc_base::Memory;
 use sporc_bytes::Out;
@@ -280,7 +280,7 @@ fn counting(tail: &TailEntries<'_>) -> usize
     ensures { result ≡ counting (taken_to tail.now.entries.items tail.now.whole) }
 {
     if tail.entries.is_empty() {
-        tail.whole.min(TAIL_HEAD_LEN)
+        tail.whole.min(HEAD_LEN)
     } else {
         tail.whole
     }
@@ -295,7 +295,7 @@ fn head_written<A: AppendFile>(file: &mut A, document: &[u8; 16], kept: usize) -
     if kept > 0 {
         return Ok(());
     }
-    append_synced(file, &tail_head_of(document))?;
+    append_synced(file, &head_of(b"SPT1", document))?;
     Ok(())
 }
 

@@ -5,14 +5,14 @@ ghost use Rattle.std.specs.Int.{w32};
 ghost use Rattle.sporc_bytes.specs.Fields.{number_at};
 ghost use Rattle.sporc_head.specs.declared.limits.TheConstants.{MAX_ENTRIES};
 ghost use Rattle.sporc_outside.specs.declared.file_fault.TheConstants.{MAX_FILE};
-ghost use Rattle.sporc_store.specs.declared.tail_head.TheConstants.{TAIL_HEAD_LEN};
+ghost use Rattle.sporc_store.specs.declared.head.TheConstants.{HEAD_LEN};
 ghost use Rattle.sporc_store.specs.TailBytes.{IsUnread, TakesOne, behind_head, record_at};
 ghost use Rattle.sporc_store.specs.TailBytes.{records_behind, records_of, tail_behind, taken_from};
 ghost use Rattle.sporc_store.specs.TailBytes.{taken_to};
 
+use crate::head::{HEAD_LEN, head_of};
 use crate::saved_entry::SavedEntry;
 use crate::tail_fault::TailFault;
-use crate::tail_head::{TAIL_HEAD_LEN, tail_head_of};
 use sporc_base::is_same;
 use sporc_bytes::Cursor;
 use sporc_entry::MAX_ENTRY;
@@ -53,7 +53,7 @@ pub(crate) fn read_tail<'a>(
     ensures entries_within { IfOk result
         (λ tail. length tail.entries.items ≤ length bytes.entry.now) }
 {
-    let head = tail_head_of(document);
+    let head = head_of(b"SPT1", document);
     if bytes.starts_with(&head) {
         return read_records(alloc, log, bytes);
     }
@@ -73,7 +73,7 @@ fn read_records<'a>(
     bytes: &'a [u8],
 ) -> Result<TailEntries<'a>, TailFault>
     requires log_limit { length log.now ≤ MAX_ENTRIES }
-    requires head { TAIL_HEAD_LEN ≤ length bytes.now }
+    requires head { HEAD_LEN ≤ length bytes.now }
     requires bytes_limit { length bytes.now ≤ MAX_FILE }
     ensures ok { IfOk result (λ tail. records_of (map (λ e. e.items) log.now)
         (behind_head bytes.entry.now) (number_at w32 (behind_head bytes.entry.now))
@@ -84,19 +84,19 @@ fn read_records<'a>(
     ensures entries_within { IfOk result
         (λ tail. length tail.entries.items ≤ length bytes.entry.now) }
 {
-    let records = &bytes[TAIL_HEAD_LEN..];
-    let mut start = Cursor::within(records, TAIL_HEAD_LEN);
+    let records = &bytes[HEAD_LEN..];
+    let mut start = Cursor::within(records, HEAD_LEN);
     match start.u32() {
         Ok(first) => {
             if first < 1 || first as usize > log.len() + 1 {
-                return Err(TailFault::Malformed(TAIL_HEAD_LEN));
+                return Err(TailFault::Malformed(HEAD_LEN));
             }
             let ahead = &log[first as usize - 1..];
-            records_from(alloc, ahead, first, Cursor::within(records, TAIL_HEAD_LEN))
+            records_from(alloc, ahead, first, Cursor::within(records, HEAD_LEN))
         }
         Err(_) => Ok(TailEntries {
             entries: Vec::new(alloc),
-            whole: TAIL_HEAD_LEN,
+            whole: HEAD_LEN,
         }),
     }
 }
