@@ -1,6 +1,6 @@
 //! Histories that are saved.
 
-ghost use Rattle.std.specs.Prelude.{◌≡◌, ◌<◌, ◌≤◌, ◌^◌, ◌+◌, ◌++◌, length, map, OnOk};
+ghost use Rattle.std.specs.Prelude.{◌≡◌, ◌≤◌, ◌+◌, length, map};
 ghost use Rattle.std.specs.List.{flat_map};
 ghost use Rattle.sporc_base.specs.Outcome.{GivesUnless};
 ghost use Rattle.sporc_bytes.specs.Fields.{counted};
@@ -10,9 +10,9 @@ ghost use Rattle.sporc_store.specs.SavedFile.{saved_file};
 
 use crate::fault::SaveFault;
 use crate::head::{HEAD_LEN, head_of};
-use sporc_base::Memory;
 use sporc_bytes::Out;
 use sporc_outside::MAX_FILE;
+use sporc_wire::{counted_len, put_entries};
 use std::alloc::Global;
 
 /// The file of a document's history: its entries, oldest first. `TooLong` exactly if the file would
@@ -39,21 +39,5 @@ fn saved_len(entries: &[Vec<u8>]) -> u64
     ensures { result
         ≡ counted_to_end (24 + length (flat_map (λ entry. counted entry.items) entries.now)) }
 {
-    let mut len = HEAD_LEN as u64 + 4;
-    for entry in entries {
-        len = len.saturating_add((entry.len() as u64).saturating_add(4));
-    }
-    len
-}
-
-// Appends counted entries.
-fn put_entries(file: &mut Out, entries: &[Vec<u8>]) -> Result<(), Memory>
-    requires { length (flat_map (λ entry. counted entry.items) entries.now) < 2 ^ 32 }
-    ensures { OnOk result
-        (file.new ≡ file.old ++ flat_map (λ entry. counted entry.items) entries.now) }
-{
-    for entry in entries {
-        file.put_counted(entry.as_slice())?;
-    }
-    Ok(())
+    counted_len(entries).saturating_add(HEAD_LEN as u64 + 4)
 }

@@ -44,8 +44,8 @@ fn body_len(first: u32, entries: &[Vec<u8>]) -> u64
     counted_len(entries).saturating_add(6)
 }
 
-// How many bytes counted entries have.
-fn counted_len(entries: &[Vec<u8>]) -> u64
+/// How many bytes entries have, each counted, up to `u64::MAX`.
+pub fn counted_len(entries: &[Vec<u8>]) -> u64
     ensures { result ≡ counted_to_end (length (flat_map (λ e. counted e.items) entries.now)) }
 {
     let mut len = 0u64;
@@ -66,11 +66,11 @@ fn put_body(out: &mut Out, first: u32, entries: &[Vec<u8>]) -> Result<(), Memory
     out.put_u8(ENTRIES)?;
     out.put_u32(first)?;
     out.put_u8(entries.len() as u8)?;
-    put_list(out, entries)
+    put_entries(out, entries)
 }
 
-// Appends counted entries.
-fn put_list(out: &mut Out, entries: &[Vec<u8>]) -> Result<(), Memory>
+/// Appends entries, each counted.
+pub fn put_entries(out: &mut Out, entries: &[Vec<u8>]) -> Result<(), Memory>
     requires { length (flat_map (λ e. counted e.items) entries.now) < 2 ^ 32 }
     ensures { OnOk result (out.new ≡ out.old ++ flat_map (λ e. counted e.items) entries.now) }
 {

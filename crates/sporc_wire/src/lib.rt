@@ -36,6 +36,7 @@ mod to_server;
 
 pub use cutter::MAX_BODY;
 pub use entries::Entries;
+pub use entry_frames::{counted_len, put_entries};
 pub use fault::FrameFault;
 pub use frames::Frames;
 pub use limits::{MAX_DOCUMENTS, MAX_SESSIONS};

@@ -1,7 +1,7 @@
 use Rattle.std.proofs.Common.{ℕ, Vec, Global, length, arith, ap, length-append}
 use Rattle.sporc_wire.proofs.Common.{w32, to_be_bytes, counted, length-flat_map-take}
 use Rattle.sporc_wire.proofs.EntryFrames.{put_more, put_all}
-use Rattle.sporc_wire.proofs.entry_frames.put_list.Goals as goal
+use Rattle.sporc_wire.proofs.entry_frames.put_entries.Goals as goal
 
 pub put_counted-requires : goal.put_counted-requires
 put_counted-requires c =
