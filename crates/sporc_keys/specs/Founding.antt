@@ -1,5 +1,5 @@
 -- What a document begins with: its genesis, and a ring for each number that is named.
-use Rattle.std.specs.Prelude.{◌≡◌, ℕ, ◌+◌, ◌==◌, ◌≤◌, nat_lt, nat_eq, Bool, true, false, List, []}
+use Rattle.std.specs.Prelude.{◌≡◌, ℕ, ◌+◌, ◌==◌, ◌≤◌, nat_eq, Bool, true, false, List, []}
 use Rattle.std.specs.Prelude.{◌∷◌, ◌++◌, length, take, map, fold, filter_map, find, option_map}
 use Rattle.std.specs.Prelude.{is_none, Option, None, Some, if◌then◌else◌}
 use Rattle.std.specs.List.{AllByRecursion, list_any, zip, IsDistinct}
@@ -7,6 +7,7 @@ use Rattle.lms_tree.specs.LmsPublic.{public_key_bytes, public_key_in}
 use Rattle.sporc_hash.specs.Chain.{commitment_of}
 use Rattle.sporc_member.specs.declared.founder.Founder.{Founder}
 use Rattle.sporc_member.specs.declared.limits.TheConstants.{MAX_MEMBERS}
+use Rattle.sporc_member.specs.Lists.{insert_by}
 use Rattle.sporc_member.specs.Role.{is_admin}
 use Rattle.sporc_member.specs.Device.{IsMember}
 use Rattle.sporc_entry.specs.declared.genesis.Genesis.{Genesis}
@@ -48,9 +49,7 @@ is_first_admin (named.Joiner member) = false
 
 -- one more, among some in ascending order of their numbers
 abbrev pub insert_named : Named → List Named → List Named
-insert_named n [] = n ∷ []
-insert_named n (m ∷ ms) =
-    if nat_lt (number_of n) (number_of m) then n ∷ m ∷ ms else m ∷ insert_named n ms
+insert_named n ms = insert_by number_of n ms
 
 -- in ascending order of their numbers
 abbrev pub in_order : List Named → List Named
