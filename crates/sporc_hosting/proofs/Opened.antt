@@ -58,7 +58,7 @@ tail_fails {X} {D} view stored file_told order before cause fault file is why =
     by tails.Failed rose = (or_empty stored, told_or stored, omega (arith, rose))
     by (tails.TooLong len) (bytes, told, long) = (bytes, told, ap (λ (x : Result (List ℕ) Fault). x >>= with_tail order) (said_long any_bytes files.Tail bytes long))
     by (tails.Malformed at) (bytes, told, within, is) = (bytes, told, within_tail order bytes (Err (tails.Malformed at)) within is)
-    by (tails.Refused position refusal) (bytes, told, within, taken, reads, stop) = (
+    by (tails.Refused position refusal) (bytes, told, within, (taken, reads, stop)) = (
       bytes,
       told,
       within_tail order bytes (Ok taken) within reads
