@@ -96,15 +96,15 @@ fn next_chunk<'a>(p: &mut Cursor<'a>, q: &mut Cursor<'a>) -> Option<Chunk<'a>>
     ensures end { IfNone result (compose (marks_of p.old) (marks_of q.old) ≡ []) }
 {
     if q.inserts() {
-        let len = q.len();
+        let len = q.first_len();
         return Some(Chunk::Left(Piece::Insert(q.take(len))));
     }
     if p.removes() {
-        let len = p.len();
+        let len = p.first_len();
         let _ = p.take(len);
         return Some(Chunk::Left(Piece::Remove(len)));
     }
-    let count = p.len().min(q.len());
+    let count = p.first_len().min(q.first_len());
     if count == 0 {
         return None;
     }

@@ -46,7 +46,7 @@ impl<'a> Cursor<'a> {
     }
 
     /// The number of marks that are left of the first part, 0 at the end.
-    pub fn len(&self) -> u64
+    pub fn first_len(&self) -> u64
         ensures value { result ≡ first_len self.now }
     {
         self.left

@@ -78,14 +78,14 @@ fn next_run<'a>(p: &mut Cursor<'a>, q: &mut Cursor<'a>) -> Option<Run<'a>>
     ensures end { IfNone result (steps (marks_of p.old) (marks_of q.old) ≡ []) }
 {
     if p.inserts() {
-        let len = p.len();
+        let len = p.first_len();
         return Some(Run::Earlier(p.take(len)));
     }
     if q.inserts() {
-        let len = q.len();
+        let len = q.first_len();
         return Some(Run::Later(q.take(len)));
     }
-    let count = p.len().min(q.len());
+    let count = p.first_len().min(q.first_len());
     if count == 0 {
         return None;
     }
