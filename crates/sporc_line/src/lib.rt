@@ -24,8 +24,8 @@
 //! the first fault of the definition, unless memory runs out, and leave the line as it is, or
 //! append; every getter is its definition over the list; the history stays good after any calls;
 //! both laws. Only tested: each refusal by entries with real signatures, and what members, a joiner
-//! and a removed member read (`sporc_history_tests`). Neither: how long a call takes, and that nothing
-//! is looked up in the list of entries while one is checked.
+//! and a removed member read (`sporc_history_tests`). Neither: how long a call takes, and that
+//! nothing is looked up in the list of entries while one is checked.
 #![tactic(auto)]
 
 mod effect;

@@ -1,5 +1,5 @@
--- A log of calls on bytes: what a read gives and what a crash may leave after any of them, of a disk
--- and of a file that is appended to.
+-- A log of calls on bytes: what a read gives and what a crash may leave after any of them, of a
+-- disk and of a file that is appended to.
 use Rattle.std.specs.Prelude.{◌≡◌, ◌⊎◌, ℕ, Bool, true, false, List, [], ◌∷◌, ◌++◌, length, take}
 use Rattle.std.specs.Prelude.{fold, Result, Ok, Err}
 use Rattle.std.proofs.Common.{subst, sym}

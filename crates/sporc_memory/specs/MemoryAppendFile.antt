@@ -1,7 +1,7 @@
 -- A file that is appended to, in memory, as its log tells it: what a read gives and what a crash
 -- may leave, after any of its calls.
 use Rattle.std.specs.Prelude.{◌≡◌, ◌⊎◌, ℕ, Bool, List, [], ◌∷◌, ◌++◌, ◌/◌, length, take, Some, refl}
-use Rattle.std.specs.Prelude.{if◌then◌else◌}
+use Rattle.std.specs.Prelude.{Result, OnOk, if◌then◌else◌}
 use Rattle.std.proofs.Common.{inl}
 use Rattle.sporc_outside.specs.AppendFile.{AppendTold}
 use Rattle.sporc_memory.specs.CallsModel.{CallsModel, calls_failing}
@@ -97,6 +97,14 @@ three_of part = part.bytes ∷ (part.bytes ++ take (length part.behind / 2) part
 abbrev pub listed_of : List Loose → List (List ℕ)
 listed_of [] = []
 listed_of (part ∷ parts) = listed_of parts ++ three_of part
+
+-- a call on a file of these bytes is listed: of whatever state `old` was listed, `new` is listed of
+-- the state after the call
+abbrev pub ListsCall : {E : Type 0} → List ℕ → Call AppendRequest → List (List ℕ) → List (List ℕ)
+    → Result (Unit {0}) E → Type 0
+ListsCall bytes call old new result = (s : AppendState) → s.bytes ≡ bytes
+    → old ≡ listed_of s.unsynced
+    → OnOk result (new ≡ listed_of (after_request s call.done call.request).unsynced)
 
 -- some of the images: three for each part since the last sync that succeeded, and last of them what
 -- a read gives

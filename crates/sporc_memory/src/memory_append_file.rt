@@ -1,7 +1,7 @@
 //! Files in memory that are appended to.
 
-ghost use Rattle.std.specs.Prelude.{◌≡◌, ◌+◌, ◌++◌, ◌∷◌, ◌<◌, ◌≤◌, ◌↔◌, ℕ, List, [], Some, length, map};
-ghost use Rattle.std.specs.Prelude.{take, vec_len, IfOk, IfErr, IfSome, IsTrue, OnOk, OnErr};
+ghost use Rattle.std.specs.Prelude.{◌≡◌, ◌+◌, ◌++◌, ◌∷◌, ◌<◌, ◌≤◌, ◌↔◌, ℕ, List, [], Some, length};
+ghost use Rattle.std.specs.Prelude.{map, take, vec_len, IfOk, IfErr, IfSome, IsTrue, OnOk, OnErr};
 ghost use Rattle.std.specs.List.{All};
 ghost use Rattle.std.specs.Vec.{vec_capacity};
 ghost use Rattle.sporc_outside.specs.AppendFile.{GrowsBy, IsWholeFault, MayBeCut};
@@ -9,9 +9,9 @@ ghost use Rattle.sporc_memory.specs.CallsModel.{CountsCall};
 ghost use Rattle.sporc_outside.specs.Counts.{CountsFaults};
 ghost use Rattle.sporc_outside.specs.LeafDisk.{CrashStep, IsSame};
 ghost use Rattle.sporc_memory.specs.Logged.{LogsCall};
-ghost use Rattle.sporc_memory.specs.MemoryAppendFile.{AppendState, IsImage, after_request};
-ghost use Rattle.sporc_memory.specs.MemoryAppendFile.{listed_of, loose, some_images, state_after};
-ghost use Rattle.sporc_memory.specs.MemoryAppendFile.{three_of};
+ghost use Rattle.sporc_memory.specs.MemoryAppendFile.{AppendState, IsImage, ListsCall};
+ghost use Rattle.sporc_memory.specs.MemoryAppendFile.{after_request, loose, some_images};
+ghost use Rattle.sporc_memory.specs.MemoryAppendFile.{state_after, three_of};
 ghost use Rattle.sporc_outside.specs.Told.{GoesTold};
 ghost use Rattle.sporc_outside.specs.declared.file_fault.TheConstants.{MAX_FILE};
 
@@ -252,10 +252,8 @@ fn list_call(
     bytes: &[u8],
     images: &mut Vec<Vec<u8>>,
 ) -> Result<(), AllocError>
-    ensures { (s : AppendState) → s.bytes ≡ bytes.now
-        → map (λ image. image.items) images.old.items ≡ listed_of s.unsynced → OnOk result
-        (map (λ image. image.items) images.new.items
-        ≡ listed_of (after_request s call.now.done call.now.request).unsynced) }
+    ensures { ListsCall bytes.now call.now (map (λ image. image.items) images.old.items)
+        (map (λ image. image.items) images.new.items) result }
 {
     match &call.request {
         AppendRequest::Append { bytes: more } => push_loose(alloc, images, bytes, more.as_slice()),
