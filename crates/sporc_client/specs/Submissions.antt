@@ -127,6 +127,14 @@ answered c random leaf (Sign item) = signed c random item leaf
 unfoldable pub submission : PlainClient → List ℕ → Result ℕ LeafFault → Result Submitted SubmitFault
 submission c random leaf = answered c random leaf (due c)
 
+-- the entry that a submission made
+abbrev pub entries_made : Result Submitted SubmitFault → List (List ℕ)
+entries_made (Ok (submitted.Entry entry)) = entry ∷ []
+entries_made (Ok submitted.Waiting) = []
+entries_made (Ok submitted.Nothing) = []
+entries_made (Ok (submitted.Dropped fault)) = []
+entries_made (Err fault) = []
+
 -- what a submission added to the log
 abbrev pub submission_added : ℕ → Result Submitted SubmitFault → List Logged
 submission_added by (Ok submitted.Waiting) = []

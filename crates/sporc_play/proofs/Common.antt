@@ -100,7 +100,7 @@ pub use Rattle.sporc_client.specs.Rebasing.{beyond, rebased}
 pub use Rattle.sporc_client.specs.Run.{Give, Happen, IsAt, IsRun, May, Move, Open, Restart, Restart as GoesBack, Setup, World, after as after_move, after_all, given, opening_of, start}
 pub use Rattle.sporc_client.specs.Soundness.{IsSound}
 pub use Rattle.sporc_client.specs.Step.{accepted, change_comes, edit_comes, form_coming, is_flight, keeps, log_of_entries, log_of_first, own_comes, replay, replay_from, restated, step}
-pub use Rattle.sporc_client.specs.Submissions.{Drop, Due, Nothing, Refuse, Sign, Waiting, answered, due, is_signing, signed, submission, submission_added}
+pub use Rattle.sporc_client.specs.Submissions.{Drop, Due, Nothing, Refuse, Sign, Waiting, answered, due, entries_made, is_signing, signed, submission, submission_added}
 pub use Rattle.sporc_client.specs.Typed.{AreEpochKeys, IsTypedChange, IsTypedEvent, IsTypedMove, IsTypedRun}
 pub use Rattle.sporc_client.specs.declared.event.Event.{Event}
 pub use Rattle.sporc_client.specs.declared.fault.SubmitFault.{SubmitFault}
@@ -147,7 +147,7 @@ pub use Rattle.sporc_play.specs.Playing.{IsShortScript, IsWriteCause, PlayOutcom
 pub use Rattle.sporc_play.specs.Report.{Compares, Reports, ReportsFrom, ReportsPrefix, Writes, accept_line, change_line, cut_line, discard_line, edited_line, entry_line, event_line, flip_line}
 pub use Rattle.sporc_play.specs.Report.{flipped_line, give_line, hashes_of, join_line, line_by, next_number, not_open_line, restart_answer, restart_line, sign_line, signed_line}
 pub use Rattle.sporc_play.specs.Report.{submit_line}
-pub use Rattle.sporc_play.specs.Scene.{Effect, Scene, adds, after, after_each, commands_of, cuts, delta_by, edit_events, edit_size, effect_of, entries_at, entries_in, entry_at, flip_byte, flipped}
+pub use Rattle.sporc_play.specs.Scene.{Effect, Scene, adds, after, after_each, commands_of, cuts, delta_by, edit_events, edit_size, effect_of, entries_at, entry_at, flip_byte, flipped}
 pub use Rattle.sporc_play.specs.Scene.{flips, if_open, Joining, NotOpened, Opens, joining_by, joining_from, joining_in, joining_of, joining_with, joins, leaf_after, leaf_next, marks_of, moved}
 pub use Rattle.sporc_play.specs.Scene.{nothing, opening, opening_moves, openings, restarts}
 pub use Rattle.sporc_play.specs.Scene.{scene_moved, scene_opened, seen_by, signer_of, signs_by, submission_in, text_size, what_size, with_entry, with_more}

@@ -2,7 +2,7 @@
 use Rattle.std.proofs.Common.{◌≡◌, ◌≢◌, ℕ, ◌+◌, Bool, cond, List, [], ◌∷◌, ◌++◌, length, map, refl, sym, ap, ap₂, ◌∙◌, subst, add-zero, Option, None, Some, option_map, Result}
 use Rattle.sporc_play.proofs.Common.{option_to_list, LeafFault, SignerModel, LmsPrivate, MemoryDiskModel, SubmitFault, Submitted, ClientModel, state_of, Logged, PlainClient, Setup, Happen, after_all}
 use Rattle.sporc_play.proofs.Common.{replay, submission, submission_added, replay_append, Device, one_same, PlayLine, Seat, PlayState, setup_of, random_of, line_by, next_number, submit_line}
-use Rattle.sporc_play.proofs.Common.{logs_after, Effect, Scene, after, entries_in, if_open, leaf_after, submission_in, with_more, AreDrawn, ClientSubmitted, HasSubmitted, IsReady, IsSeatAt}
+use Rattle.sporc_play.proofs.Common.{logs_after, Effect, Scene, after, entries_made, if_open, leaf_after, submission_in, with_more, AreDrawn, ClientSubmitted, HasSubmitted, IsReady, IsSeatAt}
 use Rattle.sporc_play.proofs.Common.{IsSubmitted, answer_of, last_with, submission_line, Holds, IsSeatOf, StandsFor, first_device, Forgery, Rogue, forged_entry, sign_line, signs_by, IsRogueAt}
 use Rattle.sporc_play.proofs.Common.{HasSigned, forged_by, signing_line, IsRogueOf}
 use Rattle.sporc_play.specs.Scene.{performed, last_made, submits}
@@ -45,10 +45,10 @@ abbrev done : Setup → Scene → Device → Result Submitted SubmitFault → Sc
 done s scene who answer = submitted_by s scene who (submits who answer)
 
 holds_more : {D : Type 0} (s : Setup) (scene : Scene) (answer : Result Submitted SubmitFault) (who : Device) (c c' : ClientModel D) → IsReady (s.private who) (scene.leaves who) c → c.opening.key ≡ s.private who
-    → IsReady c.opening.key (c.leaves.next + length (entries_in answer)) c' → IsReady (s.private who) (with_more scene.leaves (Some who) (length (entries_in answer)) who) c'
+    → IsReady c.opening.key (c.leaves.next + length (entries_made answer)) c' → IsReady (s.private who) (with_more scene.leaves (Some who) (length (entries_made answer)) who) c'
 holds_more s scene answer who c c' was key is =
-    subst (λ (n : ℕ). IsReady (s.private who) n c') (ap (λ (n : ℕ). n + length (entries_in answer)) was.leaves.next ∙ sym (more_own scene.leaves who (length (entries_in answer))))
-    (subst (λ (k : LmsPrivate). IsReady k (c.leaves.next + length (entries_in answer)) c') key is)
+    subst (λ (n : ℕ). IsReady (s.private who) n c') (ap (λ (n : ℕ). n + length (entries_made answer)) was.leaves.next ∙ sym (more_own scene.leaves who (length (entries_made answer))))
+    (subst (λ (k : LmsPrivate). IsReady k (c.leaves.next + length (entries_made answer)) c') key is)
 
 -- what it does in the words of the scene
 answer_is : (s : Setup) (scene : Scene) (seat : Seat) (c : ClientModel MemoryDiskModel) → IsSeatOf s scene (with_client seat (Some c)) → answer_of seat c ≡ submission_in s scene seat.device (state_of c)
@@ -79,8 +79,8 @@ seat_done s scene seat made new is did = go seat.client is did.client
         ∙ ap (λ (es : List (List ℕ)). last_made scene.last seat.device (length scene.made + 1) es seat.device) are
         ∙ ap (last_made scene.last seat.device (length scene.made + 1) entries) (sym did.device)
 
-    open_case : (c c' : ClientModel MemoryDiskModel) → IsSeatOf s scene (with_client seat (Some c)) → new.client ≡ Some c' → IsSubmitted c (answer_of seat c) c' → option_to_list made ≡ entries_in (answer_of seat c)
-        → IsDone s (done s scene seat.device (answer_of seat c)) (entries_in (answer_of seat c)) made new
+    open_case : (c c' : ClientModel MemoryDiskModel) → IsSeatOf s scene (with_client seat (Some c)) → new.client ≡ Some c' → IsSubmitted c (answer_of seat c) c' → option_to_list made ≡ entries_made (answer_of seat c)
+        → IsDone s (done s scene seat.device (answer_of seat c)) (entries_made (answer_of seat c)) made new
     open_case c c' is now by are =
         let answer = answer_of seat c in
         let added = submission_added 0 answer in
@@ -88,7 +88,7 @@ seat_done s scene seat made new is did = go seat.client is did.client
         record {
           seat = record {
             asked = asked;
-            last = last (entries_in answer) are;
+            last = last (entries_made answer) are;
             client = ap (after_all s scene.world (map (Happen seat.device) added)).clients did.device
                 ∙ client_happens s scene.world seat.device (state_of c) added is.client
                 ∙ ap Some (replay_append c.opening c.log added ∙ state) ∙ sym (ap (option_map state_of) now);
@@ -125,7 +125,7 @@ seat_done s scene seat made new is did = go seat.client is did.client
     go None is by = subst P (sym is.client) (none_case seat.signer refl is.holds is.client by.0 by.1)
     go (Some c) is by =
         subst P (sym is.client)
-        (subst (λ (a : Result Submitted SubmitFault). IsDone s (done s scene seat.device a) (entries_in a) made new) (answer_is s scene seat c is) (open_case c by.0 is by.1 by.2 by.3))
+        (subst (λ (a : Result Submitted SubmitFault). IsDone s (done s scene seat.device a) (entries_made a) made new) (answer_is s scene seat c is) (open_case c by.0 is by.1 by.2 by.3))
 
 -- ---- the state
 

@@ -2,7 +2,7 @@
 use Rattle.std.proofs.Common.{◌≡◌, ◌≢◌, ℕ, ◌+◌, ◌^◌, ◌<◌, Bool, true, false, cond, eq-eqb, List, [], ◌++◌, length, refl, sym, ap, ap₂, ◌∙◌, subst, arith, add-zero, Option, None, Some, Result, Ok, Err}
 use Rattle.std.proofs.Common.{inl, inr, IfOk, option_map}
 use Rattle.sporc_play.proofs.Common.{◌==◌, ◌⊎◌, is_none, ◌&&◌, option_to_list, OnOk, eqb-true, LeafFault, height_of, SubmitFault, Submitted, ClientModel, state_of, PlainClient, Due, Sign, answered}
-use Rattle.sporc_play.proofs.Common.{due, is_signing, submission_added, entries_in, leaf_next, MemoryDiskModel, Seat, random_of, AreDrawn, ClientSubmitted, HasSubmitted, IsReady, IsSubmitted}
+use Rattle.sporc_play.proofs.Common.{due, is_signing, submission_added, entries_made, leaf_next, MemoryDiskModel, Seat, random_of, AreDrawn, ClientSubmitted, HasSubmitted, IsReady, IsSubmitted}
 use Rattle.sporc_play.proofs.Common.{last_with, DrawFaults, Draws, LeavesModel}
 use Rattle.lms_leaf.specs.declared.faults.LeafFault.TheVariants as leaves
 use Rattle.sporc_base.specs.Outcome.{GivesUnless}
@@ -24,10 +24,10 @@ given (Err fault) answer gives named = gives (λ is. named (ap Err is))
 quiet_answer : (c : PlainClient) (random : List ℕ) (leaf other : Result ℕ LeafFault) (d : Due) → is_signing d ≡ false → answered c random leaf d ≡ answered c random other d
 quiet_answer c random leaf other d quiet = grind arith
 
-quiet_entries : (c : PlainClient) (random : List ℕ) (leaf : Result ℕ LeafFault) (d : Due) → is_signing d ≡ false → entries_in (answered c random leaf d) ≡ []
+quiet_entries : (c : PlainClient) (random : List ℕ) (leaf : Result ℕ LeafFault) (d : Due) → is_signing d ≡ false → entries_made (answered c random leaf d) ≡ []
 quiet_entries c random leaf d quiet = grind arith
 
-quiet_gives : (answer : Result Submitted SubmitFault) → entries_in answer ≡ [] → gives_entry answer ≡ false
+quiet_gives : (answer : Result Submitted SubmitFault) → entries_made answer ≡ [] → gives_entry answer ≡ false
 quiet_gives answer none = grind arith
 
 -- ---- with one it does
@@ -40,7 +40,7 @@ signs_with : (c : PlainClient) (random : List ℕ) (leaf : ℕ) (d : Due) → is
 signs_with c random leaf (Sign item) signs = record { entry = _; is = refl }
 signs_with c random leaf d signs = absurd cc
 
-no_leaf : (c : PlainClient) (random : List ℕ) (next : ℕ) (d : Due) → is_signing d ≡ true → entries_in (answered c random (Err (leaves.Exhausted next)) d) ≡ []
+no_leaf : (c : PlainClient) (random : List ℕ) (next : ℕ) (d : Due) → is_signing d ≡ true → entries_made (answered c random (Err (leaves.Exhausted next)) d) ≡ []
 no_leaf c random next d signs = grind arith
 
 disk_fault : (c : PlainClient) (random : List ℕ) (d : Due) → is_signing d ≡ true → answered c random (Err leaves.DiskFault) d ≡ Err faults.LeafFault
@@ -69,7 +69,7 @@ pub record Submits {D : Type 0} (random : List ℕ) (old new : ClientModel D) (r
 
 module _ {D : Type 0} (disk_told : D → DiskTold) where
   after_call : (random : List ℕ) (old new : ClientModel D) (result : Result Submitted SubmitFault) → Called disk_told random old new result
-      → AreDrawn old.opening.key (old.leaves.next + length (entries_in result)) new.leaves → kept_after None old.leaves new.leaves (gives_entry result) ≡ None → IsSubmitted old result new
+      → AreDrawn old.opening.key (old.leaves.next + length (entries_made result)) new.leaves → kept_after None old.leaves new.leaves (gives_entry result) ≡ None → IsSubmitted old result new
   after_call random old new result called drawn_now none = record {
     opening = ap (λ (c : ClientModel D). c.opening) called.log;
     log = ap (λ (c : ClientModel D). c.log) called.log;
@@ -85,8 +85,8 @@ module _ {D : Type 0} (disk_told : D → DiskTold) where
   quiet random old new result called signs =
       let c = state_of old in
       let same = called.undrawn signs in
-      let none : entries_in result ≡ [] = ap entries_in (sym called.answer) ∙ quiet_entries c random (drawn old.leaves new.leaves) (due c) signs in
-      let count : old.leaves.next ≡ old.leaves.next + length (entries_in result) = sym (ap (λ (es : List (List ℕ)). old.leaves.next + length es) none ∙ add-zero old.leaves.next) in
+      let none : entries_made result ≡ [] = ap entries_made (sym called.answer) ∙ quiet_entries c random (drawn old.leaves new.leaves) (due c) signs in
+      let count : old.leaves.next ≡ old.leaves.next + length (entries_made result) = sym (ap (λ (es : List (List ℕ)). old.leaves.next + length es) none ∙ add-zero old.leaves.next) in
       record {
         answer = quiet_answer c random (leaf_next old) (drawn old.leaves new.leaves) (due c) signs ∙ called.answer;
         client = after_call random old new result called
@@ -103,12 +103,12 @@ module _ {D : Type 0} (disk_told : D → DiskTold) where
       let did = called.drawn_by signs in
       let draws = subst (λ (r : Result ℕ LeafFault). Draws disk_told old.leaves r new.leaves) is did.leaf in
       let why = subst (λ (r : Result ℕ LeafFault). DrawFaults disk_told old.leaves r new.leaves) is did.fault in
-      let none : entries_in result ≡ [] = ap entries_in (sym called.answer ∙ ap (λ (r : Result ℕ LeafFault). answered c random r (due c)) is) ∙ no_leaf c random old.leaves.next (due c) signs in
-      let next : new.leaves.next ≡ old.leaves.next + length (entries_in result) = draws.next ∙ sym (ap (λ (es : List (List ℕ)). old.leaves.next + length es) none ∙ add-zero old.leaves.next) in
+      let none : entries_made result ≡ [] = ap entries_made (sym called.answer ∙ ap (λ (r : Result ℕ LeafFault). answered c random r (due c)) is) ∙ no_leaf c random old.leaves.next (due c) signs in
+      let next : new.leaves.next ≡ old.leaves.next + length (entries_made result) = draws.next ∙ sym (ap (λ (es : List (List ℕ)). old.leaves.next + length es) none ∙ add-zero old.leaves.next) in
       record {
         answer = ap (λ (r : Result ℕ LeafFault). answered c random r (due c)) (leaf_none key old.leaves.next old.leaves.leaf_count all called.ready.leaves.count ∙ sym is) ∙ called.answer;
         client = after_call random old new result called
-            (drawn_more key old.leaves new.leaves (length (entries_in result)) called.ready.leaves next (omega (arith, ap (λ (es : List (List ℕ)). length es) none, all)) draws.leaf_count
+            (drawn_more key old.leaves new.leaves (length (entries_made result)) called.ready.leaves next (omega (arith, ap (λ (es : List (List ℕ)). length es) none, all)) draws.leaf_count
             (λ yes. let no : Err (leaves.Exhausted old.leaves.next) ≡ Err leaves.DiskFault = why.faulty.0 yes in cc))
             (ap (kept_after None old.leaves new.leaves) (quiet_gives result none) ∙ same_next old.leaves new.leaves draws.next);
       }
@@ -124,12 +124,12 @@ module _ {D : Type 0} (disk_told : D → DiskTold) where
       let why = subst (λ (r : Result ℕ LeafFault). DrawFaults disk_told old.leaves r new.leaves) is did.fault in
       let made = signs_with c random old.leaves.next (due c) signs in
       let result_is : result ≡ Ok (submitted.Entry made.entry) = sym called.answer ∙ ap (λ (r : Result ℕ LeafFault). answered c random r (due c)) is ∙ made.is in
-      let one : length (entries_in result) ≡ 1 = ap (λ (r : Result Submitted SubmitFault). length (entries_in r)) result_is in
+      let one : length (entries_made result) ≡ 1 = ap (λ (r : Result Submitted SubmitFault). length (entries_made r)) result_is in
       let low : old.leaves.next < 2 ^ height_of key.lms = subst (λ (n : ℕ). old.leaves.next < n) called.ready.leaves.count draws.within in
       record {
         answer = ap (λ (r : Result ℕ LeafFault). answered c random r (due c)) (leaf_drawn key old.leaves.next old.leaves.next (2 ^ height_of key.lms) refl low refl ∙ sym is) ∙ called.answer;
         client = after_call random old new result called
-            (drawn_more key old.leaves new.leaves (length (entries_in result)) called.ready.leaves (draws.next ∙ sym (ap (λ (n : ℕ). old.leaves.next + n) one)) (omega (arith, one, draws.within)) draws.leaf_count
+            (drawn_more key old.leaves new.leaves (length (entries_made result)) called.ready.leaves (draws.next ∙ sym (ap (λ (n : ℕ). old.leaves.next + n) one)) (omega (arith, one, draws.within)) draws.leaf_count
             (λ yes. let no : Ok old.leaves.next ≡ Err leaves.DiskFault = why.faulty.0 yes in cc))
             (ap (λ (r : Result Submitted SubmitFault). kept_after None old.leaves new.leaves (gives_entry r)) result_is);
       }
@@ -184,14 +184,14 @@ module _ {D : Type 0} (disk_told : D → DiskTold) where
 -- ---- a submission, once its answer was told
 
 pub told_made : {V F : Type 0} (items : V → List ℕ) (r : Result (Option V) F) (result answer : Result Submitted SubmitFault)
-    → IfOk r (λ made. option_to_list (option_map items made) ≡ entries_in result) → OnOk r (answer ≡ result) → IfOk r (λ made. option_to_list (option_map items made) ≡ entries_in answer)
-told_made items (Ok made) result answer is same = is ∙ ap entries_in (sym same)
+    → IfOk r (λ made. option_to_list (option_map items made) ≡ entries_made result) → OnOk r (answer ≡ result) → IfOk r (λ made. option_to_list (option_map items made) ≡ entries_made answer)
+told_made items (Ok made) result answer is same = is ∙ ap entries_made (sym same)
 told_made items (Err e) result answer is same = tt
 
 -- ---- a seat after it
 
 pub has_submitted : (next : ℕ) (seat : Seat) (c c' : ClientModel MemoryDiskModel) (random : List ℕ) (made : Option (List ℕ)) → seat.client ≡ Some c → random ≡ random_of seat.device (seat.asked + 1)
-    → option_to_list made ≡ entries_in (submission (state_of c) random (leaf_next c)) → IsSubmitted c (submission (state_of c) random (leaf_next c)) c'
+    → option_to_list made ≡ entries_made (submission (state_of c) random (leaf_next c)) → IsSubmitted c (submission (state_of c) random (leaf_next c)) c'
     → HasSubmitted next seat made (record { device = seat.device; asked = seat.asked + 1; last = last_with next seat.last made; signer = seat.signer; client = Some c' })
 has_submitted next seat c c' random made is at entries did = record {
   device = refl;
@@ -202,6 +202,6 @@ has_submitted next seat c c' random made is at entries did = record {
     c',
     refl,
     subst (λ (r : List ℕ). IsSubmitted c (submission (state_of c) r (leaf_next c)) c') at did,
-    entries ∙ ap (λ (r : List ℕ). entries_in (submission (state_of c) r (leaf_next c))) at,
+    entries ∙ ap (λ (r : List ℕ). entries_made (submission (state_of c) r (leaf_next c))) at,
   );
 }

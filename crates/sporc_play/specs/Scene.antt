@@ -20,13 +20,12 @@ use Rattle.sporc_line.specs.Openings.{open_checks}
 use Rattle.sporc_line.specs.declared.fault.LineOpenFault.{LineOpenFault}
 use Rattle.sporc_client.specs.declared.fault.SubmitFault.{SubmitFault}
 use Rattle.sporc_client.specs.declared.submitted.Submitted.{Submitted}
-use Rattle.sporc_client.specs.declared.submitted.Submitted.TheVariants as submitted
 use Rattle.sporc_client.specs.ClientModel.{ClientModel}
 use Rattle.sporc_client.specs.Log.{Logged}
 use Rattle.sporc_client.specs.PlainClient.{PlainClient, shown_after}
 use Rattle.sporc_client.specs.Run.{Setup, World, Move, Open, Happen, Give, Restart, after_all}
 use Rattle.sporc_client.specs.Run.{start}
-use Rattle.sporc_client.specs.Submissions.{submission, submission_added}
+use Rattle.sporc_client.specs.Submissions.{entries_made, submission, submission_added}
 use Rattle.sporc_script.specs.declared.command.Command.{Command}
 use Rattle.sporc_script.specs.declared.command.Command.TheVariants as commands
 use Rattle.sporc_script.specs.declared.command.Edit.{Edit}
@@ -121,17 +120,9 @@ abbrev pub submission_in : Setup → Scene → Device → PlainClient → Result
 submission_in s scene who c = submission c (random_of who (scene.asked who + 1))
     (leaf_after (s.private who) (scene.leaves who))
 
--- the entry that an answer hands out
-abbrev pub entries_in : Result Submitted SubmitFault → List (List ℕ)
-entries_in (Ok (submitted.Entry entry)) = entry ∷ []
-entries_in (Ok submitted.Waiting) = []
-entries_in (Ok submitted.Nothing) = []
-entries_in (Ok (submitted.Dropped fault)) = []
-entries_in (Err fault) = []
-
 abbrev pub submits : Device → Result Submitted SubmitFault → Effect
 submits who answer =
-    record { moves = map (Happen who) (submission_added 0 answer); entries = entries_in answer }
+    record { moves = map (Happen who) (submission_added 0 answer); entries = entries_made answer }
 
 -- ---- what is handed out
 

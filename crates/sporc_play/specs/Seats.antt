@@ -11,13 +11,13 @@ use Rattle.sporc_client.specs.declared.submitted.Submitted.{Submitted}
 use Rattle.sporc_client.specs.ClientModel.{ClientModel, state_of, with_events}
 use Rattle.sporc_client.specs.Log.{Logged}
 use Rattle.sporc_client.specs.PlainClient.{PlainClient}
-use Rattle.sporc_client.specs.Submissions.{submission, submission_added}
+use Rattle.sporc_client.specs.Submissions.{entries_made, submission, submission_added}
 use Rattle.sporc_play.specs.declared.seat.Rogue.{Rogue}
 use Rattle.sporc_play.specs.declared.seat.Seat.{Seat}
 use Rattle.sporc_play.specs.Derived.{random_of}
 use Rattle.sporc_play.specs.Logs.{restarted_log}
 use Rattle.sporc_play.specs.Report.{not_open_line, submit_line}
-use Rattle.sporc_play.specs.Scene.{entries_in, leaf_next}
+use Rattle.sporc_play.specs.Scene.{leaf_next}
 
 -- ---- where they stand
 
@@ -89,14 +89,14 @@ pub record IsSubmitted {D : Type 0} (old : ClientModel D) (answer : Result Submi
     (new : ClientModel D) : Type 0 where
   pub opening : new.opening ≡ old.opening
   pub log : new.log ≡ old.log ++ submission_added 0 answer
-  pub ready : IsReady old.opening.key (old.leaves.next + length (entries_in answer)) new
+  pub ready : IsReady old.opening.key (old.leaves.next + length (entries_made answer)) new
 
 -- the client of a seat after a submission, if there is one: it made this entry, if it made any
 abbrev pub ClientSubmitted : {D : Type 0} → Seat → Option (ClientModel D) → Option (List ℕ)
     → Option (ClientModel D) → Type 0
 ClientSubmitted seat None made new = (new ≡ None) × (made ≡ None)
 ClientSubmitted {D = D} seat (Some c) made new = (c' : ClientModel D) × (new ≡ Some c')
-    × IsSubmitted c (answer_of seat c) c' × (option_to_list made ≡ entries_in (answer_of seat c))
+    × IsSubmitted c (answer_of seat c) c' × (option_to_list made ≡ entries_made (answer_of seat c))
 
 -- the number of the last entry, once this one is made, if it is
 abbrev pub last_with : ℕ → ℕ → Option (List ℕ) → ℕ

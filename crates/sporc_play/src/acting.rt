@@ -12,7 +12,7 @@ ghost use Rattle.sporc_client.specs.Answers.{restart_fault};
 ghost use Rattle.sporc_client.specs.ClientModel.{state_of};
 ghost use Rattle.sporc_client.specs.PlainClient.{shown_after};
 ghost use Rattle.sporc_client.specs.Step.{log_of_first};
-ghost use Rattle.sporc_client.specs.Submissions.{submission};
+ghost use Rattle.sporc_client.specs.Submissions.{entries_made, submission};
 ghost use Rattle.sporc_script.specs.Spelling.{device_text};
 ghost use Rattle.sporc_play.specs.Logs.{change_events, discard_events, edit_logged, given_by};
 ghost use Rattle.sporc_play.specs.Logs.{given_events};
@@ -21,8 +21,8 @@ ghost use Rattle.sporc_play.specs.Report.{event_line, give_line, line_by, not_op
 ghost use Rattle.sporc_play.specs.Report.{restart_answer, restart_line, submit_line};
 ghost use Rattle.sporc_play.specs.Seats.{HasSubmitted, IsReady, IsSubmitted, client_logged};
 ghost use Rattle.sporc_play.specs.Seats.{plain_in, seat_logged, seat_restarted, submission_line};
-ghost use Rattle.sporc_play.specs.Scene.{delta_by, edit_events, edit_size, entries_in, leaf_next};
-ghost use Rattle.sporc_play.specs.Scene.{marks_of, seen_by};
+ghost use Rattle.sporc_play.specs.Scene.{delta_by, edit_events, edit_size, leaf_next, marks_of};
+ghost use Rattle.sporc_play.specs.Scene.{seen_by};
 
 use crate::derived::random_of;
 use crate::seat::{PlayClient, Seat};
@@ -254,7 +254,7 @@ fn submit_client(
     ensures line { OnOk result (string_bytes out.new ≡ string_bytes out.old ++ submit_line device
         next last (submission (state_of client.old) random.now (leaf_next client.old))) }
     ensures made { IfOk result (λ made. option_to_list (option_map (λ v. v.items) made)
-        ≡ entries_in (submission (state_of client.old) random.now (leaf_next client.old))) }
+        ≡ entries_made (submission (state_of client.old) random.now (leaf_next client.old))) }
     ensures client { OnOk result (IsSubmitted client.old
         (submission (state_of client.old) random.now (leaf_next client.old)) client.new) }
 {
@@ -273,7 +273,7 @@ fn tell_submission(
     ensures line { OnOk result
         (string_bytes out.new ≡ string_bytes out.old ++ submit_line device next last answer) }
     ensures made { IfOk result
-        (λ made. option_to_list (option_map (λ v. v.items) made) ≡ entries_in answer) }
+        (λ made. option_to_list (option_map (λ v. v.items) made) ≡ entries_made answer) }
     ensures named { OnOk result (answer ≢ Err SubmitFault.Memory) }
     ensures no_disk { OnOk result (answer ≢ Err SubmitFault.LeafFault) }
 {
@@ -304,7 +304,7 @@ fn push_submission(
 
 // The entry that a submission hands out.
 fn entry_in(answer: Result<Submitted, SubmitFault>) -> Option<Vec<u8>>
-    ensures { option_to_list (option_map (λ v. v.items) result) ≡ entries_in answer }
+    ensures { option_to_list (option_map (λ v. v.items) result) ≡ entries_made answer }
 {
     match answer {
         Ok(Submitted::Entry(entry)) => Some(entry.into_vec()),

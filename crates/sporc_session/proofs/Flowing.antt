@@ -2,10 +2,11 @@
 use Rattle.std.proofs.Common.{◌≡◌, ℕ, Bool, List, [], ◌∷◌, ◌++◌, refl, ap, ◌∙◌}
 use Rattle.sporc_session.proofs.Common.{Result, Ok, append-nil, SubmitFault, Submitted, Act, all_of, Mode, Asking, Between, Leads, Goes, IsQuiet, takes, submits_none, sends, rejected}
 use Rattle.sporc_client.specs.declared.submitted.Submitted.TheVariants as submitted
-use Rattle.sporc_session.specs.Flows.{came_by, taken_by, waiting, made_by, submitted_by, sent_by, unsent}
+use Rattle.sporc_client.specs.Submissions.{entries_made}
+use Rattle.sporc_session.specs.Flows.{came_by, taken_by, waiting, submitted_by, sent_by, unsent}
 
 -- a submission after which nothing is sent made no entry
-quiet_makes : (answer : Result Submitted SubmitFault) → IsQuiet answer → made_by answer ≡ []
+quiet_makes : (answer : Result Submitted SubmitFault) → IsQuiet answer → entries_made answer ≡ []
 quiet_makes (Ok (submitted.Entry entry)) quiet = absurd quiet
 quiet_makes _ quiet = refl
 

@@ -1,8 +1,6 @@
 -- The entries that come to a receiver and go from it.
-use Rattle.std.specs.Prelude.{ℕ, List, [], ◌∷◌, Result, Ok}
-use Rattle.sporc_client.specs.declared.fault.SubmitFault.{SubmitFault}
-use Rattle.sporc_client.specs.declared.submitted.Submitted.{Submitted}
-use Rattle.sporc_client.specs.declared.submitted.Submitted.TheVariants as submitted
+use Rattle.std.specs.Prelude.{ℕ, List, [], ◌∷◌}
+use Rattle.sporc_client.specs.Submissions.{entries_made}
 use Rattle.sporc_session.specs.Acts.{Act, Pull, Take, Submit, Send}
 use Rattle.sporc_session.specs.Protocol.{Mode, Taking, Sending}
 
@@ -21,14 +19,9 @@ abbrev pub waiting : Mode → List (List ℕ)
 waiting (Taking n at came next) = came
 waiting _ = []
 
--- the entry that a submission made
-abbrev pub made_by : Result Submitted SubmitFault → List (List ℕ)
-made_by (Ok (submitted.Entry entry)) = entry ∷ []
-made_by _ = []
-
 -- the entries that submissions made
 abbrev pub submitted_by : Act → List (List ℕ)
-submitted_by (Submit point first second answer) = made_by answer
+submitted_by (Submit point first second answer) = entries_made answer
 submitted_by _ = []
 
 -- those that were sent
