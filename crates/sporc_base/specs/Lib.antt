@@ -1,4 +1,5 @@
 pub mod Bytes
 pub mod FirstFault
+pub mod Lists
 pub mod Numbers
 pub mod Outcome

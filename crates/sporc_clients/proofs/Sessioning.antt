@@ -2,13 +2,13 @@
 use Rattle.std.proofs.Common.{◌≡◌, ◌≤◌, ℕ, List, [], Option, Ok, sym, ap, ◌∙◌, subst, arith}
 use Rattle.sporc_clients.proofs.Common.{count_of_both, NetTold, AppendsItem, TakesItem, link_told, IfErr, Result, ⊤, ChanceTold, Use, EditorLine, IsAllowed, Item, Past, items_of, SessionFault}
 use Rattle.sporc_clients.proofs.Common.{link_stand, Wanted, IsSessionOf, LinkTold, stand_at, IsAllowedLog, IsFetch, InboxModel, LinkStand, empty_inbox}
+use Rattle.sporc_base.specs.Lists.{StartsWith}
 use Rattle.sporc_outside.specs.Nets.{HandsLink}
 use Rattle.sporc_outside.specs.Streams.{StreamTold, Shuts}
 use Rattle.sporc_clients.specs.Nets.{UsesLink}
 use Rattle.sporc_turn.specs.declared.known.Known.{Known}
 use Rattle.sporc_turn.specs.declared.pass.Pass.{Pass}
 use Rattle.sporc_turn.specs.Knowing.{first_known}
-use Rattle.sporc_turn.specs.Log.{StartsWith}
 use Rattle.sporc_turn.specs.Passes.{known_of, watermark_of}
 use Rattle.sporc_session.specs.Replies.{HasReadFor}
 use Rattle.sporc_session.specs.Sessions.{IsSession}

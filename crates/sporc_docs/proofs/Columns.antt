@@ -3,9 +3,10 @@ use Rattle.std.proofs.Common.{◌≡◌, ◌≢◌, ◌∙◌, ℕ, suc, ◌+◌
 use Rattle.sporc_docs.proofs.Common.{Known, Pass, first_known, splitting, known_of, read_of, OrderModel, SessionEnd, Item, by_of, placed, IsLogOf, IsWornAt, log_at_first, Visit, Splits, Joins, IsBack}
 use Rattle.sporc_docs.proofs.Common.{Ends, Session, IsOneOf, AttendsDocument, AttendAll, Serves, All-head, All-tail, starts_then, starts_same, none_of}
 use Rattle.std.proofs.lemmas.Bool.{cases_eq}
+use Rattle.sporc_base.specs.Lists.{StartsWith}
 use Rattle.sporc_turn.specs.declared.known.Joined.{Joined}
 use Rattle.sporc_turn.specs.declared.limits.TheConstants.{MAX_TICKETS}
-use Rattle.sporc_turn.specs.Log.{StartsWith, own}
+use Rattle.sporc_turn.specs.Log.{own}
 use Rattle.sporc_serve.specs.Turns.{HasReadLast}
 use Rattle.sporc_serve.proofs.Turning.{starts_log}
 

@@ -2,11 +2,11 @@
 use Rattle.std.specs.Prelude.{◌≡◌, ◌+◌, ◌^◌, ◌<◌, ◌∷◌, ℕ, zero, suc, max, List, [], map}
 use Rattle.std.specs.Prelude.{Option, Some, None}
 use Rattle.std.specs.List.{AllByRecursion, AllZip}
+use Rattle.sporc_base.specs.Lists.{StartsWith}
 use Rattle.sporc_turn.specs.declared.known.Known.{Known}
 use Rattle.sporc_turn.specs.declared.pass.Pass.{Pass}
 use Rattle.sporc_turn.specs.declared.turn.Turn.{Turn}
 use Rattle.sporc_turn.specs.Knowing.{splitting, copied, joined_with}
-use Rattle.sporc_turn.specs.Log.{StartsWith}
 use Rattle.sporc_turn.specs.Passes.{known_of, read_of, IsPassOf}
 use Rattle.sporc_entry.specs.declared.genesis.Genesis.{Genesis}
 use Rattle.sporc_order.specs.declared.tail.Tail.{Ghosts}

@@ -2,7 +2,7 @@
 use Rattle.std.proofs.Common.{◌≡◌, ℕ, List, ◌++◌, append_assoc, ap, ◌∙◌, Result, Ok, Err}
 use Rattle.sporc_report.proofs.Common.{is_ok, if◌then◌else◌}
 use Rattle.std.specs.Result.{OnOk}
-use Rattle.sporc_report.proofs.Common.{OnErr, BeginsWith}
+use Rattle.sporc_report.proofs.Common.{OnErr, StartsWith}
 use Rattle.sporc_report.proofs.Beginnings.{begins_then}
 
 pub told_by_last : {X F : Type 0} (r : Result X F) (old first second new m text name end : List ℕ) → first ≡ old ++ (m ++ text) → second ≡ first ++ name → OnOk r (new ≡ second ++ end) → OnOk r (new ≡ old ++ (m ++ (text ++ (name ++ end))))
@@ -24,6 +24,6 @@ told_behind (Ok x) old mid new before number behind end a b =
 told_behind (Err e) old mid new before number behind end a b = tt
 
 -- an error behind what was appended before it
-pub begins_in_err : {X F : Type 0} (r : Result X F) (old mid new text : List ℕ) → mid ≡ old ++ text → BeginsWith new mid → OnErr r (BeginsWith new old)
+pub begins_in_err : {X F : Type 0} (r : Result X F) (old mid new text : List ℕ) → mid ≡ old ++ text → StartsWith new mid → OnErr r (StartsWith new old)
 begins_in_err (Ok x) old mid new text first later = tt
 begins_in_err (Err e) old mid new text first later = begins_then old mid new text first later

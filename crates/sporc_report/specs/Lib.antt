@@ -2,4 +2,3 @@ pub mod ClientLines
 pub mod JournalLines
 pub mod Names
 pub mod EntryLines
-pub mod Appending

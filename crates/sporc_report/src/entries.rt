@@ -4,10 +4,10 @@ ghost use Rattle.std.specs.Prelude.{◌≡◌, ◌-◌, ◌≤◌, ◌++◌, len
 ghost use Rattle.std.specs.Prelude.{codes, string_bytes};
 ghost use Rattle.std.specs.Fmt.{decimal};
 ghost use Rattle.std.specs.Option.{option_copied};
+ghost use Rattle.sporc_base.specs.Lists.{StartsWith};
 ghost use Rattle.sporc_entry.specs.Entry.{author_device, entry_of};
 ghost use Rattle.sporc_line.specs.Good.{Good};
 ghost use Rattle.sporc_script.specs.Spelling.{device_text};
-ghost use Rattle.sporc_report.specs.Appending.{BeginsWith};
 ghost use Rattle.sporc_report.specs.EntryLines.{committed_by, done_by, entry_line, entry_lines};
 ghost use Rattle.sporc_report.specs.EntryLines.{lines_left, origin_text, what_text};
 
@@ -27,7 +27,7 @@ use std::alloc::{AllocError, Global};
 pub fn push_entries(alloc: Global, out: &mut String, line: &Line, from: u32) -> Result<(), Memory>
     ensures ok { OnOk result (string_bytes out.new
         ≡ string_bytes out.old ++ entry_lines from line.now.genesis line.now.kit line.now.entries) }
-    ensures memory { OnErr result (BeginsWith (string_bytes out.new) (string_bytes out.old)) }
+    ensures memory { OnErr result (StartsWith (string_bytes out.new) (string_bytes out.old)) }
 {
     let mut behind = from.saturating_sub(1);
     'lines: while behind < line.len() {
@@ -45,7 +45,7 @@ fn push_at(alloc: Global, out: &mut String, line: &Line, position: u32) -> Resul
     requires good { Good line.now.genesis line.now.kit line.now.entries }
     ensures ok { OnOk result (string_bytes out.new ++ lines_left position line.now
         ≡ string_bytes out.old ++ lines_left (position - 1) line.now) }
-    ensures grows { BeginsWith (string_bytes out.new) (string_bytes out.old) }
+    ensures grows { StartsWith (string_bytes out.new) (string_bytes out.old) }
 {
     let entry = line.entries()[position as usize - 1].as_slice();
     push_entry(alloc, out, position, entry, line.form(position))
@@ -62,7 +62,7 @@ fn push_entry(
     requires { IsOk (entry_of bytes.now) }
     ensures ok { OnOk result (string_bytes out.new ≡ string_bytes out.old
         ++ entry_line position (committed_by (entry_of bytes.now) form.now)) }
-    ensures memory { OnErr result (BeginsWith (string_bytes out.new) (string_bytes out.old)) }
+    ensures memory { OnErr result (StartsWith (string_bytes out.new) (string_bytes out.old)) }
 {
     match EntryView::read(alloc, bytes) {
         Ok(entry) => push_view(alloc, out, position, &entry, form),
@@ -80,7 +80,7 @@ fn push_view(
 ) -> Result<(), Memory>
     ensures ok { OnOk result (string_bytes out.new ≡ string_bytes out.old
         ++ entry_line position (committed_by (Ok entry.now.entry) form.now)) }
-    ensures memory { OnErr result (BeginsWith (string_bytes out.new) (string_bytes out.old)) }
+    ensures memory { OnErr result (StartsWith (string_bytes out.new) (string_bytes out.old)) }
 {
     push_origin(out, position, entry.header())?;
     push_told(alloc, out, entry.change(), form)
@@ -90,7 +90,7 @@ fn push_view(
 fn push_origin(out: &mut String, position: u32, header: &Header) -> Result<(), Memory>
     ensures ok { OnOk result (string_bytes out.new ≡ string_bytes out.old
         ++ origin_text position (author_device header.now) header.now.number header.now.base) }
-    ensures memory { OnErr result (BeginsWith (string_bytes out.new) (string_bytes out.old)) }
+    ensures memory { OnErr result (StartsWith (string_bytes out.new) (string_bytes out.old)) }
 {
     push_decimal(out, u64::from(position))?;
     push_word(out, " ")?;
@@ -102,7 +102,7 @@ fn push_author(out: &mut String, header: &Header) -> Result<(), Memory>
     ensures ok { OnOk result (string_bytes out.new ≡ string_bytes out.old
         ++ (device_text (author_device header.now) ++ (codes " "
         ++ (decimal header.now.number ++ (codes " " ++ decimal header.now.base))))) }
-    ensures memory { OnErr result (BeginsWith (string_bytes out.new) (string_bytes out.old)) }
+    ensures memory { OnErr result (StartsWith (string_bytes out.new) (string_bytes out.old)) }
 {
     push_device(out, header.author_device())?;
     push_counted(out, " ", u64::from(header.number))?;
@@ -118,7 +118,7 @@ fn push_told(
 ) -> Result<(), Memory>
     ensures ok { OnOk result (string_bytes out.new ≡ string_bytes out.old ++ (codes " "
         ++ (what_text (done_by (option_copied change.entry) form.now) ++ codes "\n"))) }
-    ensures memory { OnErr result (BeginsWith (string_bytes out.new) (string_bytes out.old)) }
+    ensures memory { OnErr result (StartsWith (string_bytes out.new) (string_bytes out.old)) }
 {
     push_word(out, " ")?;
     push_done(alloc, out, change, form)?;
@@ -134,7 +134,7 @@ fn push_done(
 ) -> Result<(), Memory>
     ensures ok { OnOk result (string_bytes out.new
         ≡ string_bytes out.old ++ what_text (done_by (option_copied change.entry) form.now)) }
-    ensures memory { OnErr result (BeginsWith (string_bytes out.new) (string_bytes out.old)) }
+    ensures memory { OnErr result (StartsWith (string_bytes out.new) (string_bytes out.old)) }
 {
     match change {
         Some(body) => {

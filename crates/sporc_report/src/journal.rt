@@ -3,9 +3,9 @@
 ghost use Rattle.std.specs.Prelude.{◌≡◌, ◌++◌, codes, OnErr, OnOk, flat_map, string_bytes};
 ghost use Rattle.std.specs.Fmt.{decimal};
 ghost use Rattle.hex.specs.Hex.{encode_lower};
+ghost use Rattle.sporc_base.specs.Lists.{StartsWith};
 ghost use Rattle.sporc_client.specs.declared.event.Event.TheVariants as events;
 ghost use Rattle.sporc_member.specs.Role.{role_name};
-ghost use Rattle.sporc_report.specs.Appending.{BeginsWith};
 ghost use Rattle.sporc_report.specs.JournalLines.{change_text, delta_text, event_text};
 ghost use Rattle.sporc_report.specs.JournalLines.{journal_lines, part_text, spaced_part};
 
@@ -22,7 +22,7 @@ use std::alloc::Global;
 pub fn push_journal(alloc: Global, out: &mut String, journal: &[Event]) -> Result<(), Memory>
     ensures ok { OnOk result
         (string_bytes out.new ≡ string_bytes out.old ++ journal_lines journal.now) }
-    ensures memory { OnErr result (BeginsWith (string_bytes out.new) (string_bytes out.old)) }
+    ensures memory { OnErr result (StartsWith (string_bytes out.new) (string_bytes out.old)) }
 {
     for event in journal {
         push_event(alloc, out, event)?;
@@ -33,7 +33,7 @@ pub fn push_journal(alloc: Global, out: &mut String, journal: &[Event]) -> Resul
 
 fn push_event(alloc: Global, out: &mut String, event: &Event) -> Result<(), Memory>
     ensures ok { OnOk result (string_bytes out.new ≡ string_bytes out.old ++ event_text event.now) }
-    ensures memory { OnErr result (BeginsWith (string_bytes out.new) (string_bytes out.old)) }
+    ensures memory { OnErr result (StartsWith (string_bytes out.new) (string_bytes out.old)) }
 {
     match event {
         Event::Edit { by, seen, delta } => push_edit(out, *by, *seen, delta),
@@ -48,7 +48,7 @@ fn push_event(alloc: Global, out: &mut String, event: &Event) -> Result<(), Memo
 fn push_edit(out: &mut String, by: u32, seen: u64, delta: &Delta) -> Result<(), Memory>
     ensures ok { OnOk result (string_bytes out.new
         ≡ string_bytes out.old ++ event_text (events.Edit by seen delta.now)) }
-    ensures memory { OnErr result (BeginsWith (string_bytes out.new) (string_bytes out.old)) }
+    ensures memory { OnErr result (StartsWith (string_bytes out.new) (string_bytes out.old)) }
 {
     push_counted(out, "edit ", u64::from(by))?;
     push_stated(out, seen, delta)
@@ -58,7 +58,7 @@ fn push_edit(out: &mut String, by: u32, seen: u64, delta: &Delta) -> Result<(), 
 fn push_stated(out: &mut String, seen: u64, delta: &Delta) -> Result<(), Memory>
     ensures ok { OnOk result (string_bytes out.new ≡ string_bytes out.old
         ++ (codes " " ++ (decimal seen ++ (codes " " ++ delta_text delta.now)))) }
-    ensures memory { OnErr result (BeginsWith (string_bytes out.new) (string_bytes out.old)) }
+    ensures memory { OnErr result (StartsWith (string_bytes out.new) (string_bytes out.old)) }
 {
     push_between(out, " ", seen, " ")?;
     push_delta(out, delta)
@@ -67,7 +67,7 @@ fn push_stated(out: &mut String, seen: u64, delta: &Delta) -> Result<(), Memory>
 fn push_asked(alloc: Global, out: &mut String, by: u32, change: &Change) -> Result<(), Memory>
     ensures ok { OnOk result
         (string_bytes out.new ≡ string_bytes out.old ++ event_text (events.Change by change.now)) }
-    ensures memory { OnErr result (BeginsWith (string_bytes out.new) (string_bytes out.old)) }
+    ensures memory { OnErr result (StartsWith (string_bytes out.new) (string_bytes out.old)) }
 {
     push_between(out, "change ", u64::from(by), " ")?;
     push_change(alloc, out, change)
@@ -76,7 +76,7 @@ fn push_asked(alloc: Global, out: &mut String, by: u32, change: &Change) -> Resu
 fn push_submitted(alloc: Global, out: &mut String, by: u32, entry: &[u8]) -> Result<(), Memory>
     ensures ok { OnOk result
         (string_bytes out.new ≡ string_bytes out.old ++ event_text (events.Submit by entry.now)) }
-    ensures memory { OnErr result (BeginsWith (string_bytes out.new) (string_bytes out.old)) }
+    ensures memory { OnErr result (StartsWith (string_bytes out.new) (string_bytes out.old)) }
 {
     push_between(out, "submit ", u64::from(by), " ")?;
     push_digits(alloc, out, entry)
@@ -85,7 +85,7 @@ fn push_submitted(alloc: Global, out: &mut String, by: u32, entry: &[u8]) -> Res
 fn push_dropped(out: &mut String, by: u32, fault: ChangeFault) -> Result<(), Memory>
     ensures ok { OnOk result
         (string_bytes out.new ≡ string_bytes out.old ++ event_text (events.Dropped by fault)) }
-    ensures memory { OnErr result (BeginsWith (string_bytes out.new) (string_bytes out.old)) }
+    ensures memory { OnErr result (StartsWith (string_bytes out.new) (string_bytes out.old)) }
 {
     push_between(out, "dropped ", u64::from(by), " ")?;
     push_word(out, fault.name())
@@ -94,7 +94,7 @@ fn push_dropped(out: &mut String, by: u32, fault: ChangeFault) -> Result<(), Mem
 fn push_accepted(out: &mut String, by: u32, place: u32) -> Result<(), Memory>
     ensures ok { OnOk result
         (string_bytes out.new ≡ string_bytes out.old ++ event_text (events.Accept by place)) }
-    ensures memory { OnErr result (BeginsWith (string_bytes out.new) (string_bytes out.old)) }
+    ensures memory { OnErr result (StartsWith (string_bytes out.new) (string_bytes out.old)) }
 {
     push_counted(out, "accept ", u64::from(by))?;
     push_counted(out, " ", u64::from(place))
@@ -103,7 +103,7 @@ fn push_accepted(out: &mut String, by: u32, place: u32) -> Result<(), Memory>
 pub(crate) fn push_change(alloc: Global, out: &mut String, change: &Change) -> Result<(), Memory>
     ensures ok { OnOk result
         (string_bytes out.new ≡ string_bytes out.old ++ change_text change.now) }
-    ensures memory { OnErr result (BeginsWith (string_bytes out.new) (string_bytes out.old)) }
+    ensures memory { OnErr result (StartsWith (string_bytes out.new) (string_bytes out.old)) }
 {
     match change {
         Change::Add { member, role, key } => {
@@ -131,7 +131,7 @@ pub(crate) fn push_change(alloc: Global, out: &mut String, change: &Change) -> R
 fn push_key(alloc: Global, out: &mut String, key: &[u8]) -> Result<(), Memory>
     ensures ok { OnOk result
         (string_bytes out.new ≡ string_bytes out.old ++ (codes " " ++ encode_lower key.now)) }
-    ensures memory { OnErr result (BeginsWith (string_bytes out.new) (string_bytes out.old)) }
+    ensures memory { OnErr result (StartsWith (string_bytes out.new) (string_bytes out.old)) }
 {
     push_word(out, " ")?;
     push_digits(alloc, out, key)
@@ -141,7 +141,7 @@ fn push_key(alloc: Global, out: &mut String, key: &[u8]) -> Result<(), Memory>
 fn push_role(out: &mut String, word: &str, member: u16, role: Role) -> Result<(), Memory>
     ensures ok { OnOk result (string_bytes out.new
         ≡ string_bytes out.old ++ (word.now ++ (decimal member ++ (codes " " ++ role_name role)))) }
-    ensures memory { OnErr result (BeginsWith (string_bytes out.new) (string_bytes out.old)) }
+    ensures memory { OnErr result (StartsWith (string_bytes out.new) (string_bytes out.old)) }
 {
     push_between(out, word, u64::from(member), " ")?;
     push_role_name(out, role)
@@ -151,7 +151,7 @@ fn push_role(out: &mut String, word: &str, member: u16, role: Role) -> Result<()
 fn push_device_words(out: &mut String, word: &str, member: u16, device: u8) -> Result<(), Memory>
     ensures ok { OnOk result (string_bytes out.new
         ≡ string_bytes out.old ++ (word.now ++ (decimal member ++ (codes " " ++ decimal device)))) }
-    ensures memory { OnErr result (BeginsWith (string_bytes out.new) (string_bytes out.old)) }
+    ensures memory { OnErr result (StartsWith (string_bytes out.new) (string_bytes out.old)) }
 {
     push_counted(out, word, u64::from(member))?;
     push_counted(out, " ", u64::from(device))
@@ -160,7 +160,7 @@ fn push_device_words(out: &mut String, word: &str, member: u16, device: u8) -> R
 // The parts of a delta, with a space between them, or `-` if there is none.
 pub(crate) fn push_delta(out: &mut String, delta: &Delta) -> Result<(), Memory>
     ensures ok { OnOk result (string_bytes out.new ≡ string_bytes out.old ++ delta_text delta.now) }
-    ensures memory { OnErr result (BeginsWith (string_bytes out.new) (string_bytes out.old)) }
+    ensures memory { OnErr result (StartsWith (string_bytes out.new) (string_bytes out.old)) }
 {
     let parts = delta.parts();
     if parts.is_empty() {
@@ -174,7 +174,7 @@ pub(crate) fn push_delta(out: &mut String, delta: &Delta) -> Result<(), Memory>
 fn push_spaced(out: &mut String, parts: &[Part]) -> Result<(), Memory>
     ensures ok { OnOk result
         (string_bytes out.new ≡ string_bytes out.old ++ flat_map spaced_part parts.now) }
-    ensures memory { OnErr result (BeginsWith (string_bytes out.new) (string_bytes out.old)) }
+    ensures memory { OnErr result (StartsWith (string_bytes out.new) (string_bytes out.old)) }
 {
     for part in parts {
         push_word(out, " ")?;
@@ -185,7 +185,7 @@ fn push_spaced(out: &mut String, parts: &[Part]) -> Result<(), Memory>
 
 fn push_part(out: &mut String, part: &Part) -> Result<(), Memory>
     ensures ok { OnOk result (string_bytes out.new ≡ string_bytes out.old ++ part_text part.now) }
-    ensures memory { OnErr result (BeginsWith (string_bytes out.new) (string_bytes out.old)) }
+    ensures memory { OnErr result (StartsWith (string_bytes out.new) (string_bytes out.old)) }
 {
     match part {
         Part::Keep(count) => push_counted(out, "k", *count),

@@ -1,8 +1,8 @@
 //! The names of faults. The variant `Memory` of each has none.
 
 ghost use Rattle.std.specs.Prelude.{◌≡◌, ◌≢◌, ◌++◌, OnErr, OnOk, string_bytes};
+ghost use Rattle.sporc_base.specs.Lists.{StartsWith};
 ghost use Rattle.sporc_head.specs.Refusal.{name_of, number_text};
-ghost use Rattle.sporc_report.specs.Appending.{BeginsWith};
 ghost use Rattle.sporc_report.specs.Names.{accept_fault_name, edit_fault_name, hint_fault_name};
 ghost use Rattle.sporc_report.specs.Names.{open_fault_name, submit_fault_name};
 
@@ -35,7 +35,7 @@ pub fn push_edit_fault(out: &mut String, fault: EditFault) -> Result<(), Memory>
     ensures ok { OnOk result
         (string_bytes out.new ≡ string_bytes out.old ++ edit_fault_name fault) }
     ensures named { OnOk result (fault ≢ EditFault.Memory) }
-    ensures memory { OnErr result (BeginsWith (string_bytes out.new) (string_bytes out.old)) }
+    ensures memory { OnErr result (StartsWith (string_bytes out.new) (string_bytes out.old)) }
 {
     match fault {
         EditFault::Memory => Err(AllocError),
@@ -48,7 +48,7 @@ pub fn push_submit_fault(out: &mut String, fault: SubmitFault) -> Result<(), Mem
     ensures ok { OnOk result
         (string_bytes out.new ≡ string_bytes out.old ++ submit_fault_name fault) }
     ensures named { OnOk result (fault ≢ SubmitFault.Memory) }
-    ensures memory { OnErr result (BeginsWith (string_bytes out.new) (string_bytes out.old)) }
+    ensures memory { OnErr result (StartsWith (string_bytes out.new) (string_bytes out.old)) }
 {
     match fault {
         SubmitFault::Memory => Err(AllocError),
@@ -80,7 +80,7 @@ pub fn push_accept_fault(out: &mut String, fault: AcceptFault) -> Result<(), Mem
     ensures ok { OnOk result
         (string_bytes out.new ≡ string_bytes out.old ++ accept_fault_name fault) }
     ensures named { OnOk result (fault ≢ AcceptFault.Memory) }
-    ensures memory { OnErr result (BeginsWith (string_bytes out.new) (string_bytes out.old)) }
+    ensures memory { OnErr result (StartsWith (string_bytes out.new) (string_bytes out.old)) }
 {
     match fault {
         AcceptFault::Refused(refusal) => push_name(out, refusal.parts()),
@@ -94,7 +94,7 @@ pub fn push_hint_fault(out: &mut String, fault: HintFault) -> Result<(), Memory>
     ensures ok { OnOk result
         (string_bytes out.new ≡ string_bytes out.old ++ hint_fault_name fault) }
     ensures named { OnOk result (fault ≢ HintFault.Memory) }
-    ensures memory { OnErr result (BeginsWith (string_bytes out.new) (string_bytes out.old)) }
+    ensures memory { OnErr result (StartsWith (string_bytes out.new) (string_bytes out.old)) }
 {
     match fault {
         HintFault::Memory => Err(AllocError),
@@ -130,7 +130,7 @@ pub fn push_open_fault(out: &mut String, fault: LineOpenFault) -> Result<(), Mem
     ensures ok { OnOk result
         (string_bytes out.new ≡ string_bytes out.old ++ open_fault_name fault) }
     ensures named { OnOk result (fault ≢ LineOpenFault.Memory) }
-    ensures memory { OnErr result (BeginsWith (string_bytes out.new) (string_bytes out.old)) }
+    ensures memory { OnErr result (StartsWith (string_bytes out.new) (string_bytes out.old)) }
 {
     match fault {
         LineOpenFault::Memory => Err(AllocError),
@@ -141,7 +141,7 @@ pub fn push_open_fault(out: &mut String, fault: LineOpenFault) -> Result<(), Mem
 // Appends a name of which these are the parts.
 fn push_name(out: &mut String, parts: NameParts) -> Result<(), Memory>
     ensures ok { OnOk result (string_bytes out.new ≡ string_bytes out.old ++ name_of parts) }
-    ensures memory { OnErr result (BeginsWith (string_bytes out.new) (string_bytes out.old)) }
+    ensures memory { OnErr result (StartsWith (string_bytes out.new) (string_bytes out.old)) }
 {
     push_word(out, parts.before)?;
     push_optional(out, parts.number)?;
@@ -151,7 +151,7 @@ fn push_name(out: &mut String, parts: NameParts) -> Result<(), Memory>
 // Appends a number, if there is one.
 fn push_optional(out: &mut String, number: Option<u64>) -> Result<(), Memory>
     ensures ok { OnOk result (string_bytes out.new ≡ string_bytes out.old ++ number_text number) }
-    ensures memory { OnErr result (BeginsWith (string_bytes out.new) (string_bytes out.old)) }
+    ensures memory { OnErr result (StartsWith (string_bytes out.new) (string_bytes out.old)) }
 {
     match number {
         Some(number) => push_decimal(out, number),

@@ -2,8 +2,8 @@
 
 ghost use Rattle.std.specs.Prelude.{◌≡◌, ◌++◌, OnErr, OnOk, flat_map, string_bytes};
 ghost use Rattle.std.specs.Str.{chars};
+ghost use Rattle.sporc_base.specs.Lists.{StartsWith};
 ghost use Rattle.sporc_script.specs.Quoted.{escape, quoted};
-ghost use Rattle.sporc_report.specs.Appending.{BeginsWith};
 
 use crate::appending::push_word;
 use sporc_base::Memory;
@@ -12,7 +12,7 @@ use sporc_base::Memory;
 pub fn push_quoted(out: &mut String, text: &str) -> Result<(), Memory>
     ensures ok { OnOk result
         (string_bytes out.new ≡ string_bytes out.old ++ quoted (chars text.now)) }
-    ensures memory { OnErr result (BeginsWith (string_bytes out.new) (string_bytes out.old)) }
+    ensures memory { OnErr result (StartsWith (string_bytes out.new) (string_bytes out.old)) }
 {
     push_word(out, "\"")?;
     push_all_escaped(out, text)?;
@@ -22,7 +22,7 @@ pub fn push_quoted(out: &mut String, text: &str) -> Result<(), Memory>
 fn push_all_escaped(out: &mut String, text: &str) -> Result<(), Memory>
     ensures ok { OnOk result
         (string_bytes out.new ≡ string_bytes out.old ++ flat_map escape (chars text.now)) }
-    ensures memory { OnErr result (BeginsWith (string_bytes out.new) (string_bytes out.old)) }
+    ensures memory { OnErr result (StartsWith (string_bytes out.new) (string_bytes out.old)) }
 {
     for c in text.chars() {
         push_escaped(out, c)?;
@@ -32,7 +32,7 @@ fn push_all_escaped(out: &mut String, text: &str) -> Result<(), Memory>
 
 fn push_escaped(out: &mut String, c: char) -> Result<(), Memory>
     ensures ok { OnOk result (string_bytes out.new ≡ string_bytes out.old ++ escape c) }
-    ensures memory { OnErr result (BeginsWith (string_bytes out.new) (string_bytes out.old)) }
+    ensures memory { OnErr result (StartsWith (string_bytes out.new) (string_bytes out.old)) }
 {
     match c {
         '\\' => push_word(out, "\\\\"),

@@ -3,13 +3,13 @@
 ghost use Rattle.std.specs.Prelude.{◌≡◌, ◌∷◌, ◌++◌, codes, OnErr, OnOk, flat_map, string_bytes};
 ghost use Rattle.std.specs.Fmt.{decimal};
 ghost use Rattle.hex.specs.Hex.{encode_lower};
+ghost use Rattle.sporc_base.specs.Lists.{StartsWith};
 ghost use Rattle.sporc_client.specs.ClientModel.{state_of};
 ghost use Rattle.sporc_client.specs.PlainClient.{shown_of};
 ghost use Rattle.sporc_head.specs.History.{hash_of, roster_of};
 ghost use Rattle.sporc_member.specs.Role.{role_name};
 ghost use Rattle.sporc_member.specs.Roster.{member_at};
 ghost use Rattle.sporc_script.specs.Spelling.{device_text};
-ghost use Rattle.sporc_report.specs.Appending.{BeginsWith};
 ghost use Rattle.sporc_report.specs.ClientLines.{compare_line, devices_text, further_text};
 ghost use Rattle.sporc_report.specs.ClientLines.{hash_line, if_removed, members_line, members_text};
 ghost use Rattle.sporc_report.specs.ClientLines.{place_text, show_line, text_of_member};
@@ -28,7 +28,7 @@ use std::alloc::Global;
 pub fn push_show<D: LeafDisk>(out: &mut String, client: &Client<D>) -> Result<(), Memory>
     ensures ok { OnOk result (string_bytes out.new
         ≡ string_bytes out.old ++ show_line client.now.opening.kit.me (state_of client.now)) }
-    ensures memory { OnErr result (BeginsWith (string_bytes out.new) (string_bytes out.old)) }
+    ensures memory { OnErr result (StartsWith (string_bytes out.new) (string_bytes out.old)) }
 {
     push_place(out, client)?;
     push_text(out, client)?;
@@ -39,7 +39,7 @@ pub fn push_show<D: LeafDisk>(out: &mut String, client: &Client<D>) -> Result<()
 fn push_place<D: LeafDisk>(out: &mut String, client: &Client<D>) -> Result<(), Memory>
     ensures ok { OnOk result (string_bytes out.new
         ≡ string_bytes out.old ++ place_text client.now.opening.kit.me (state_of client.now)) }
-    ensures memory { OnErr result (BeginsWith (string_bytes out.new) (string_bytes out.old)) }
+    ensures memory { OnErr result (StartsWith (string_bytes out.new) (string_bytes out.old)) }
 {
     push_device(out, device_of(client))?;
     push_counted(out, " at ", client.entries().len() as u64)?;
@@ -50,7 +50,7 @@ fn push_place<D: LeafDisk>(out: &mut String, client: &Client<D>) -> Result<(), M
 fn push_text<D: LeafDisk>(out: &mut String, client: &Client<D>) -> Result<(), Memory>
     ensures ok { OnOk result (string_bytes out.new
         ≡ string_bytes out.old ++ (codes " text " ++ quoted (shown_of (state_of client.now)))) }
-    ensures memory { OnErr result (BeginsWith (string_bytes out.new) (string_bytes out.old)) }
+    ensures memory { OnErr result (StartsWith (string_bytes out.new) (string_bytes out.old)) }
 {
     push_word(out, " text ")?;
     push_shown(out, client)
@@ -60,7 +60,7 @@ fn push_text<D: LeafDisk>(out: &mut String, client: &Client<D>) -> Result<(), Me
 fn push_shown<D: LeafDisk>(out: &mut String, client: &Client<D>) -> Result<(), Memory>
     ensures ok { OnOk result
         (string_bytes out.new ≡ string_bytes out.old ++ quoted (shown_of (state_of client.now))) }
-    ensures memory { OnErr result (BeginsWith (string_bytes out.new) (string_bytes out.old)) }
+    ensures memory { OnErr result (StartsWith (string_bytes out.new) (string_bytes out.old)) }
 {
     let text = client.shown()?;
     push_quoted(out, text.as_str())
@@ -70,7 +70,7 @@ fn push_shown<D: LeafDisk>(out: &mut String, client: &Client<D>) -> Result<(), M
 fn push_end(out: &mut String, removed: bool) -> Result<(), Memory>
     ensures ok { OnOk result
         (string_bytes out.new ≡ string_bytes out.old ++ (if_removed removed ++ codes "\n")) }
-    ensures memory { OnErr result (BeginsWith (string_bytes out.new) (string_bytes out.old)) }
+    ensures memory { OnErr result (StartsWith (string_bytes out.new) (string_bytes out.old)) }
 {
     if removed {
         push_word(out, " removed\n")
@@ -83,7 +83,7 @@ fn push_end(out: &mut String, removed: bool) -> Result<(), Memory>
 /// one.
 pub fn push_device(out: &mut String, device: Device) -> Result<(), Memory>
     ensures ok { OnOk result (string_bytes out.new ≡ string_bytes out.old ++ device_text device) }
-    ensures memory { OnErr result (BeginsWith (string_bytes out.new) (string_bytes out.old)) }
+    ensures memory { OnErr result (StartsWith (string_bytes out.new) (string_bytes out.old)) }
 {
     push_decimal(out, u64::from(device.member))?;
     if device.number == FIRST_DEVICE {
@@ -96,7 +96,7 @@ pub fn push_device(out: &mut String, device: Device) -> Result<(), Memory>
 pub fn push_start(out: &mut String, device: Device, words: &str) -> Result<(), Memory>
     ensures ok { OnOk result
         (string_bytes out.new ≡ string_bytes out.old ++ (device_text device ++ words.now)) }
-    ensures memory { OnErr result (BeginsWith (string_bytes out.new) (string_bytes out.old)) }
+    ensures memory { OnErr result (StartsWith (string_bytes out.new) (string_bytes out.old)) }
 {
     push_device(out, device)?;
     push_word(out, words)
@@ -106,7 +106,7 @@ pub fn push_start(out: &mut String, device: Device, words: &str) -> Result<(), M
 pub fn push_number(out: &mut String, device: Device, words: &str, number: u64) -> Result<(), Memory>
     ensures ok { OnOk result (string_bytes out.new ≡ string_bytes out.old
         ++ (device_text device ++ (words.now ++ (decimal number ++ codes "\n")))) }
-    ensures memory { OnErr result (BeginsWith (string_bytes out.new) (string_bytes out.old)) }
+    ensures memory { OnErr result (StartsWith (string_bytes out.new) (string_bytes out.old)) }
 {
     push_device(out, device)?;
     push_between(out, words, number, "\n")
@@ -126,7 +126,7 @@ fn device_of<D: LeafDisk>(client: &Client<D>) -> Device
 pub fn push_members<D: LeafDisk>(out: &mut String, client: &Client<D>) -> Result<(), Memory>
     ensures ok { OnOk result (string_bytes out.new
         ≡ string_bytes out.old ++ members_line client.now.opening.kit.me (state_of client.now)) }
-    ensures memory { OnErr result (BeginsWith (string_bytes out.new) (string_bytes out.old)) }
+    ensures memory { OnErr result (StartsWith (string_bytes out.new) (string_bytes out.old)) }
 {
     push_start(out, device_of(client), " members")?;
     push_roster(out, client)?;
@@ -137,7 +137,7 @@ pub fn push_members<D: LeafDisk>(out: &mut String, client: &Client<D>) -> Result
 fn push_roster<D: LeafDisk>(out: &mut String, client: &Client<D>) -> Result<(), Memory>
     ensures ok { OnOk result (string_bytes out.new ≡ string_bytes out.old
         ++ members_text (roster_of client.now.opening.genesis (state_of client.now).entries)) }
-    ensures memory { OnErr result (BeginsWith (string_bytes out.new) (string_bytes out.old)) }
+    ensures memory { OnErr result (StartsWith (string_bytes out.new) (string_bytes out.old)) }
 {
     let roster = client.roster();
     for number in roster.members() {
@@ -150,7 +150,7 @@ fn push_roster<D: LeafDisk>(out: &mut String, client: &Client<D>) -> Result<(), 
 fn push_numbered(out: &mut String, roster: &Roster, number: u16) -> Result<(), Memory>
     ensures ok { OnOk result (string_bytes out.new ≡ string_bytes out.old
         ++ text_of_member roster.now.roster (member_at roster.now.roster number)) }
-    ensures memory { OnErr result (BeginsWith (string_bytes out.new) (string_bytes out.old)) }
+    ensures memory { OnErr result (StartsWith (string_bytes out.new) (string_bytes out.old)) }
 {
     match roster.member(number) {
         Some(member) => {
@@ -164,7 +164,7 @@ fn push_numbered(out: &mut String, roster: &Roster, number: u16) -> Result<(), M
 fn push_member(out: &mut String, number: u16, role: Role) -> Result<(), Memory>
     ensures ok { OnOk result (string_bytes out.new ≡ string_bytes out.old
         ++ (codes " " ++ (decimal number ++ (codes "=" ++ role_name role)))) }
-    ensures memory { OnErr result (BeginsWith (string_bytes out.new) (string_bytes out.old)) }
+    ensures memory { OnErr result (StartsWith (string_bytes out.new) (string_bytes out.old)) }
 {
     push_between(out, " ", u64::from(number), "=")?;
     push_role_name(out, role)
@@ -174,7 +174,7 @@ fn push_member(out: &mut String, number: u16, role: Role) -> Result<(), Memory>
 fn push_devices(out: &mut String, devices: &[u8]) -> Result<(), Memory>
     ensures ok { OnOk result
         (string_bytes out.new ≡ string_bytes out.old ++ devices_text devices.now) }
-    ensures memory { OnErr result (BeginsWith (string_bytes out.new) (string_bytes out.old)) }
+    ensures memory { OnErr result (StartsWith (string_bytes out.new) (string_bytes out.old)) }
 {
     match devices {
         [] => Ok(()),
@@ -185,7 +185,7 @@ fn push_devices(out: &mut String, devices: &[u8]) -> Result<(), Memory>
 fn push_listed(out: &mut String, first: u8, more: &[u8]) -> Result<(), Memory>
     ensures ok { OnOk result
         (string_bytes out.new ≡ string_bytes out.old ++ devices_text (first ∷ more.now)) }
-    ensures memory { OnErr result (BeginsWith (string_bytes out.new) (string_bytes out.old)) }
+    ensures memory { OnErr result (StartsWith (string_bytes out.new) (string_bytes out.old)) }
 {
     if first == FIRST_DEVICE && more.is_empty() {
         return Ok(());
@@ -197,7 +197,7 @@ fn push_listed(out: &mut String, first: u8, more: &[u8]) -> Result<(), Memory>
 fn push_further(out: &mut String, numbers: &[u8]) -> Result<(), Memory>
     ensures ok { OnOk result
         (string_bytes out.new ≡ string_bytes out.old ++ flat_map further_text numbers.now) }
-    ensures memory { OnErr result (BeginsWith (string_bytes out.new) (string_bytes out.old)) }
+    ensures memory { OnErr result (StartsWith (string_bytes out.new) (string_bytes out.old)) }
 {
     for number in numbers {
         push_counted(out, ",", u64::from(*number))?;
@@ -213,7 +213,7 @@ pub fn push_hash<D: LeafDisk>(
 ) -> Result<(), Memory>
     ensures ok { OnOk result (string_bytes out.new
         ≡ string_bytes out.old ++ hash_line client.now.opening.kit.me (state_of client.now)) }
-    ensures memory { OnErr result (BeginsWith (string_bytes out.new) (string_bytes out.old)) }
+    ensures memory { OnErr result (StartsWith (string_bytes out.new) (string_bytes out.old)) }
 {
     push_start(out, device_of(client), " hash ")?;
     push_digits(alloc, out, &last_hash(client))?;
@@ -232,7 +232,7 @@ pub fn last_hash<D: LeafDisk>(client: &Client<D>) -> Digest32
 pub fn push_digits(alloc: Global, out: &mut String, bytes: &[u8]) -> Result<(), Memory>
     ensures ok { OnOk result
         (string_bytes out.new ≡ string_bytes out.old ++ encode_lower bytes.now) }
-    ensures memory { OnErr result (BeginsWith (string_bytes out.new) (string_bytes out.old)) }
+    ensures memory { OnErr result (StartsWith (string_bytes out.new) (string_bytes out.old)) }
 {
     let digits = hex::encode(alloc, bytes)?;
     push_word(out, digits.as_str())
@@ -247,7 +247,7 @@ pub fn push_verdict(
 ) -> Result<(), Memory>
     ensures ok { OnOk result (string_bytes out.new ≡ string_bytes out.old
         ++ compare_line (record { first = first; second = second }) verdict) }
-    ensures memory { OnErr result (BeginsWith (string_bytes out.new) (string_bytes out.old)) }
+    ensures memory { OnErr result (StartsWith (string_bytes out.new) (string_bytes out.old)) }
 {
     push_start(out, first, " ")?;
     match verdict {

@@ -1,4 +1,5 @@
 -- The names of this crate and of those below that many of its proofs cite, passed on from one place.
+pub use Rattle.sporc_base.specs.Lists.{StartsWith}
 pub use Rattle.sporc_order.specs.OrderModel.{OrderModel}
 pub use Rattle.sporc_order.specs.Replies.{Says}
 pub use Rattle.sporc_order.specs.Sessions.{IsFramed, IsSendable, entries_after, only, step_of, submitted}
@@ -7,7 +8,7 @@ pub use Rattle.sporc_order.specs.declared.session.Answer.{Answer}
 pub use Rattle.sporc_order.specs.declared.session.Answer.TheVariants.{Close, Send, Silent}
 pub use Rattle.sporc_order.specs.declared.tail.Unanswered.{Unanswered}
 pub use Rattle.sporc_turn.specs.Knowing.{adding, copied, first_known, joined_with, seeing, splitting}
-pub use Rattle.sporc_turn.specs.Log.{Agrees, Extends, StartsWith, own}
+pub use Rattle.sporc_turn.specs.Log.{Agrees, Extends, own}
 pub use Rattle.sporc_turn.specs.Passes.{IsPassOf, IsSameTurn, IsWorn, known_held, known_of, out_of, read_of, value_of}
 pub use Rattle.sporc_turn.specs.declared.known.Known.{Known}
 pub use Rattle.sporc_turn.specs.declared.limits.TheConstants.{MAX_TICKETS}

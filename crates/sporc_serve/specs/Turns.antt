@@ -1,8 +1,8 @@
 -- What a session does in one turn at the order.
 use Rattle.std.specs.Prelude.{◌≡◌, ◌≤◌, ℕ, Bool, List, [], ◌++◌, Result, Ok, Err, IfErr}
+use Rattle.sporc_base.specs.Lists.{StartsWith}
 use Rattle.sporc_turn.specs.declared.known.Known.{Known}
 use Rattle.sporc_turn.specs.declared.limits.TheConstants.{MAX_TICKETS}
-use Rattle.sporc_turn.specs.Log.{StartsWith}
 use Rattle.sporc_entry.specs.declared.genesis.Genesis.{Genesis}
 use Rattle.sporc_wire.specs.declared.to_server.ToServer.{ToServer}
 use Rattle.sporc_order.specs.declared.session.Answer.{Answer}

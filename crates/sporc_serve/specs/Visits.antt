@@ -2,13 +2,14 @@
 use Rattle.std.specs.Prelude.{◌≡◌, ◌≢◌, ◌⊎◌, ℕ, false, List, [], ◌∷◌, ◌++◌, length, map, Option}
 use Rattle.std.specs.Prelude.{Result, Ok, Err}
 use Rattle.std.specs.List.{AllByRecursion}
+use Rattle.sporc_base.specs.Lists.{StartsWith}
 use Rattle.sporc_outside.specs.Counts.{Rose}
 use Rattle.sporc_outside.specs.Nets.{NetTold}
 use Rattle.sporc_outside.specs.Told.{IsFalseIfTold, IfBoth}
 use Rattle.sporc_outside.specs.Streams.{Shuts, StreamTold}
 use Rattle.sporc_turn.specs.declared.known.Known.{Known}
 use Rattle.sporc_turn.specs.declared.limits.TheConstants.{MAX_TICKETS}
-use Rattle.sporc_turn.specs.Log.{StartsWith, Agrees}
+use Rattle.sporc_turn.specs.Log.{Agrees}
 use Rattle.sporc_turn.specs.Knowing.{splitting, copied, joined_with}
 use Rattle.sporc_entry.specs.declared.genesis.Genesis.{Genesis}
 use Rattle.sporc_wire.specs.Messages.{stream_of}

@@ -2,8 +2,9 @@
 
 ghost use Rattle.std.specs.Prelude.{◌≡◌, ◌≢◌, ◌+◌, ◌-◌, ◌^◌, ◌<◌, Err, max, IfSome};
 ghost use Rattle.std.specs.Thread.{IsSync, IsSend};
+ghost use Rattle.sporc_base.specs.Lists.{StartsWith};
 ghost use Rattle.sporc_turn.specs.Knowing.{joined_with};
-ghost use Rattle.sporc_turn.specs.Log.{StartsWith, Agrees};
+ghost use Rattle.sporc_turn.specs.Log.{Agrees};
 ghost use Rattle.sporc_turn.specs.Passes.{known_of, read_of, IsPassOf};
 ghost use Rattle.sporc_serve.specs.Logs.{by_of, OfDocument};
 ghost use Rattle.sporc_serve.specs.Crowds.{IsCrowd, IsFirst, IsOther, LeavesNet, ServesOne};

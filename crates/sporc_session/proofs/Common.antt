@@ -5,7 +5,7 @@ pub use Rattle.sporc_shared.specs.Looks.{IsLookAt, key_at, membership_of}
 pub use Rattle.sporc_shared.specs.Passes.{HasFront, IsPassOf, IsWornOnErr}
 pub use Rattle.sporc_shared.specs.declared.answered.Answered.{Answered}
 pub use Rattle.sporc_turn.proofs.Lists.{drop_seen, longer_is, own_append, starts_length, starts_self}
-pub use Rattle.sporc_turn.specs.Log.{Agrees, StartsWith, longer, own}
+pub use Rattle.sporc_turn.specs.Log.{Agrees, longer, own}
 pub use Rattle.sporc_turn.specs.Passes.{IsWorn, known_of, watermark_of, read_of}
 pub use Rattle.sporc_turn.specs.declared.known.Known.{Known}
 pub use Rattle.sporc_turn.specs.declared.pass.Pass.{Pass}
@@ -24,6 +24,7 @@ pub use Rattle.std.specs.Prelude.{All, Contains, Err, IfErr, IfOk, IfSome, IsSom
 pub use Rattle.std.specs.Result.{result_and, result_err}
 pub use Rattle.std.specs.Vec.Iter.{into_iter_items}
 pub use Rattle.sporc_base.specs.FirstFault.{AnswersUnless, first_of, unless}
+pub use Rattle.sporc_base.specs.Lists.{StartsWith}
 pub use Rattle.sporc_outside.specs.Counts.{Rose}
 pub use Rattle.sporc_outside.specs.Told.{AppendsItem, AppendsItems}
 pub use Rattle.sporc_delta.specs.Marks.{Keep, Mark, Remove, base_len, insert_marks, insertion, keep_marks, removal, remove_marks}

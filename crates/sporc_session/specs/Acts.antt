@@ -2,8 +2,8 @@
 -- link and the chance.
 use Rattle.std.specs.Prelude.{◌≡◌, ◌≤◌, ℕ, ◌+◌, Bool, List, [], ◌∷◌, ◌++◌, drop, length, map}
 use Rattle.std.specs.Prelude.{Result, ⊤}
+use Rattle.sporc_base.specs.Lists.{StartsWith}
 use Rattle.lms_leaf.specs.declared.faults.LeafFault.{LeafFault}
-use Rattle.sporc_turn.specs.Log.{StartsWith}
 use Rattle.sporc_head.specs.declared.refusal.Refusal.{Refusal}
 use Rattle.sporc_wire.specs.declared.to_client.ToClient.{ToClient}
 use Rattle.sporc_wire.specs.declared.to_client.ToClient.TheVariants as to_client

@@ -1,11 +1,12 @@
 -- What a receiver did from one moment to a later one.
 use Rattle.std.specs.Prelude.{◌≡◌, ◌≤◌, ℕ, List, ◌++◌, length, Option}
+use Rattle.sporc_base.specs.Lists.{StartsWith}
 use Rattle.sporc_outside.specs.Told.{AppendsItems}
 use Rattle.sporc_outside.specs.Chances.{ChanceTold}
 use Rattle.sporc_outside.specs.Streams.{StreamTold}
 use Rattle.sporc_turn.specs.declared.known.Known.{Known}
 use Rattle.sporc_turn.specs.declared.pass.Pass.{Pass}
-use Rattle.sporc_turn.specs.Log.{StartsWith, Agrees}
+use Rattle.sporc_turn.specs.Log.{Agrees}
 use Rattle.sporc_turn.specs.Passes.{known_of}
 use Rattle.sporc_wire.specs.declared.to_client.ToClient.{ToClient}
 use Rattle.sporc_shared.specs.Items.{Item, Past, IsAllowed, by_of, items_of}

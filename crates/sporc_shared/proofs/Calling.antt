@@ -5,9 +5,10 @@ use Rattle.sporc_shared.proofs.Common.{items_of, with_events}
 use Rattle.std.specs.List.{filter}
 use Rattle.std.specs.Prelude.{All}
 use Rattle.std.proofs.lemmas.List.Elements.{All-cons, All-nil}
+use Rattle.sporc_base.specs.Lists.{StartsWith}
 use Rattle.sporc_turn.specs.declared.known.Joined.{Joined}
 use Rattle.sporc_turn.specs.declared.known.Known.{Known}
-use Rattle.sporc_turn.specs.Log.{Agrees, Extends, StartsWith, own}
+use Rattle.sporc_turn.specs.Log.{Agrees, Extends, own}
 use Rattle.sporc_turn.proofs.Lists.{drop_length, drop_seen, starts_more, starts_self}
 use Rattle.sporc_client.specs.declared.fault.SubmitFault.{SubmitFault}
 use Rattle.sporc_client.specs.declared.submitted.Submitted.{Submitted}

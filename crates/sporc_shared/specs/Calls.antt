@@ -1,10 +1,11 @@
 -- One call of a shared client.
 use Rattle.std.specs.Prelude.{◌≡◌, ℕ, List, [], ◌++◌, map, Option, Result}
 use Rattle.sporc_base.specs.FirstFault.{AnswersUnless}
+use Rattle.sporc_base.specs.Lists.{StartsWith}
 use Rattle.sporc_base.specs.Outcome.{GivesUnless}
 use Rattle.lms_leaf.specs.declared.faults.LeafFault.{LeafFault}
 use Rattle.sporc_turn.specs.declared.known.Known.{Known}
-use Rattle.sporc_turn.specs.Log.{StartsWith, Agrees, own}
+use Rattle.sporc_turn.specs.Log.{Agrees, own}
 use Rattle.sporc_client.specs.declared.fault.SubmitFault.{SubmitFault}
 use Rattle.sporc_client.specs.declared.fault.SubmitFault.TheVariants.{Memory}
 use Rattle.sporc_client.specs.declared.submitted.Submitted.{Submitted}

@@ -1,13 +1,14 @@
 //! Clients that threads share.
 
 ghost use Rattle.std.specs.Prelude.{◌≡◌, ◌≢◌, ◌+◌, ◌<◌, ◌≤◌, ◌^◌, max, Err, IfErr, IfOk, IsOk};
+ghost use Rattle.sporc_base.specs.Lists.{StartsWith};
 ghost use Rattle.sporc_client.specs.Answers.{accept_fault, change_fault, edit_fault};
 ghost use Rattle.sporc_client.specs.ClientModel.{Rise, leaves_of};
 ghost use Rattle.sporc_client.specs.Log.{Accept as Accepted, Change as Changed, Edit as Edited};
 ghost use Rattle.sporc_client.specs.Step.{is_flight};
 ghost use Rattle.sporc_client.specs.Submissions.{submission_added};
 ghost use Rattle.sporc_turn.specs.Knowing.{adding, copied, first_known, joined_with, splitting};
-ghost use Rattle.sporc_turn.specs.Log.{Agrees, Extends, StartsWith};
+ghost use Rattle.sporc_turn.specs.Log.{Agrees, Extends};
 ghost use Rattle.sporc_turn.specs.Passes.{known_held, known_of, out_of, watermark_held};
 ghost use Rattle.sporc_turn.specs.Passes.{watermark_of};
 ghost use Rattle.sporc_turn.specs.Passes.{read_of, value_of, IsHeldOf};

@@ -9,8 +9,9 @@ pub use Rattle.std.proofs.lemmas.List.{append-nil, drop-append-le, map-append, m
 pub use Rattle.std.proofs.lemmas.List.Elements.{All-cons, All-contains, All-contains_itself, All-nil, All-weaker, Contains-append_cases, Contains-append_left, Contains-append_right, filter-append}
 pub use Rattle.std.specs.List.{filter}
 pub use Rattle.std.specs.Prelude.{All, Contains, MatchBool, slice_index}
+pub use Rattle.sporc_base.specs.Lists.{StartsWith}
 pub use Rattle.sporc_turn.specs.Knowing.{adding, copied, first_known, hearing, joined_with, joining, matched, nothing_known, seeing, splitting}
-pub use Rattle.sporc_turn.specs.Log.{Agrees, Extends, HasNumber, OnlyFirstAdds, StartsWith, longer, own, shorter}
+pub use Rattle.sporc_turn.specs.Log.{Agrees, Extends, HasNumber, OnlyFirstAdds, longer, own, shorter}
 pub use Rattle.sporc_turn.specs.Rule.{HasTicket, HasTurn, HoldsAt, IsFirst, KnowledgeInvariant, LogInvariant, NoLivePass, TicketInvariant, TurnInvariant, known, one_if, spent_of}
 pub use Rattle.sporc_turn.specs.Seats.{IsIdle, first_view, has_room}
 pub use Rattle.sporc_turn.specs.Steps.{Compares, DrawsTicket, PassesServing, RaisesCount, ReadsCount, ReadsServing, ReadsTicket, drawing, idling, left_of_split, newcomer, of_both, raising, reading}

@@ -2,12 +2,9 @@
 use Rattle.std.specs.Prelude.{◌≡◌, ◌≢◌, ◌==◌, ℕ, ◌≤◌, cond, leb, List, ◌++◌, length, drop, All}
 use Rattle.std.specs.Prelude.{Contains}
 use Rattle.std.specs.List.{filter}
+use Rattle.sporc_base.specs.Lists.{StartsWith}
 use Rattle.sporc_turn.specs.declared.known.Known.{Known}
 use Rattle.sporc_turn.specs.declared.known.Joined.{Joined}
-
--- the log begins with what was seen
-abbrev pub StartsWith : {A : Type 0} → List A → List A → Type 0
-StartsWith {A} log seen = (rest : List A) × (log ≡ seen ++ rest)
 
 -- the longer of two lists, and the other one
 abbrev pub longer : {A : Type 0} → List A → List A → List A

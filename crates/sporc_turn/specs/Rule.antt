@@ -7,11 +7,12 @@ use Rattle.std.specs.Prelude as std
 use mathlib.Core.Option.{none, some}
 use lib.ListN.{get_elem?}
 use Rattle.atomic_table.specs.Table.{State}
+use Rattle.sporc_base.specs.Lists.{StartsWith}
 use Rattle.sporc_turn.specs.declared.limits.TheConstants.{MAX_TICKETS}
 use Rattle.sporc_turn.specs.declared.known.View.{View}
 use Rattle.sporc_turn.specs.declared.known.Known.{Known}
 use Rattle.sporc_turn.specs.declared.known.Joined.{Joined}
-use Rattle.sporc_turn.specs.Log.{StartsWith, own, HasNumber}
+use Rattle.sporc_turn.specs.Log.{own, HasNumber}
 
 abbrev pub known : {E : Type 0} → View E → Known E
 known v = v.known

@@ -4,9 +4,10 @@
 use Rattle.std.specs.Prelude.{◌≡◌, ◌≢◌, ℕ, ◌≤◌, max, true, false, List, [], ◌∷◌, length, Some}
 use Rattle.std.specs.Prelude as std
 use Rattle.atomic_table.specs.Table.{Me}
+use Rattle.sporc_base.specs.Lists.{StartsWith}
 use Rattle.sporc_turn.specs.declared.limits.TheConstants.{MAX_TICKETS}
 use Rattle.sporc_turn.specs.declared.known.View.{View}
-use Rattle.sporc_turn.specs.Log.{StartsWith, Agrees}
+use Rattle.sporc_turn.specs.Log.{Agrees}
 use Rattle.sporc_turn.specs.Knowing.{first_known, seeing, adding, hearing, splitting, copied}
 use Rattle.sporc_turn.specs.Knowing.{joining, matched, nothing_known}
 

@@ -2,7 +2,8 @@
 
 ghost use Rattle.std.specs.Prelude.{◌≡◌, ◌≢◌, ◌+◌, ◌^◌, ◌<◌, ◌≤◌, max, IfOk, OnOk, IfErr, IsOk};
 ghost use Rattle.std.specs.Prelude.{MatchResult, [], length, true};
-ghost use Rattle.sporc_turn.specs.Log.{StartsWith, Extends, Agrees};
+ghost use Rattle.sporc_base.specs.Lists.{StartsWith};
+ghost use Rattle.sporc_turn.specs.Log.{Extends, Agrees};
 ghost use Rattle.sporc_turn.specs.Knowing.{first_known, seeing, adding, hearing, splitting, copied};
 ghost use Rattle.sporc_turn.specs.Knowing.{joined_with};
 ghost use Rattle.sporc_turn.specs.Seats.{IsIdle, has_room};
