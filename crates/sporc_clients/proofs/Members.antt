@@ -33,6 +33,10 @@ bad_line folder names editor text shown line show (bytes, within, has, is) bad =
     no_script shown line (subst (λ (b : List ℕ). length b ≤ MAX_FILE) same within)
     (subst (λ (b : List ℕ). HasFile folder.before.files (file_name names (Script editor)) b) same has) bad refl
 
+-- memory ran out, whatever was read before
+pub no_memory : (folder : Use FolderTold) (names : FileNames) → IsFirstScriptFault folder names faults.Memory
+no_memory folder names = record { read = []; each = tt; fault_is = out_of_memory refl }
+
 -- behind these, the next was not read
 pub first_script : (whole part : Use FolderTold) (names : FileNames) (scripts : List (List EditorLine)) (count : ℕ) (fault : Fault) → length scripts ≡ count
     → SayScripts whole.before.files names 1 scripts → IsScriptFault part names (count + 1) fault → IsPart whole part → IsFirstScriptFault whole names fault

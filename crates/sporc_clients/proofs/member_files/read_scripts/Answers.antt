@@ -2,7 +2,7 @@ use Rattle.std.proofs.Common.{◌+◌, [], ◌∷◌, arith}
 use Rattle.sporc_clients.proofs.Common.{err_from_is_err_and, use_of, Script, if_err, script_files}
 use Rattle.sporc_files.proofs.Asking.{reads_again}
 use Rattle.sporc_clients.proofs.Asking.{script_among}
-use Rattle.sporc_clients.proofs.Members.{first_script, next_script, one_longer}
+use Rattle.sporc_clients.proofs.Members.{first_script, next_script, no_memory, one_longer}
 use Rattle.sporc_clients.proofs.member_files.read_scripts.Goals as goal
 
 pub returns-in_err-script-clause-err : goal.returns-in_err-script-clause-err
@@ -11,6 +11,11 @@ returns-in_err-script-clause-err g c =
     let i = c.loop-read.invariant in
     if_err _ _ _ _ p.1 p.2 (first_script (use_of g.F.Folder.told c.args.files.now c.read_script.new.files) (use_of g.F.Folder.told c.loop-read.files c.read_script.new.files) c.args.names.now
     c.loop-read.scripts.items c.loop-read.read c.in_err-script.field-0.0 i.all i.each c.in_err-script.ensures.err (record { same = i.reads.files; since = i.reads.kept; until = omega arith }))
+
+pub returns-in_err-push-clause-err : goal.returns-in_err-push-clause-err
+returns-in_err-push-clause-err g c =
+    let p = err_from_is_err_and c.from_residual-in_err-push.result c.from_residual-in_err-push.ensures.1 in
+    if_err _ _ _ _ p.1 p.2 (no_memory (use_of g.F.Folder.told c.args.files.now c.read_script.new.files) c.args.names.now)
 
 pub returns-in_err-script-clause-reads : goal.returns-in_err-script-clause-reads
 returns-in_err-script-clause-reads g c =
