@@ -1,4 +1,5 @@
 pub mod Apart
+pub mod Associative
 pub mod Composing
 pub mod InTurn
 pub mod LawLemmas

@@ -14,10 +14,10 @@
 //! where two of them don't meet, only a count at one end of each changes.
 //!
 //! Proved: that each call gives what the definitions of `sporc_delta` say; that both orders lead to
-//! one text; that a delta passes a composition as it passes its two deltas; that memory can run out
-//! in place only if changes meet. Only tested: the worked rows of two inserts at one place, of
-//! overlapping removals and of texts cut in their midst, and that memory suffices if there is
-//! ample. Neither: how long a call takes.
+//! one text; that compositions are associative; that a delta passes a composition as it passes its
+//! two deltas; that memory can run out in place only if changes meet. Only tested: the worked rows
+//! of two inserts at one place, of overlapping removals and of texts cut in their midst, and that
+//! memory suffices if there is ample. Neither: how long a call takes.
 #![tactic(auto)]
 
 mod composition;
