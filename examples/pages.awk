@@ -4,16 +4,15 @@
 #                                      overview has a page, which begins with its words
 #   docs/MANUAL.md                     its first indented block is the overview's list of commands, line by line; each command
 #                                      has a heading of its words, and in the block's order
-#   README.md                          its table of commands has them all, in that order
 #
-# Run by examples/documents, as awk -f examples/pages.awk crates/sporc_help/src/pages.rt docs/MANUAL.md README.md.
+# Run by examples/documents, as awk -f examples/pages.awk crates/sporc_help/src/pages.rt docs/MANUAL.md.
 function wrong(what) { print FILENAME ":" FNR ": " what; failed = 1 }
 
 # The words of a line of the overview: up to two spaces.
 function words_of(text) { sub(/^ +/, "", text); sub(/  .*/, "", text); return text }
 function first_of(text) { sub(/[ ,].*/, "", text); return text }
 
-FNR == 1 { name = ""; block = 0; heads = 0; rows = 0 }
+FNR == 1 { name = ""; block = 0; heads = 0 }
 
 # ---- the pages
 
@@ -60,14 +59,7 @@ FILENAME ~ /MANUAL\.md$/ && /^### / {
     next
 }
 
-# ---- the README
-
-FILENAME ~ /README\.md$/ && /^\| `[a-z-]+` \|/ && rows < kinds {
-    text = $2; gsub(/`/, "", text)
-    if (text in listed || rows) if (text != order[++rows]) wrong("here the overview has " order[rows])
-}
-
-{ seen[FILENAME] = FILENAME ~ /README/ ? rows : heads }
+{ seen[FILENAME] = heads }
 
 END {
     for (file in seen) if (seen[file] != kinds) { print file ": " seen[file] " of " kinds " commands"; failed = 1 }
