@@ -4,7 +4,7 @@
     examples/pictures.py            prints each picture of a page that is not what it should be
     examples/pictures.py --write    puts them into the pages
 
-A picture stands in a page as a block of text behind the line `<!-- picture: NAME -->`. Each is made
+A picture stands in a page as a block of text after the line `<!-- picture: NAME -->`. Each is made
 of a source: the scripts of plays with their reports, `crates.txt`, the definition that reads an
 entry, the fields of a change, or a small model of what it shows.
 """
