@@ -5,7 +5,7 @@ use Rattle.sporc_client.proofs.Common.{AddDevice, DropDevice, Device, device_pla
 use Rattle.sporc_client.proofs.Common.{author_device, entry_of, change_in_read, CommittedChange, change_in, changes, roster_of, Pending, Logged, PlainClient, opened, IsReached, rebased, Setup, World}
 use Rattle.sporc_client.proofs.Common.{Signing, Move, Open, Happen, Give, Restart, IsRun, May, after, signings, start, Genuine, IsOfFirst, accepted, change_comes, edit_comes, form_coming, is_flight}
 use Rattle.sporc_client.proofs.Common.{log_of_entries, own_comes, replay_from, restated, step, IsTypedMove, IsTypedRun, IsWellFormed, good_take, all_append}
-use Rattle.sporc_member.specs.declared.device.LiveDevice.{LiveDevice}
+use Rattle.sporc_member.specs.declared.device.KeyedDevice.{KeyedDevice}
 use Rattle.sporc_client.specs.declared.pending.Pending.TheVariants as items
 use Rattle.sporc_client.specs.Closed.{AddsItsKey, AreClosed, HasItsKey, IsClosed, IsClosedMove, IsItsKey, IsSigned}
 use Rattle.sporc_client.specs.Log as events
@@ -42,16 +42,16 @@ own_rebased s form (items.Change change ∷ pending) all = (all.0, own_rebased s
 -- ---- their members have their own keys
 
 -- a live device has its own key, if it is one of the run
-abbrev OwnDevice : Setup → LiveDevice → Type 0
+abbrev OwnDevice : Setup → KeyedDevice → Type 0
 OwnDevice s d = IsItsKey s d.device d.key
 
 own_change : (s : Setup) (roster : Roster) (change : MemberChange) → AddsItsKey s change → AllByRecursion (OwnDevice s) roster.devices → AllByRecursion (OwnDevice s) (after_change roster change).devices
 own_change s roster (Add member role key) own all =
-    let live : LiveDevice = record { device = first_device member; key = key } in
+    let live : KeyedDevice = record { device = first_device member; key = key } in
     all_inserted (OwnDevice s) live roster.devices (device_place live.device roster.devices) own all
 own_change s roster (Remove member) own all = all_filter (OwnDevice s) (λ d. not (d.device.member == member)) roster.devices all
 own_change s roster (AddDevice member device key) own all =
-    let live : LiveDevice = record { device = record { member = member; number = device }; key = key } in
+    let live : KeyedDevice = record { device = record { member = member; number = device }; key = key } in
     all_inserted (OwnDevice s) live roster.devices (device_place live.device roster.devices) own all
 own_change s roster (DropDevice member device) own all = all_filter (OwnDevice s) (λ d. not (same_device d.device (record { member = member; number = device }))) roster.devices all
 own_change s roster change own all = all
@@ -65,13 +65,13 @@ own_roster : (s : Setup) (entries : List (List ℕ)) → AllByRecursion (HasItsK
 own_roster s entries founders own = own_devices s (founded s.genesis.founders) (changes entries) (all_filter_map (OwnEntry s) (OwnCommitted s) change_in (λ bytes own. own) entries own)
     (all_map (HasItsKey s) (OwnDevice s) device_by (λ f own. own) s.genesis.founders founders)
 
-own_found : (s : Setup) (device : Device) (devices : List LiveDevice) (key : List ℕ) → AllByRecursion (OwnDevice s) devices
-    → option_map (λ (d : LiveDevice). d.key) (find (λ (d : LiveDevice). same_device d.device device) devices) ≡ Some key → Contains s.devices device → key ≡ key_of_device s device
+own_found : (s : Setup) (device : Device) (devices : List KeyedDevice) (key : List ℕ) → AllByRecursion (OwnDevice s) devices
+    → option_map (λ (d : KeyedDevice). d.key) (find (λ (d : KeyedDevice). same_device d.device device) devices) ≡ Some key → Contains s.devices device → key ≡ key_of_device s device
 own_found s device [] key all found among = absurd cc
 own_found s device (d ∷ devices) key all found among = go (same_device d.device device) refl found (own_found s device devices key all.1)
   where
-    go : (here : Bool) → same_device d.device device ≡ here → option_map (λ (d : LiveDevice). d.key) (cond here (Some d) (find (λ (d : LiveDevice). same_device d.device device) devices)) ≡ Some key
-        → (option_map (λ (d : LiveDevice). d.key) (find (λ (d : LiveDevice). same_device d.device device) devices) ≡ Some key → Contains s.devices device → key ≡ key_of_device s device) → key ≡ key_of_device s device
+    go : (here : Bool) → same_device d.device device ≡ here → option_map (λ (d : KeyedDevice). d.key) (cond here (Some d) (find (λ (d : KeyedDevice). same_device d.device device) devices)) ≡ Some key
+        → (option_map (λ (d : KeyedDevice). d.key) (find (λ (d : KeyedDevice). same_device d.device device) devices) ≡ Some key → Contains s.devices device → key ≡ key_of_device s device) → key ≡ key_of_device s device
     go true is found rest =
         let same : d.key ≡ key = cc in
         let its : d.device ≡ device = same_one d.device device is in

@@ -2,16 +2,15 @@
 use Rattle.std.proofs.Common.{◌≡◌, ℕ, ◌<◌, ◌≤◌, Bool, true, false, cond, List, [], ◌∷◌, ◌++◌, length, map, refl, ap, sym, ◌∙◌, subst, arith, Option, None, Some, Ok, Err, ◌+◌}
 use Rattle.sporc_client.proofs.Common.{find, is_some, nat_lt, not, ◌==◌, ◌&&◌, is_none, AllByRecursion, list_any, and_parts, eqb-false, eqb-true, ltb-true, not-true, first_of}
 use Rattle.sporc_client.proofs.Common.{length-map, from_end, MemberChange, Add, Remove, SetRole, AddDevice, DropDevice, Upgrade, Device, Member, Roster, after_change, change_fault_of}
-use Rattle.sporc_client.proofs.Common.{device_by, insert_sorted, key_of_device, member_by, is_used, member_at, numbers_of, with_role, has_admin, has_role, first_device, same_device, passes}
+use Rattle.sporc_client.proofs.Common.{insert_sorted, key_of_device, member_by, is_used, member_at, numbers_of, with_role, has_admin, has_role, first_device, same_device, passes}
 use Rattle.sporc_client.proofs.Common.{ChangeBody, Entry, Genesis, IsChange, change_of, entry_of, fits_version, has_kind, version_of, IsFounder, IsGenesis, Keys, Sealing, body_sealed, body_unless}
 use Rattle.sporc_client.proofs.Common.{least_unpaired, roster_checks, CommittedChange, change_in, roster_of, change_in_read, roster_change, roster_edit, Good, Kit, good_front}
 use Rattle.sporc_client.proofs.Common.{last_passes, LineModel, CanTake, IsTypedChange, get, length-filter, count_by-le-length, NoPairKey, sealed, is_admin}
 use Rattle.sporc_member.specs.declared.change.ChangeFault.TheVariants as faults
 use Rattle.sporc_member.specs.declared.limits.TheConstants.{MAX_MEMBERS}
-use Rattle.sporc_member.specs.RosterModel.{LiveInvariant}
-use Rattle.sporc_member.proofs.Belonging.{device_passes, founds_live, live_add, live_device, live_drop, live_first, live_remove, live_upgrade}
-use Rattle.sporc_member.proofs.Keeping.{numbers_of-founders}
-use Rattle.sporc_member.proofs.Places.{numbers_of-filter, numbers_of-insert_sorted, numbers_of-with_role, place_among-le}
+use Rattle.sporc_member.specs.RosterModel.{AreFirst}
+use Rattle.sporc_member.proofs.Belonging.{device_passes, first_add, first_drop, first_upgraded, founds_first, live_first}
+use Rattle.sporc_member.proofs.Places.{numbers_of-insert_sorted, place_among-le}
 use Rattle.sporc_entry.specs.ChangeBody.{kind_of}
 use Rattle.sporc_epoch.proofs.SealedKeys.{first_paired}
 use Rattle.sporc_epoch.specs.Sealing.{change_sealed}
@@ -19,6 +18,7 @@ use Rattle.sporc_head.proofs.OnceChecked.{no_bad_change}
 use Rattle.sporc_client.specs.declared.pending.Pending.TheVariants as items
 use Rattle.sporc_client.proofs.AllItems.{all_added, all_filter, all_map}
 use Rattle.std.proofs.lemmas.List.Edits.{length-insert}
+use Rattle.sporc_member.specs.Device.{insert_device}
 use Rattle.sporc_member.specs.Lists.{place_among}
 
 abbrev IsPositive : Member → Type 0
@@ -27,7 +27,7 @@ IsPositive m = 0 < m.member
 pub record IsFew (roster : Roster) : Type 0 where
   pub positive : AllByRecursion IsPositive roster.members
   pub few : length roster.members ≤ MAX_MEMBERS
-  pub live : LiveInvariant (numbers_of roster.members) roster.devices roster.upgraded
+  pub first : AreFirst roster.devices roster.upgraded
 
 -- ---- after a change that they accept
 
@@ -62,34 +62,34 @@ few_after roster (Add member role key) is none =
     record {
       positive = all_added IsPositive (λ (m : Member). m.member) new roster.members (positive_new roster member a.0) is.positive;
       few = omega (arith, length-inserted new roster.members, ltb-true (length roster.members) MAX_MEMBERS b.0);
-      live = live_add (numbers_of roster.members) roster.devices roster.upgraded member (record { device = first_device member; key = key }) _ _ is.live refl (numbers_of-insert_sorted new roster.members) refl;
+      first = first_add roster.devices roster.upgraded member (record { device = first_device member; key = key }) is.first refl;
     }
 few_after roster (Remove member) is none = record {
   positive = all_filter IsPositive (λ m. not (m.member == member)) roster.members is.positive;
   few = omega (arith, length-filter (λ (m : Member). not (m.member == member)) roster.members, count_by-le-length (λ (m : Member). not (m.member == member)) roster.members, is.few);
-  live = live_remove (numbers_of roster.members) roster.devices roster.upgraded member _ _ is.live (numbers_of-filter member roster.members) refl;
+  first = first_drop roster.devices roster.upgraded (λ d. not (d.device.member == member)) is.first;
 }
 few_after roster (SetRole member role) is none = record {
   positive = all_map IsPositive IsPositive (with_role member role) (λ m positive. positive) roster.members is.positive;
   few = omega (arith, length-map roster.members (with_role member role), is.few);
-  live = subst (λ (ns : List ℕ). LiveInvariant ns roster.devices roster.upgraded) (sym (numbers_of-with_role member role roster.members)) is.live;
+  first = is.first;
 }
 few_after roster (AddDevice member device key) is none =
     let passed = device_passes roster member device key none in
     record {
       positive = is.positive;
       few = is.few;
-      live = live_device roster.members (numbers_of roster.members) roster.devices roster.upgraded (record { device = record { member = member; number = device }; key = key }) _ is.live refl passed.0 passed.1 refl;
+      first = first_upgraded (insert_device (record { device = record { member = member; number = device }; key = key }) roster.devices) roster.upgraded passed.0;
     }
 few_after roster (DropDevice member device) is none = record {
   positive = is.positive;
   few = is.few;
-  live = live_drop (numbers_of roster.members) roster.devices roster.upgraded (λ d. not (same_device d.device (record { member = member; number = device }))) _ is.live refl;
+  first = first_drop roster.devices roster.upgraded (λ d. not (same_device d.device (record { member = member; number = device }))) is.first;
 }
 few_after roster Upgrade is none = record {
   positive = is.positive;
   few = is.few;
-  live = live_upgrade (numbers_of roster.members) roster.devices roster.upgraded is.live;
+  first = first_upgraded roster.devices true refl;
 }
 
 -- ---- and so in a good history
@@ -119,7 +119,7 @@ pub few_members : (g : Genesis) (kit : Kit) (entries : List (List ℕ)) → IsGe
 few_members g kit entries is = from_end (FewIf g kit) (λ good. record {
   positive = all_map IsFounder IsPositive member_by (λ f is. is.member.0) g.founders is.founders;
   few = omega (arith, length-map g.founders member_by, is.count.1);
-  live = founds_live g.founders (numbers_of (map member_by g.founders)) (map device_by g.founders) (numbers_of-founders g.founders) refl;
+  first = founds_first g.founders;
 }) (few_more g kit) entries
 
 -- an entry of the version at a roster can be by a device that is the first one up to the Upgrade
@@ -129,7 +129,7 @@ fits_by false number first = ap (fits_version 1) (first refl)
 
 -- as a live one is
 pub live_fits : (roster : Roster) (d : Device) → IsFew roster → is_some (key_of_device roster d) ≡ true → fits_version (version_of roster.upgraded) d.number ≡ true
-live_fits roster d is live = fits_by roster.upgraded d.number (live_first (numbers_of roster.members) roster.devices roster.upgraded d is.live live)
+live_fits roster d is live = fits_by roster.upgraded d.number (live_first roster.devices roster.upgraded d is.first live)
 
 -- ---- such a change can be written
 

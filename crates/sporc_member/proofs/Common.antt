@@ -5,14 +5,14 @@ pub use Rattle.std.proofs.lemmas.List.{drop-map, length-map, map-append, take-ap
 pub use Rattle.std.specs.List.{insert, list_any}
 pub use Rattle.std.specs.Prelude.{find, fold, map, option_map, vec_capacity, ◌&&◌, ◌||◌}
 pub use Rattle.sporc_member.specs.Device.{device_place, first_device, insert_device, is_before, place_from, same_device}
-pub use Rattle.sporc_member.specs.Lists.{place_among}
-pub use Rattle.sporc_member.specs.Roster.{Roster, after_change, change_fault_of, device_by, devices_of, founded, founder_numbers, insert_sorted, is_used, key_of, member_at, member_by, numbers_of}
+pub use Rattle.sporc_member.specs.Lists.{insert_by, place_among}
+pub use Rattle.sporc_member.specs.Roster.{Roster, after_change, change_fault_of, device_by, devices_of, founded, founder_numbers, insert_sorted, is_device_used, is_used, key_of, member_at, member_by, numbers_of}
 pub use Rattle.sporc_member.specs.Roster.{removes, with_role}
-pub use Rattle.sporc_member.specs.RosterModel.{AreGrouped, DevicesInvariant, LiveInvariant, MembersInvariant, RosterModel, roster_in}
+pub use Rattle.sporc_member.specs.RosterModel.{AreFirst, AreInOrder, IsSound, RosterModel, StandsBefore, has_device, has_one_of, roster_in}
 pub use Rattle.sporc_member.specs.declared.change.Change.TheVariants.{Add, AddDevice, DropDevice, Remove, SetRole, Upgrade}
 pub use Rattle.sporc_member.specs.declared.change.ChangeFault.TheVariants.{AlreadyUpgraded, BadKey, DeviceUsed, DevicesFull, LastAdmin, LastDevice, NoDevice, NotMember, NotUpgraded, NumberUsed}
 pub use Rattle.sporc_member.specs.declared.change.ChangeFault.TheVariants.{RosterFull, SameRole}
 pub use Rattle.sporc_member.specs.declared.device.Device.{Device}
-pub use Rattle.sporc_member.specs.declared.device.LiveDevice.{LiveDevice}
+pub use Rattle.sporc_member.specs.declared.device.KeyedDevice.{KeyedDevice}
 pub use Rattle.sporc_member.specs.declared.founder.Founder.{Founder}
 pub use Rattle.sporc_member.specs.declared.member.Member.{Member}

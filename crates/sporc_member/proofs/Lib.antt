@@ -1,8 +1,10 @@
 pub mod Checks
 pub mod Places
 pub mod Keeping
+pub mod Ordered
 mod Grouped
 pub mod Belonging
+pub mod Sound
 pub mod SameDevice
 mod Examples
 pub mod Common

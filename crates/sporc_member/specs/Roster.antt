@@ -1,5 +1,5 @@
 -- The members of a document and their devices, as its changes make them from the founders.
-use Rattle.std.specs.Prelude.{ℕ, ◌==◌, Bool, true, false, not, ◌&&◌, nat_lt, List, [], ◌∷◌, ◌++◌}
+use Rattle.std.specs.Prelude.{ℕ, ◌==◌, Bool, true, false, not, ◌&&◌, nat_lt, List, [], ◌∷◌}
 use Rattle.std.specs.Prelude.{length, Option, None, Some, is_some, if◌then◌else◌, filter, find, map}
 use Rattle.std.specs.Prelude.{option_map, fold}
 use Rattle.std.specs.List.{list_any}
@@ -17,7 +17,7 @@ use Rattle.sporc_member.specs.declared.change.ChangeFault.TheVariants.{DeviceUse
 use Rattle.sporc_member.specs.declared.change.ChangeFault.TheVariants.{LastDevice, DevicesFull}
 use Rattle.sporc_member.specs.declared.change.ChangeFault.TheVariants.{NotUpgraded, AlreadyUpgraded}
 use Rattle.sporc_member.specs.declared.device.Device.{Device}
-use Rattle.sporc_member.specs.declared.device.LiveDevice.{LiveDevice}
+use Rattle.sporc_member.specs.declared.device.KeyedDevice.{KeyedDevice}
 use Rattle.sporc_member.specs.declared.founder.Founder.{Founder}
 use Rattle.sporc_member.specs.declared.member.Member.{Member}
 use Rattle.sporc_member.specs.Device.{first_device, same_device, insert_device}
@@ -25,12 +25,13 @@ use Rattle.sporc_member.specs.Lists.{insert_by}
 use Rattle.sporc_member.specs.Role.{same_role, is_admin}
 use Rattle.sporc_base.specs.FirstFault.{unless, first_of}
 
--- the members and their live devices, in ascending order of numbers; every device that was one, in
--- the order of use; and whether the document was upgraded
+-- the members, the numbers that ever were members', the live devices and all that ever were
+-- devices, each in ascending order; and whether the document was upgraded
 pub record Roster : Type 0 where
   pub members : List Member
-  pub devices : List LiveDevice
-  pub ever : List Device
+  pub used : List ℕ
+  pub devices : List KeyedDevice
+  pub ever : List KeyedDevice
   pub upgraded : Bool
 
 -- ---- what a roster says
@@ -52,13 +53,13 @@ abbrev pub devices_of : Roster → ℕ → List ℕ
 devices_of roster number =
     map (λ d. d.device.number) (filter (λ d. d.device.member == number) roster.devices)
 
--- whether a number was ever a member's: each began with a device
+-- whether a number was ever a member's
 abbrev pub is_used : Roster → ℕ → Bool
-is_used roster number = list_any (λ d. d.member == number) roster.ever
+is_used roster number = list_any (λ n. n == number) roster.used
 
 -- whether a device ever was one
 abbrev pub is_device_used : Roster → Device → Bool
-is_device_used roster device = list_any (λ d. same_device d device) roster.ever
+is_device_used roster device = list_any (λ d. same_device d.device device) roster.ever
 
 -- whether a roster has an admin
 abbrev pub has_admin : Roster → Bool
@@ -83,24 +84,22 @@ with_role number role m = record m { role = if m.member == number then role else
 abbrev pub with_device : Device → List ℕ → Roster → Roster
 with_device device key roster = record roster {
   devices = insert_device (record { device = device; key = key }) roster.devices;
-  ever = roster.ever ++ device ∷ [];
+  ever = insert_device (record { device = device; key = key }) roster.ever;
 }
 
 -- with those live devices alone that pass a test
 abbrev pub with_devices : (Device → Bool) → Roster → Roster
 with_devices stays roster = record roster { devices = filter (λ d. stays d.device) roster.devices }
 
--- with these members
-abbrev pub with_members : List Member → Roster → Roster
-with_members members roster = record roster { members = members }
-
 -- the roster after a change
 abbrev pub after_change : Roster → Change → Roster
-after_change roster (Add m role key) = with_device (first_device m) key
-    (with_members (insert_sorted (record { member = m; role = role }) roster.members) roster)
+after_change roster (Add m role key) = with_device (first_device m) key (record roster {
+  members = insert_sorted (record { member = m; role = role }) roster.members;
+  used = insert_by (λ n. n) m roster.used;
+})
 after_change roster (Remove m) = with_devices (λ d. not (d.member == m))
-    (with_members (filter (λ x. not (x.member == m)) roster.members) roster)
-after_change roster (SetRole m role) = with_members (map (with_role m role) roster.members) roster
+    (record roster { members = filter (λ x. not (x.member == m)) roster.members })
+after_change roster (SetRole m r) = record roster { members = map (with_role m r) roster.members }
 after_change roster (AddDevice m n key) = with_device (record { member = m; number = n }) key roster
 after_change roster (DropDevice m n) =
     with_devices (λ d. not (same_device d (record { member = m; number = n }))) roster
@@ -151,7 +150,7 @@ change_fault_of roster change = first_of (change_checks roster change)
 abbrev pub member_by : Founder → Member
 member_by f = record { member = f.member; role = f.role }
 
-abbrev pub device_by : Founder → LiveDevice
+abbrev pub device_by : Founder → KeyedDevice
 device_by f = record { device = first_device f.member; key = f.key }
 
 -- the numbers of founders
@@ -162,8 +161,9 @@ founder_numbers founders = map (λ f. f.member) founders
 abbrev pub founded : List Founder → Roster
 founded founders = record {
   members = map member_by founders;
+  used = map (λ f. f.member) founders;
   devices = map device_by founders;
-  ever = map (λ d. d.device) (map device_by founders);
+  ever = map device_by founders;
   upgraded = false;
 }
 

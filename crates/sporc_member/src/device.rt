@@ -42,9 +42,9 @@ impl Device {
     }
 }
 
-/// A device that signs, with the 56 bytes of its public key (RFC 8554, section 5.3).
+/// A device with the 56 bytes of its public key (RFC 8554, section 5.3).
 #[derive(Clone, Copy, PartialEq, Eq)]
-pub struct LiveDevice {
+pub struct KeyedDevice {
     pub device: Device,
     pub key: [u8; 56],
 }

@@ -34,7 +34,7 @@ mod role;
 mod roster;
 
 pub use change::{Change, ChangeFault};
-pub use device::{Device, FIRST_DEVICE, LiveDevice};
+pub use device::{Device, FIRST_DEVICE, KeyedDevice};
 pub use founder::Founder;
 pub use limits::{MAX_DEVICES, MAX_MEMBERS};
 pub use member::Member;

@@ -3,15 +3,14 @@
 ghost use Rattle.std.specs.Prelude.{◌≡◌, ◌≤◌, true, false, [], length, option_map, is_some, IfOk};
 ghost use Rattle.std.specs.Prelude.{OnOk, OnErr, IsOk, None};
 ghost use Rattle.std.specs.Option.{option_copied};
-ghost use Rattle.sporc_member.specs.declared.device.TheConstants.{FIRST_DEVICE};
 ghost use Rattle.sporc_member.specs.declared.limits.TheConstants.{MAX_MEMBERS};
 ghost use Rattle.std.specs.List.Sorted.{IsStrictlyIncreasing};
 
 use crate::change::{Change, ChangeFault};
-use crate::device::{Device, LiveDevice};
+use crate::device::{Device, KeyedDevice};
 use crate::device_lists::{
-    device_numbers_in, devices_by, devices_in, insert_live, place_from, renumber, take_out_device,
-    take_out_devices_of,
+    device_numbers_in, devices_by, insert_device, insert_live, place_from, renumber,
+    take_out_device, take_out_devices_of,
 };
 use crate::founder::Founder;
 use crate::limits::{MAX_DEVICES, MAX_MEMBERS};
@@ -26,17 +25,18 @@ use sporc_base::Memory;
 use std::alloc::Global;
 use std::marker::Model;
 
-/// The members in ascending order of their numbers with their live devices, every device that ever
-/// was one, and whether the document was upgraded.
+/// The members with their live devices, every number that was ever a member's and every device that
+/// ever was one, all in ascending order, and whether the document was upgraded.
 ///
 /// Contracts see the roster, and `spare`: how many changes it can make without memory.
 #[derive(Drop)]
 pub struct Roster {
     members: Vec<Member>,
     numbers: Vec<u16>,
-    devices: Vec<LiveDevice>,
+    used: Vec<u16>,
+    devices: Vec<KeyedDevice>,
     device_numbers: Vec<u8>,
-    ever: Vec<Device>,
+    ever: Vec<KeyedDevice>,
     upgraded: bool,
 }
 
@@ -64,12 +64,14 @@ impl Roster {
     {
         let members = members_by(alloc, founders)?;
         let numbers = numbers_in(alloc, members.as_slice())?;
+        let used = numbers_in(alloc, members.as_slice())?;
         let devices = devices_by(alloc, founders)?;
         let device_numbers = device_numbers_in(alloc, devices.as_slice())?;
-        let ever = devices_in(alloc, devices.as_slice())?;
+        let ever = devices_by(alloc, founders)?;
         Ok(Roster {
             members,
             numbers,
+            used,
             devices,
             device_numbers,
             ever,
@@ -96,14 +98,14 @@ impl Roster {
     fn is_used(&self, number: u16) -> bool
         ensures { result ≡ is_used self.now.roster number }
     {
-        self.ever.iter().any(|d| d.member == number)
+        self.used.iter().any(|n| *n == number)
     }
 
     // Whether a device ever was one.
     fn is_device_used(&self, device: Device) -> bool
         ensures { result ≡ is_device_used self.now.roster device }
     {
-        self.ever.iter().any(|d| d.is(device))
+        self.ever.iter().any(|d| d.device.is(device))
     }
 
     /// The role of the member with this number.
@@ -124,17 +126,13 @@ impl Roster {
         &self.device_numbers[first..end]
     }
 
-    /// The public key of a live device of the member with this number. Up to the Upgrade only its
-    /// first device has one.
+    /// The public key of a live device of the member with this number.
     pub fn key(&self, member: u16, device: u8) -> Option<&[u8; 56]>
         ensures value { option_copied result
             ≡ key_of self.now.roster (record { member = member; number = device }) }
         ensures member { is_some
             (key_of self.now.roster (record { member = member; number = device })) ≡ true
             → is_some (member_at self.now.roster member) ≡ true }
-        ensures first { is_some
-            (key_of self.now.roster (record { member = member; number = device })) ≡ true
-            → self.now.roster.upgraded ≡ false → device ≡ FIRST_DEVICE }
     {
         let device = Device {
             member,
@@ -277,6 +275,7 @@ impl Roster {
     {
         self.members.reserve(1)?;
         self.numbers.reserve(1)?;
+        self.used.reserve(1)?;
         self.devices.reserve(1)?;
         self.device_numbers.reserve(1)?;
         self.ever.reserve(1)
@@ -323,16 +322,17 @@ impl Roster {
         ensures ready { 1 ≤ self.old.spare → IsOk result }
     {
         self.reserve()?;
-        let device = Device::first(member);
         let place = place_of(self.numbers.as_slice(), member);
         insert_ready(&mut self.members, place, Member { member, role });
         insert_ready(&mut self.numbers, place, member);
-        insert_live(
-            &mut self.devices,
-            &mut self.device_numbers,
-            LiveDevice { device, key },
-        );
-        self.ever.push_reserved(device);
+        let place = place_of(self.used.as_slice(), member);
+        insert_ready(&mut self.used, place, member);
+        let device = KeyedDevice {
+            device: Device::first(member),
+            key,
+        };
+        insert_live(&mut self.devices, &mut self.device_numbers, device);
+        insert_device(&mut self.ever, device);
         Ok(())
     }
 
@@ -360,16 +360,15 @@ impl Roster {
         ensures ready { 1 ≤ self.old.spare → IsOk result }
     {
         self.reserve()?;
-        let device = Device {
-            member,
-            number: device,
+        let device = KeyedDevice {
+            device: Device {
+                member,
+                number: device,
+            },
+            key,
         };
-        insert_live(
-            &mut self.devices,
-            &mut self.device_numbers,
-            LiveDevice { device, key },
-        );
-        self.ever.push_reserved(device);
+        insert_live(&mut self.devices, &mut self.device_numbers, device);
+        insert_device(&mut self.ever, device);
         Ok(())
     }
 

@@ -3,7 +3,7 @@ use Rattle.std.proofs.Common.{◌≡◌, ◌⊎◌, inl, inr, ℕ, true, false, 
 use Rattle.sporc_script.proofs.Common.{codes, decimal, bytes_eq, eqb-true, Decides-eqb, encode_lower, Device, Role, EditorCommand, EditorLine, MemberRole, insertion_of, removal_of, editor_line}
 use Rattle.sporc_script.proofs.Common.{hex_of, IsSkipped, member_device_of, member_role_of, role_of, quoted, device_number_of, keyed_of, member_of, pair_of, IsPayload, IsMember, DeviceInRange}
 use Rattle.sporc_script.proofs.Common.{member_device_spelling, member_role_spelling, role_name, Insertion, Removal, editor_spelling, ReadsEditorLine}
-use Rattle.sporc_member.specs.declared.device.LiveDevice.{LiveDevice}
+use Rattle.sporc_member.specs.declared.device.KeyedDevice.{KeyedDevice}
 use Rattle.sporc_member.specs.declared.founder.Founder.{Founder}
 use Rattle.sporc_script.specs.declared.editor_line.EditorCommand.TheVariants as commands
 use Rattle.sporc_script.specs.declared.editor_line.EditorWord.{EditorWord}
@@ -43,10 +43,10 @@ newcomer_exact = range_exact Founder _ _ newcomer_spelling _
     (λ p. record { member = p.0; role = p.1.0; key = p.1.1 }) (λ f. (f.member, (f.role, f.key))) (λ p. refl) (λ f. refl))
     (λ f h. (h.0, h.1.1)) (λ f h. (h.0, (tt, h.1)))
 
-pub new_device_exact : IsExact LiveDevice (λ d. DeviceInRange d.device × IsKey d.key) new_device_spelling new_device_of
+pub new_device_exact : IsExact KeyedDevice (λ d. DeviceInRange d.device × IsKey d.key) new_device_spelling new_device_of
 unfolding new_device_of
-new_device_exact = range_exact LiveDevice _ _ new_device_spelling _
-    (map_exact (ℕ × (ℕ × List ℕ)) LiveDevice _ _ _
+new_device_exact = range_exact KeyedDevice _ _ new_device_spelling _
+    (map_exact (ℕ × (ℕ × List ℕ)) KeyedDevice _ _ _
     (pair_exact ℕ (ℕ × List ℕ) _ _ decimal (λ p. decimal p.0 ++ 32 ∷ encode_lower p.1) member_of (pair_of device_number_of key_of_word) member_exact member_words
     (pair_exact ℕ (List ℕ) _ _ decimal encode_lower device_number_of key_of_word device_number_exact device_number_words key_exact))
     (λ p. record { device = record { member = p.0; number = p.1.0 }; key = p.1.1 }) (λ d. (d.device.member, (d.device.number, d.key))) (λ p. refl) (λ d. refl))
@@ -62,7 +62,7 @@ editor_sound editor_words.Remove bytes c is = variant_sound Removal EditorComman
 editor_sound editor_words.Add bytes c is = variant_sound Founder EditorCommand _ _ newcomer_of newcomer_exact HasMore editor_spelling (codes "add") commands.Add (λ a h. (h, refl)) (λ a. refl) bytes c is
 editor_sound editor_words.Drop bytes c is = variant_sound ℕ EditorCommand _ _ member_of member_exact HasMore editor_spelling (codes "drop") commands.Drop (λ a h. (h, refl)) (λ a. refl) bytes c is
 editor_sound editor_words.Role bytes c is = variant_sound MemberRole EditorCommand _ _ member_role_of member_role_exact HasMore editor_spelling (codes "role") commands.SetRole (λ a h. (h, refl)) (λ a. refl) bytes c is
-editor_sound editor_words.Device bytes c is = variant_sound LiveDevice EditorCommand _ _ new_device_of new_device_exact HasMore editor_spelling (codes "device") commands.AddDevice (λ a h. (h, refl)) (λ a. refl) bytes c is
+editor_sound editor_words.Device bytes c is = variant_sound KeyedDevice EditorCommand _ _ new_device_of new_device_exact HasMore editor_spelling (codes "device") commands.AddDevice (λ a h. (h, refl)) (λ a. refl) bytes c is
 editor_sound editor_words.DropDevice bytes c is = variant_sound Device EditorCommand _ _ member_device_of member_device_exact HasMore editor_spelling (codes "drop-device") commands.DropDevice (λ a h. (h, refl)) (λ a. refl) bytes c is
 
 editor_begins : (c : EditorCommand) → HasMore c → Begins EditorWord EditorCommand editor_word_name editor_spelling editor_with c

@@ -6,7 +6,7 @@ use Rattle.std.specs.List.{AllByRecursion}
 use Rattle.std.specs.Str.{all_scalars, encode_utf8_all}
 use Rattle.hex.specs.Hex.{encode_lower}
 use Rattle.sporc_base.specs.Bytes.{IsBytes}
-use Rattle.sporc_member.specs.declared.device.LiveDevice.{LiveDevice}
+use Rattle.sporc_member.specs.declared.device.KeyedDevice.{KeyedDevice}
 use Rattle.sporc_member.specs.declared.founder.Founder.{Founder}
 use Rattle.sporc_script.specs.declared.editor_line.EditorCommand.{EditorCommand}
 use Rattle.sporc_script.specs.declared.editor_line.EditorCommand.TheVariants as commands
@@ -39,7 +39,7 @@ abbrev pub newcomer_spelling : Founder → List ℕ
 newcomer_spelling f =
     decimal f.member ++ (codes " " ++ (role_name f.role ++ (codes " " ++ encode_lower f.key)))
 
-abbrev pub new_device_spelling : LiveDevice → List ℕ
+abbrev pub new_device_spelling : KeyedDevice → List ℕ
 new_device_spelling d = decimal d.device.member
     ++ (codes " " ++ (decimal d.device.number ++ (codes " " ++ encode_lower d.key)))
 
@@ -95,7 +95,7 @@ unfoldable pub newcomer_of : List ℕ → Option Founder
 newcomer_of words = option_map (λ p. record { member = p.0; role = p.1.0; key = p.1.1 })
     (pair_of member_of (pair_of role_of key_of_word) words)
 
-unfoldable pub new_device_of : List ℕ → Option LiveDevice
+unfoldable pub new_device_of : List ℕ → Option KeyedDevice
 new_device_of words =
     option_map (λ p. record { device = record { member = p.0; number = p.1.0 }; key = p.1.1 })
     (pair_of member_of (pair_of device_number_of key_of_word) words)

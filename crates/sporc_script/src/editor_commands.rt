@@ -11,7 +11,7 @@ use crate::names::{parse_editor_word, parse_role};
 use crate::plain::{read_member_device, read_member_role};
 use crate::words::{cut, parse_device_number, parse_member};
 use sporc_base::{Memory, is_same};
-use sporc_member::{Device, Founder, LiveDevice};
+use sporc_member::{Device, Founder, KeyedDevice};
 use std::alloc::Global;
 
 // The command that the whole line spells, if there is one.
@@ -76,7 +76,7 @@ fn read_newcomer(alloc: Global, words: &[u8]) -> Result<Option<Founder>, Memory>
 
 // `N D HEX`
 #[tactic(auto, unfolding(crate::specs::EditorLines::new_device_of))]
-fn read_new_device(alloc: Global, words: &[u8]) -> Result<Option<LiveDevice>, Memory>
+fn read_new_device(alloc: Global, words: &[u8]) -> Result<Option<KeyedDevice>, Memory>
     ensures { IfOk result (λ found. found ≡ new_device_of words.now) }
 {
     let Some((first, rest)) = cut(words) else {
@@ -95,7 +95,7 @@ fn read_new_device(alloc: Global, words: &[u8]) -> Result<Option<LiveDevice>, Me
         return Ok(None);
     };
     let device = Device { member, number };
-    Ok(Some(LiveDevice { device, key }))
+    Ok(Some(KeyedDevice { device, key }))
 }
 
 #[tactic(auto, unfolding(crate::specs::EditorLines::key_of_word))]

@@ -2,7 +2,7 @@
 
 use crate::member_role::MemberRole;
 use crate::text_edit::{Insertion, Removal};
-use sporc_member::{Device, Founder, LiveDevice};
+use sporc_member::{Device, Founder, KeyedDevice};
 
 /// The bytes of a public key (RFC 8554, section 5.3).
 pub const KEY_BYTES: usize = 56;
@@ -29,7 +29,7 @@ pub enum EditorCommand {
     /// `role N ROLE`
     SetRole(MemberRole),
     /// `device N D HEX`, with the digits of the new device's key.
-    AddDevice(LiveDevice),
+    AddDevice(KeyedDevice),
     /// `drop-device N D`
     DropDevice(Device),
     /// `upgrade`

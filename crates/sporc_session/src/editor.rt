@@ -22,7 +22,7 @@ use crate::receiver::{WithPass, plain};
 use sporc_base::Memory;
 use sporc_client::EditFault;
 use sporc_delta::Delta;
-use sporc_member::{Change, Device, Founder, LiveDevice};
+use sporc_member::{Change, Device, Founder, KeyedDevice};
 use sporc_outside::{Gate, LeafDisk};
 use sporc_script::{EditorCommand, EditorLine, Insertion, MemberRole, Removal};
 use sporc_shared::{Answered, Front, Look, Pass, Reply};
@@ -253,7 +253,7 @@ fn role_set(set: MemberRole) -> Change
     }
 }
 
-fn device_added(live: &LiveDevice) -> Change
+fn device_added(live: &KeyedDevice) -> Change
     ensures { result ≡ AddDevice live.now.device.member live.now.device.number live.now.key }
 {
     Change::AddDevice {

@@ -11,6 +11,7 @@ ghost use Rattle.sporc_epoch.specs.Sealing.{body_sealed};
 ghost use Rattle.sporc_epoch.specs.Streams.{entry_stream};
 ghost use Rattle.sporc_head.specs.declared.limits.TheConstants.{MAX_ENTRIES};
 ghost use Rattle.sporc_head.specs.History.{count_of, epoch_of, hash_of, roster_of};
+ghost use Rattle.sporc_line.specs.Good.{Good};
 ghost use Rattle.sporc_line.specs.Keys.{epoch_key};
 ghost use Rattle.sporc_member.specs.Roster.{key_of as key_of_device};
 ghost use Rattle.sporc_client.specs.Contents.{CanTake, IsSpelled};
@@ -54,6 +55,7 @@ pub(crate) fn unsigned_entry(
 
 // What stands before the body of the device's next entry of this kind.
 fn next_header(line: &Line, leaf: u32, kind: u8) -> Header
+    requires good { Good line.now.genesis line.now.kit line.now.entries }
     requires limit { length line.now.entries + 1 ≤ MAX_ENTRIES }
     requires range { (1 ≤ kind) × (kind ≤ 2) }
     requires live { is_some
@@ -73,8 +75,6 @@ fn next_header(line: &Line, leaf: u32, kind: u8) -> Header
     let heads = line.heads();
     let roster = heads.roster();
     let me = line.own_device();
-    // Before the upgrade only first devices are live.
-    let _key = roster.key(me.member, me.number);
     Header {
         version: version_of(roster.upgraded()),
         document: heads.genesis().document,

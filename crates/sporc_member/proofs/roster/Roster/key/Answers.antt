@@ -1,16 +1,10 @@
 use Rattle.std.proofs.Common.{◌≡◌, ap, sym, ◌∙◌, true, is_some}
 use Rattle.sporc_member.proofs.Common.{Device, key_of, member_at, RosterModel, roster_in}
-use Rattle.sporc_member.proofs.Belonging.{live_member, live_first}
+use Rattle.sporc_member.proofs.Belonging.{live_member}
 use Rattle.sporc_member.proofs.roster.Roster.key.Goals as goal
 
 pub returns-clause-member : goal.returns-clause-member
 returns-clause-member c h =
     let d : Device = record { member = c.args.member; number = c.args.device } in
     let has : is_some (key_of (roster_in c.self.inside) d) ≡ true = ap (λ (m : RosterModel). is_some (key_of m.roster d)) c.self.view_is ∙ h in
-    ap (λ (m : RosterModel). is_some (member_at m.roster c.args.member)) (sym c.self.view_is) ∙ live_member c.self.inside.members.items _ _ _ d c.self.invariant.live c.self.invariant.members.same has
-
-pub returns-clause-first : goal.returns-clause-first
-returns-clause-first c h old =
-    let d : Device = record { member = c.args.member; number = c.args.device } in
-    let has : is_some (key_of (roster_in c.self.inside) d) ≡ true = ap (λ (m : RosterModel). is_some (key_of m.roster d)) c.self.view_is ∙ h in
-    live_first _ _ _ d c.self.invariant.live has (ap (λ (m : RosterModel). m.roster.upgraded) c.self.view_is ∙ old)
+    ap (λ (m : RosterModel). is_some (member_at m.roster c.args.member)) (sym c.self.view_is) ∙ live_member c.self.inside.members.items c.self.inside.devices.items d c.self.invariant.sound.belong has

@@ -9,7 +9,7 @@ returns-in-Add c =
     let n = c.in-Add.member in
     record {
       ok = rw (c.in-Add.is, ← c.self.view_is) (IfOk-weaker c.numbers_with.result _ _ (λ v is.
-          is ∙ ap (λ (ns : List ℕ). insert ns (place_among n ns) n) (c.as_slice-numbers.ensures.value ∙ c.self.invariant.members.same)
+          is ∙ ap (λ (ns : List ℕ). insert ns (place_among n ns) n) (c.as_slice-numbers.ensures.value ∙ c.self.invariant.numbers)
           ∙ sym (numbers_of-insert_sorted (record { member = n; role = c.in-Add.role }) c.self.inside.members.items)) c.numbers_with.ensures);
     }
 
@@ -17,7 +17,7 @@ pub returns-in-Remove : goal.returns-in-Remove
 returns-in-Remove c =
     record {
       ok = rw (c.in-Remove.is, ← c.self.view_is) (IfOk-weaker c.numbers_without.result _ _ (λ v is.
-          is ∙ ap (filter (λ (n : ℕ). not (eqb n c.in-Remove.member))) (c.as_slice-numbers.ensures.value ∙ c.self.invariant.members.same)
+          is ∙ ap (filter (λ (n : ℕ). not (eqb n c.in-Remove.member))) (c.as_slice-numbers.ensures.value ∙ c.self.invariant.numbers)
           ∙ sym (numbers_of-filter c.in-Remove.member c.self.inside.members.items)) c.numbers_without.ensures);
     }
 
@@ -25,5 +25,5 @@ pub returns-in-SetRole : goal.returns-in-SetRole
 returns-in-SetRole c =
     record {
       ok = rw (c.in-SetRole.is, ← c.self.view_is) (IfOk-weaker c.from_slice.result _ _ (λ v is.
-          is ∙ c.as_slice-numbers.ensures.value ∙ c.self.invariant.members.same ∙ sym (numbers_of-with_role c.in-SetRole.member c.in-SetRole.role c.self.inside.members.items)) c.from_slice.ensures.items);
+          is ∙ c.as_slice-numbers.ensures.value ∙ c.self.invariant.numbers ∙ sym (numbers_of-with_role c.in-SetRole.member c.in-SetRole.role c.self.inside.members.items)) c.from_slice.ensures.items);
     }

@@ -1,14 +1,20 @@
-use Rattle.std.proofs.Common.{map, ap, not, ◌==◌, ◌∙◌}
-use Rattle.sporc_member.proofs.Common.{LiveDevice}
-use Rattle.sporc_member.proofs.Keeping.{keeps_remove}
-use Rattle.sporc_member.proofs.Grouped.{keeps_those}
-use Rattle.sporc_member.proofs.Belonging.{live_remove}
+use Rattle.std.proofs.Common.{ℕ, List, map, filter, ap, sym, not, ◌==◌, ◌∙◌, subst}
+use Rattle.sporc_member.proofs.Common.{IsSound, KeyedDevice, Member, Roster, numbers_of, roster_in}
+use Rattle.sporc_member.proofs.Places.{numbers_of-filter}
+use Rattle.sporc_member.proofs.Sound.{sound_remove}
 use Rattle.sporc_member.proofs.roster.Roster.remove.Goals as goal
 
 pub invariant_of-self : goal.invariant_of-self
-invariant_of-self c = record {
-  members = keeps_remove _ _ _ c.args.member _ _ c.self.invariant.members c.take_out_member.ensures c.take_out_number.ensures;
-  devices = keeps_those _ _ (λ (d : LiveDevice). not (d.device.member == c.args.member)) _ _ c.self.invariant.devices c.take_out_devices_of.ensures.value
-      (c.renumber.ensures ∙ ap (map (λ d. d.device.number)) c.as_slice.ensures.value);
-  live = live_remove _ _ _ c.args.member _ _ c.self.invariant.live c.take_out_number.ensures c.take_out_devices_of.ensures.value;
-}
+invariant_of-self c =
+    let r = roster_in c.self.inside in
+    let n = c.args.member in
+    let made : List Member → List KeyedDevice → Roster = λ ms ds. record r { members = ms; devices = ds } in
+    record {
+      sound = subst IsSound
+          (ap (λ (ms : List Member). made ms (filter (λ d. not (d.device.member == n)) r.devices)) (sym c.take_out_member.ensures)
+          ∙ ap (made c.take_out_member.new.members.items) (sym c.take_out_devices_of.ensures.value))
+          (sound_remove r n c.self.invariant.sound);
+      numbers = c.take_out_number.ensures ∙ ap (filter (λ (m : ℕ). not (m == n))) c.self.invariant.numbers ∙ sym (numbers_of-filter n r.members)
+          ∙ ap numbers_of (sym c.take_out_member.ensures);
+      device_numbers = c.renumber.ensures ∙ ap (map (λ d. d.device.number)) c.as_slice.ensures.value;
+    }
