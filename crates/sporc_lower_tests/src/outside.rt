@@ -1,3 +1,4 @@
 //! The outside in memory.
 
 mod appends;
+mod lines;

@@ -9,4 +9,5 @@ pub mod Files
 pub mod AppendFile
 pub mod Chances
 pub mod Folders
+pub mod Lines
 pub mod Nets

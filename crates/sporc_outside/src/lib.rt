@@ -1,7 +1,8 @@
 //! The outside world as traits: where bytes come from and go to, and how its faults are counted.
 //!
 //! - [`Source`] and [`Sink`] give and take bytes, and a [`Link`] does both for one connection;
-//!   [`write_all`] and [`read_all`] go to the end. [`Dial`] and [`Listen`] make links.
+//!   [`write_all`] and [`read_all`] go to the end, and [`Lines`] hands out a source's lines as they
+//!   come. [`Dial`] and [`Listen`] make links.
 //! - [`Chance`] gives random words, a [`Folder`] keeps files, a [`LeafDisk`] keeps a key's state,
 //!   an [`AppendFile`] is appended to, and a [`Gate`] is called between the steps of threads.
 //! - [`Counted`]: each object counts its faults, and a call answers [`Failed`] only where that
@@ -16,9 +17,10 @@
 //! ```
 //!
 //! Proved: what writing to the end does to what a sink tells and to its count; what reading to the
-//! end takes of a source, whatever the answer, and when each fault comes. What the calls of traits
-//! promise is kept by each object that has them. Only tested: that reading succeeds with ample
-//! memory (`sporc_top_tests`). Neither: nothing else is claimed.
+//! end takes of a source, whatever the answer, and when each fault comes; the same of a line. What
+//! the calls of traits promise is kept by each object that has them. Only tested: that reading
+//! succeeds with ample memory (`sporc_top_tests`, `sporc_lower_tests`). Neither: nothing else is
+//! claimed.
 #![tactic(auto)]
 
 mod append_file;
@@ -29,6 +31,7 @@ mod folder;
 mod gate;
 pub mod laws;
 mod leaf_disk;
+mod lines;
 mod link;
 mod links;
 mod named_file;
@@ -44,6 +47,7 @@ pub use crate::file_fault::{FileFault, MAX_FILE};
 pub use crate::folder::Folder;
 pub use crate::gate::{Gate, OpenGate};
 pub use crate::leaf_disk::LeafDisk;
+pub use crate::lines::{LineFault, Lines};
 pub use crate::link::Link;
 pub use crate::links::{Dial, Links, Listen};
 pub use crate::named_file::{FileBytes, NamedFile};

@@ -39,7 +39,7 @@ impl From<Failed> for ReadFault {
 }
 
 // The most bytes that one call asks for.
-const PIECE: usize = 4096;
+pub(crate) const PIECE: usize = 4096;
 
 /// Reads a source to its end, where no more than `limit` bytes are left. Of a longer source it
 /// takes one byte above the limit, and no more.
