@@ -15,19 +15,23 @@ use sporc_member::{Member, Role};
 
 /// The author of an entry, with the key of the device that signs it.
 #[derive(Clone, Copy)]
-pub(crate) struct Author {
-    pub(crate) member: Member,
-    pub(crate) key: [u8; 56],
+pub struct Author {
+    /// Its number and its role.
+    pub member: Member,
+    /// The public key of the device.
+    pub key: [u8; 56],
 }
 
-// Whether the author may make the entry, and its device signed it.
-pub(crate) fn check_author(
+/// The checks of an entry against its author: that its role allows an entry of this kind, that the
+/// header names the leaf of the signature, and that this verifies under the key of its device. A
+/// verdict that was found before, under that key, is taken as it is.
+pub fn check_author(
     author: &Author,
     entry: &EntryView<'_>,
     known: Option<&Verdict>,
 ) -> Result<(), Refusal>
     requires exact { IfSome known (λ v. IsExactOf v.now entry.now.entry) }
-    ensures { Answers result
+    ensures fault { Answers result
         (first_of (author_checks (Some author.now.member) (Some author.now.key) entry.now.entry)) }
 {
     let header = entry.header();

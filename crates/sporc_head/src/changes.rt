@@ -10,13 +10,10 @@ use sporc_entry::{ChangeBody, Wrap};
 use sporc_member::Roster;
 use std::alloc::Global;
 
-// Whether the roster accepts the change, and its wraps name exactly the members after it.
-pub(crate) fn check_change(
-    alloc: Global,
-    roster: &Roster,
-    change: &ChangeBody,
-) -> Result<(), Refusal>
-    ensures { AnswersUnless Refusal.Memory result
+/// The checks of a change at the roster before it: that this accepts it, and that its wraps name
+/// exactly the members after it, in order.
+pub fn check_change(alloc: Global, roster: &Roster, change: &ChangeBody) -> Result<(), Refusal>
+    ensures fault { AnswersUnless Refusal.Memory result
         (first_of (roster_checks roster.now.roster (Some change.now))) }
 {
     if let Err(fault) = roster.test(&change.change) {

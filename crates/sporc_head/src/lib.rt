@@ -21,6 +21,9 @@
 //! let checked = heads.check_examined(None, heads.len() + 1, &examined)?;
 //! ```
 //!
+//! The checks against an entry's author and of a change at a roster stand alone too, for who has
+//! these without the history: [`check_author`], [`check_change`].
+//!
 //! Proved: a refusal is exactly the first check that fails over the whole list of entries, what is
 //! looked up is what that list says, and an entry that was checked is appended as it is; a verdict
 //! is exact, and the answer is the same whatever key an entry was examined under. Only tested: each
@@ -39,7 +42,8 @@ mod limits;
 mod refusal;
 mod tables;
 
-pub use authors::allows;
+pub use authors::{Author, allows, check_author};
+pub use changes::check_change;
 pub use checked::Checked;
 pub use examined::{Examined, Verdict};
 pub use heads::Heads;

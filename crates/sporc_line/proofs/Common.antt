@@ -44,7 +44,8 @@ pub use Rattle.sporc_head.specs.declared.refusal.Refusal.TheVariants.{UnknownAut
 pub use Rattle.sporc_head.specs.declared.refusal.Refusal.TheVariants.{WrongVersion, WrongWraps}
 pub use Rattle.sporc_line.specs.Document.{form_of, forms_from, forms_of, next_form, text_after, text_of}
 pub use Rattle.sporc_line.specs.Good.{Good, Meets}
-pub use Rattle.sporc_line.specs.Keys.{epoch_key, key_after, key_by_wraps, key_started}
+pub use Rattle.sporc_line.specs.Keys.{epoch_key, key_after, key_started}
+pub use Rattle.sporc_line.specs.Started.{key_by_wraps}
 pub use Rattle.sporc_line.specs.Kit.{Kit, kit_of}
 pub use Rattle.sporc_line.specs.LineChecks.{edit_checks, first_fault, is_new_key, is_over, key_checks, key_checks_of, line_checks, new_key_checks}
 pub use Rattle.sporc_line.specs.LineModel.{LineInvariant, LineModel}

@@ -1,11 +1,8 @@
 -- The keys of epochs, as a member reads them off a history.
-use Rattle.std.specs.Prelude.{ℕ, suc, zero, ◌==◌, List, take, Option, None, Some, if◌then◌else◌}
+use Rattle.std.specs.Prelude.{ℕ, suc, zero, List, take, Option, None, Some, if◌then◌else◌}
 use Rattle.std.specs.Prelude.{is_some, map, slice_get}
 use Rattle.std.specs.FinMap.{get}
-use Rattle.std.specs.List.{list_any}
 use Rattle.sporc_member.specs.Roster.{member_at, removes, roster_after}
-use Rattle.sporc_entry.specs.declared.change.ChangeBody.{ChangeBody}
-use Rattle.sporc_entry.specs.declared.header.Header.{Header}
 use Rattle.sporc_entry.specs.declared.genesis.Genesis.{Genesis}
 use Rattle.sporc_epoch.specs.Streams.{stream_of}
 use Rattle.sporc_epoch.specs.Wraps.{wrap_opened}
@@ -33,12 +30,3 @@ key_after genesis kit committed (suc e) =
 -- the key of epoch e of a history
 abbrev pub epoch_key : Genesis → Kit → List (List ℕ) → ℕ → Option (List ℕ)
 epoch_key genesis kit entries e = key_after genesis kit (changes entries) e
-
--- the key that a change starts, where its wraps name the members after it: a member finds its own
--- wrap, and a joiner to come none
-abbrev pub key_by_wraps : Kit → ℕ → Header → ChangeBody → Option (List ℕ)
-key_by_wraps kit e h c =
-    if removes kit.me c.change then None
-    else if list_any (λ w. w.member == kit.me.member) c.wraps
-    then wrap_opened c h.author (stream_of h) kit.me.member kit.pairs
-    else get kit.ring e

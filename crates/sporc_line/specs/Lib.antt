@@ -1,5 +1,6 @@
 pub mod Kit
 pub mod Keys
+pub mod Started
 pub mod Commitments
 pub mod Operations
 pub mod Document

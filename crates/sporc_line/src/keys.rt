@@ -13,8 +13,9 @@ use sporc_head::Refusal;
 use sporc_member::Device;
 
 /// The checks of the key of the epoch that a change starts, for a device that holds the key `old`
-/// of the epoch before.
-pub(crate) fn check_new_key(
+/// of the epoch before: that there is one, and that it meets the change's commitment and opens the
+/// sealed key of that epoch. There is nothing to check where the change removes the device.
+pub fn check_new_key(
     document: &[u8; 16],
     me: Device,
     epoch: u32,

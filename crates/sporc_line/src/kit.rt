@@ -7,7 +7,7 @@ ghost use Rattle.sporc_member.specs.Device.{same_device};
 ghost use Rattle.sporc_member.specs.Roster.{removes};
 ghost use Rattle.sporc_epoch.specs.Keys.{pairs_in};
 ghost use Rattle.sporc_line.specs.Kit.{kit_of};
-ghost use Rattle.sporc_line.specs.Keys.{key_by_wraps};
+ghost use Rattle.sporc_line.specs.Started.{key_by_wraps, started_key};
 
 use sporc_base::Memory;
 use sporc_entry::{ChangeBody, Header, Wrap};
@@ -77,8 +77,7 @@ impl MemberKit {
         })
     }
 
-    /// The key of the epoch that a change starts: from the member's own wrap, or its hint, if the
-    /// change has no wrap for it. None if the change removes the member or drops the device.
+    /// The key of the epoch that a change starts.
     pub(crate) fn started_key(
         &self,
         header: &Header,
@@ -87,20 +86,29 @@ impl MemberKit {
     ) -> Option<[u8; 32]>
         ensures value { result ≡ key_by_wraps self.now epoch header.now body.now }
     {
-        if is_removal(&body.change, self.me) {
-            return None;
-        }
-        if has_wrap(body.wraps.as_slice(), self.me.member) {
-            open_wrap_at(
-                body,
-                header.author,
-                stream_of(header),
-                self.me.member,
-                &self.pairs,
-            )
-        } else {
-            self.hint(epoch)
-        }
+        started_key(self.me, &self.pairs, self.hint(epoch), header, body)
+    }
+}
+
+/// The key of the epoch that a change starts, for a device of a member that shares these keys with
+/// others: from the member's own wrap, or the hint, if the change has no wrap for it. None if the
+/// change removes the member or drops the device.
+pub fn started_key(
+    me: Device,
+    pairs: &Pairs,
+    hint: Option<[u8; 32]>,
+    header: &Header,
+    body: &ChangeBody,
+) -> Option<[u8; 32]>
+    ensures value { result ≡ started_key me (pairs_in pairs.now) hint header.now body.now }
+{
+    if is_removal(&body.change, me) {
+        return None;
+    }
+    if has_wrap(body.wraps.as_slice(), me.member) {
+        open_wrap_at(body, header.author, stream_of(header), me.member, pairs)
+    } else {
+        hint
     }
 }
 

@@ -6,6 +6,8 @@
 //!   halves, the second of which takes no memory. `accept_examined` and `prepare_examined` do the
 //!   same with an entry whose signature was examined before its turn, under the key that `key_for`
 //!   tells.
+//! - [`read_payload`], [`pass_forms`], [`started_key`] and [`check_new_key`] speak of values alone:
+//!   what a line does with an edit's body and its delta, and with a change's key.
 //! - `specs/`: each of the definitions recomputes everything from the first entry: the keys of
 //!   epochs (`Keys`), what each entry does (`Operations`), forms and text (`Document`), the checks
 //!   (`LineChecks`), good histories (`Good`), and the strings that are hashed for one
@@ -41,7 +43,11 @@ mod payload;
 mod prepared;
 
 pub use fault::LineOpenFault;
+pub use keys::check_new_key;
+pub use kit::started_key;
 pub use limits::MAX_COMMITTED_LEN;
 pub use line::Line;
+pub use passing::pass_forms;
+pub use payload::read_payload;
 pub use prepared::Prepared;
 pub use sporc_base::Memory;

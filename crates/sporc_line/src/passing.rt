@@ -13,7 +13,7 @@ use std::sync::ledger::{Blank, Ledger};
 
 /// What marks, stated on the text after the first `from` forms, become behind all forms. There are
 /// none after an edit of the last text, whose marks are the form.
-pub(crate) fn pass_forms(forms: &Blocks, marks: Delta, from: u32) -> Result<Delta, Memory>
+pub fn pass_forms(forms: &Blocks, marks: Delta, from: u32) -> Result<Delta, Memory>
     requires in_bounds { from ≤ length forms.now.forms }
     requires base { base_len marks ≡ reached forms.now.base (take from forms.now.forms) }
     requires limit { base_len marks + inserted_len marks + all_inserted (drop from forms.now.forms)

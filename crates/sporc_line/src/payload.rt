@@ -14,7 +14,7 @@ use sporc_head::Refusal;
 use std::alloc::Global;
 
 /// The delta that a masked body holds under its epoch's key, by the stream of its entry.
-pub(crate) fn read_payload(
+pub fn read_payload(
     alloc: Global,
     key: &[u8; 32],
     stream: u64,

@@ -32,7 +32,7 @@ returns-in_err-check_author c =
     let member : Some c.in_ok-author.author.member ≡ member_at (roster_of g entries) c.args.view.now.entry.header.author = c.in_ok-author.ensures.member ∙ ap (λ (h : Header). member_at (roster_of g entries) h.author) c.header-2.ensures.value in
     let key : Some c.in_ok-author.author.key ≡ key_of (roster_of g entries) (author_device c.args.view.now.entry.header) = c.in_ok-author.ensures.key ∙ ap (λ (h : Header). key_of (roster_of g entries) (author_device h)) c.header-2.ensures.value in
     unless_exit Memory _ p.0 c.in_err-check_author.field-0.0 _ p.1 p.2
-    (λ _. at_author g c.args.me entries c.args.pos c.args.view.now.entry place c.in_ok-author.author.member c.in_ok-author.author.key member key history _ c.in_err-check_author.ensures)
+    (λ _. at_author g c.args.me entries c.args.pos c.args.view.now.entry place c.in_ok-author.author.member c.in_ok-author.author.key member key history _ c.in_err-check_author.ensures.fault)
 
 pub returns-in_err-check_change : goal.returns-in_err-check_change
 returns-in_err-check_change c =
@@ -44,8 +44,8 @@ returns-in_err-check_change c =
     let member : Some c.in_ok-author.author.member ≡ member_at (roster_of g entries) c.args.view.now.entry.header.author = c.in_ok-author.ensures.member ∙ ap (λ (h : Header). member_at (roster_of g entries) h.author) c.header-2.ensures.value in
     let key : Some c.in_ok-author.author.key ≡ key_of (roster_of g entries) (author_device c.args.view.now.entry.header) = c.in_ok-author.ensures.key ∙ ap (λ (h : Header). key_of (roster_of g entries) (author_device h)) c.header-2.ensures.value in
     unless_exit Memory _ p.0 c.in_err-check_change.field-0.0 _ p.1 p.2
-    (λ n. at_roster g c.args.me entries c.args.pos c.args.view.now.entry place c.in_ok-author.author.member c.in_ok-author.author.key member key history (Some c.in-Some.body.now) _ c.in_ok-check_author.ensures c.in-Some.ensures.value
-    (ap (λ (r : Roster). first_of (roster_checks r (Some c.in-Some.body.now))) (sym c.roster.ensures.value) ∙ c.in_err-check_change.ensures n))
+    (λ n. at_roster g c.args.me entries c.args.pos c.args.view.now.entry place c.in_ok-author.author.member c.in_ok-author.author.key member key history (Some c.in-Some.body.now) _ c.in_ok-check_author.ensures.fault c.in-Some.ensures.value
+    (ap (λ (r : Roster). first_of (roster_checks r (Some c.in-Some.body.now))) (sym c.roster.ensures.value) ∙ c.in_err-check_change.ensures.fault n))
 
 pub returns-in_ok-check_change : goal.returns-in_ok-check_change
 returns-in_ok-check_change c =
@@ -55,5 +55,5 @@ returns-in_ok-check_change c =
     let history : first_of (history_checks g entries c.args.view.now.entry.header) ≡ None = ap (λ (h : Header). first_of (history_checks g entries h)) (sym c.header-2.ensures.value) ∙ c.in_ok-author.ensures.fault in
     let member : Some c.in_ok-author.author.member ≡ member_at (roster_of g entries) c.args.view.now.entry.header.author = c.in_ok-author.ensures.member ∙ ap (λ (h : Header). member_at (roster_of g entries) h.author) c.header-2.ensures.value in
     let key : Some c.in_ok-author.author.key ≡ key_of (roster_of g entries) (author_device c.args.view.now.entry.header) = c.in_ok-author.ensures.key ∙ ap (λ (h : Header). key_of (roster_of g entries) (author_device h)) c.header-2.ensures.value in
-    at_roster g c.args.me entries c.args.pos c.args.view.now.entry place c.in_ok-author.author.member c.in_ok-author.author.key member key history (Some c.in-Some.body.now) None c.in_ok-check_author.ensures c.in-Some.ensures.value
-    (ap (λ (r : Roster). first_of (roster_checks r (Some c.in-Some.body.now))) (sym c.roster.ensures.value) ∙ c.in_ok-check_change.ensures)
+    at_roster g c.args.me entries c.args.pos c.args.view.now.entry place c.in_ok-author.author.member c.in_ok-author.author.key member key history (Some c.in-Some.body.now) None c.in_ok-check_author.ensures.fault c.in-Some.ensures.value
+    (ap (λ (r : Roster). first_of (roster_checks r (Some c.in-Some.body.now))) (sym c.roster.ensures.value) ∙ c.in_ok-check_change.ensures.fault)
