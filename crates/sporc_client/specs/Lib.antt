@@ -1,3 +1,4 @@
+pub mod Pending
 pub mod PlainClient
 pub mod Log
 pub mod Passing

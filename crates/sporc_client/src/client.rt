@@ -2,7 +2,7 @@
 
 ghost use Rattle.std.specs.Prelude.{◌≡◌, ◌≢◌, ◌+◌, ◌<◌, ◌≤◌, ◌∷◌, ◌++◌, [], map as map_, drop};
 ghost use Rattle.std.specs.Prelude.{take, length, true, None, Some, IfOk, IfErr, OnOk, OnErr};
-ghost use Rattle.std.specs.Prelude.{option_copied};
+ghost use Rattle.std.specs.Prelude.{option_copied, slice_get};
 ghost use Rattle.std.specs.FinMap as map;
 ghost use Rattle.sporc_outside.specs.LeafDisk.{disk_images};
 ghost use Rattle.sporc_hash.specs.Chain.{chain};
@@ -23,6 +23,7 @@ ghost use Rattle.sporc_delta.specs.Marks.{base_len, inserted_len};
 ghost use Rattle.sporc_delta.specs.declared.limits.TheConstants.{MAX_TEXT_LEN};
 ghost use Rattle.sporc_suffix.specs.Forms.{Follow, all_inserted, later_over, reached};
 ghost use Rattle.sporc_client.specs.Allowed.{is_allowed};
+ghost use Rattle.sporc_client.specs.Pending.{pending_marks};
 ghost use Rattle.sporc_client.specs.Soundness.{IsSound};
 ghost use Rattle.sporc_client.specs.ClientModel.{Rise, begun, first_leaf_of, leaves_of, state_of};
 ghost use Rattle.sporc_client.specs.ClientModel.{with_events};
@@ -40,7 +41,7 @@ use crate::limits::{MAX_EDIT_BYTES, MAX_EVENTS, MAX_PENDING};
 use crate::pending::Pending;
 use crate::workspace::{Workspace, ready_keep};
 use lms_sign::{KeptTicket, Signer};
-use sporc_base::{Bytes, Memory};
+use sporc_base::Memory;
 use sporc_delta::Delta;
 use sporc_entry::{CHANGE, EDIT, Genesis};
 use sporc_epoch::{Pairs, Ring};
@@ -157,6 +158,15 @@ impl<D: LeafDisk> Client<D> {
         self.line.hashes()
     }
 
+    /// The history as the member reads it.
+    pub fn line(&self) -> &Line
+        ensures genesis { result.now.genesis ≡ self.now.opening.genesis }
+        ensures kit { result.now.kit ≡ self.now.opening.kit }
+        ensures entries { result.now.entries ≡ (state_of self.now).entries }
+    {
+        &self.line
+    }
+
     /// The history with what its checks look up.
     pub fn heads(&self) -> &Heads
         ensures genesis { result.now.genesis ≡ self.now.opening.genesis }
@@ -219,11 +229,34 @@ impl<D: LeafDisk> Client<D> {
         self.own.pending().len() as u32
     }
 
+    /// The delta of a pending edit, by its place among the pending items, stated on the committed
+    /// text with the pending edits before it. None exactly if that item is a change, or there are
+    /// no more than `i`.
+    pub fn pending_delta(&self, i: u32) -> Option<&Delta>
+        ensures value { option_copied result ≡ pending_marks (state_of self.now).pending i }
+    {
+        match self.own.pending().get(i as usize) {
+            Some(Pending::Edit(delta)) => Some(delta),
+            Some(Pending::Change(_)) | None => None,
+        }
+    }
+
+    /// What an event of the journal did to the shown text, by its place there. None exactly if
+    /// there are no more than `event`.
+    pub fn shown_delta(&self, event: u64) -> Option<&Delta>
+        ensures value { option_copied result ≡ slice_get (state_of self.now).shown event }
+    {
+        self.own.shown_delta(event)
+    }
+
     /// The bytes of the entry on its way.
-    pub fn flight(&self) -> Option<&Bytes>
+    pub fn flight(&self) -> Option<&[u8]>
         ensures value { option_copied result ≡ (state_of self.now).flight }
     {
-        self.own.flight()
+        match self.own.flight() {
+            Some(entry) => Some(entry.as_slice()),
+            None => None,
+        }
     }
 
     /// Gives the signer back, with its disk. A ticket that is kept is given up. On that disk the

@@ -1,7 +1,7 @@
 //! A client's own part.
 
 ghost use Rattle.std.specs.Prelude.{◌≡◌, ◌+◌, ◌≤◌, ◌<◌, ◌∷◌, ◌++◌, [], drop, take, length, None};
-ghost use Rattle.std.specs.Prelude.{Some, option_copied, IfOk, OnOk};
+ghost use Rattle.std.specs.Prelude.{Some, option_copied, slice_get, IfOk, OnOk};
 ghost use Rattle.sporc_delta.specs.Marks.{base_len, inserted_len, keep_marks};
 ghost use Rattle.sporc_delta.specs.declared.limits.TheConstants.{MAX_COUNT, MAX_TEXT_LEN};
 ghost use Rattle.sporc_suffix.specs.Forms.{Follow, all_inserted, later_over, reached};
@@ -98,6 +98,16 @@ impl Workspace {
         ensures within { length result.now ≤ MAX_EVENTS }
     {
         self.journal.as_slice()
+    }
+
+    /// The shown delta of an event.
+    pub(crate) fn shown_delta(&self, event: u64) -> Option<&Delta>
+        ensures value { option_copied result ≡ slice_get self.now.shown event }
+    {
+        if event >= self.journal.len() as u64 {
+            return None;
+        }
+        Some(self.shown.form(event as u32))
     }
 
     /// The length of the text shown now.

@@ -33,7 +33,21 @@ impl Model for Prepared {
 }
 
 impl Prepared {
-    /// The device of its author.
+    /// The number of its author.
+    pub fn author(&self) -> u16
+        ensures value { result ≡ (author_device self.now.checked.entry.header).member }
+    {
+        self.author_device().member
+    }
+
+    /// The number of its author's device.
+    pub fn device(&self) -> u8
+        ensures value { result ≡ (author_device self.now.checked.entry.header).number }
+    {
+        self.author_device().number
+    }
+
+    /// The device of its author, by both numbers.
     pub fn author_device(&self) -> Device
         ensures value { result ≡ author_device self.now.checked.entry.header }
     {

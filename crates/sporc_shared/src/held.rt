@@ -195,7 +195,7 @@ fn has_on_its_way<D: LeafDisk>(client: &Client<D>, entry: &[u8]) -> bool
     ensures { result ≡ is_flight (client_of (past_of client.now)) entry.now }
 {
     match client.flight() {
-        Some(flight) => is_same(flight.as_slice(), entry),
+        Some(flight) => is_same(flight, entry),
         None => false,
     }
 }
