@@ -29,7 +29,7 @@ pub use Rattle.std.proofs.lemmas.List.Elements.{All-cons, All-contains, All-nil,
 pub use Rattle.sporc_files.specs.declared.file.File.{File}
 pub use Rattle.sporc_session.specs.Traces.{IsAllowedLog, Stand, Trace}
 pub use Rattle.sporc_session.specs.Fetches.{FetchFails, IsFetch, loses, not_greeted, stops}
-pub use Rattle.sporc_session.specs.Wires.{InboxModel, LinkStand, LinkTold, empty_inbox, link_stand, link_told}
+pub use Rattle.sporc_exchange.specs.Wires.{InboxModel, LinkStand, LinkTold, empty_inbox, link_stand, link_told}
 pub use Rattle.lms_tree.specs.LmsPrivate.{LmsPrivate}
 pub use Rattle.sporc_outside.specs.Files.{HasFile, IsDiskOf}
 pub use Rattle.sporc_line.specs.LineModel.{LineModel}

@@ -8,7 +8,7 @@ use Rattle.sporc_files.specs.declared.fault.Fault.{Fault}
 use Rattle.sporc_files.specs.declared.fault.Fault.TheVariants as faults
 use Rattle.sporc_session.specs.declared.fault.SessionFault.{SessionFault}
 use Rattle.sporc_session.specs.Fetches.{IsFetch}
-use Rattle.sporc_session.specs.Wires.{InboxModel, empty_inbox, link_at}
+use Rattle.sporc_exchange.specs.Wires.{InboxModel, empty_inbox, link_at}
 use Rattle.sporc_clients.specs.Causes.{fault_of_session}
 use Rattle.sporc_clients.specs.Nets.{MakesNoLink, UsesLink}
 

@@ -11,7 +11,7 @@ use Rattle.sporc_outside.specs.Streams.{StreamTold}
 use Rattle.sporc_shared.specs.Items.{Past}
 use Rattle.sporc_session.specs.declared.fault.SessionFault.{SessionFault}
 use Rattle.sporc_clients.specs.declared.session.Wanted.{Wanted}
-use Rattle.sporc_session.specs.Wires.{link_told}
+use Rattle.sporc_exchange.specs.Wires.{link_told}
 use Rattle.sporc_clients.specs.Sessions.{IsSessionOf}
 
 -- The net handed out a link to an address, without faults and not shut. It was not shut before what

@@ -13,7 +13,7 @@ use Rattle.sporc_session.specs.declared.fault.SessionFault.{SessionFault}
 use Rattle.sporc_session.specs.Replies.{HasReadFor}
 use Rattle.sporc_session.specs.Sessions.{IsSession}
 use Rattle.sporc_session.specs.Traces.{Stand, stand}
-use Rattle.sporc_session.specs.Wires.{InboxModel, LinkTold, empty_inbox, link_stand, link_told}
+use Rattle.sporc_exchange.specs.Wires.{InboxModel, LinkTold, empty_inbox, link_stand, link_told}
 use Rattle.sporc_clients.specs.declared.session.Wanted.{Wanted}
 
 -- what a use of a link told, but for whether it was shut

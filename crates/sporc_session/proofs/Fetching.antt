@@ -7,7 +7,7 @@ use Rattle.std.proofs.lemmas.List.Concat.{flat_map-append, flat_map-cons}
 use Rattle.sporc_wire.specs.declared.to_server.ToServer.TheVariants as to_server
 use Rattle.sporc_session.specs.declared.fault.SessionFault.TheVariants as faults
 use Rattle.sporc_session.specs.Fetches.{FetchEnds, FetchFails, IsPullDue, Pulled, all_came, loses, pulls_from, stops}
-use Rattle.sporc_session.proofs.Exchanging.{exchanged_then, spelled_append}
+use Rattle.sporc_exchange.proofs.Exchanging.{exchanged_then, spelled_append}
 use Rattle.sporc_session.proofs.Fitting.{all_of_append}
 
 -- ---- acts in a row

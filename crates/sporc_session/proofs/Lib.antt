@@ -1,9 +1,6 @@
 pub mod Knowing
 pub mod Fitting
 pub mod EntryLengths
-pub mod Exchanging
-pub mod Inboxes
-pub mod Linking
 pub mod Tracing
 pub mod Fetching
 pub mod Stepping

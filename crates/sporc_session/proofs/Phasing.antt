@@ -1,7 +1,7 @@
 -- The two phases.
 use Rattle.std.proofs.Common.{◌≡◌, ◌≤◌, ℕ, Bool, true, false, List, [], ◌∷◌, length, Option, Ok, Err, refl, sym, ◌∙◌, subst, arith}
 use Rattle.sporc_session.proofs.Common.{Result, ⊤, result_err, append-nil, MAX_ENTRIES, Known, Pass, known_of, ToServer, Item, Past, client_of, items_of, IsLookAt, membership_of, SessionFault, Looked, LookAct}
-use Rattle.sporc_session.proofs.Common.{SendEnds, Unsent, unsent, Trace, Stand, stand, Did, DidOrStopped, Asking, Greeting, Between, Pulling, always, is_unsettled, greets, FirstPhase, SecondPhase}
+use Rattle.sporc_session.proofs.Common.{IfErr, OnOk, Unsent, Trace, Stand, stand, Did, DidOrStopped, Asking, Greeting, Between, Pulling, always, is_unsettled, greets, FirstPhase, SecondPhase}
 use Rattle.sporc_session.proofs.Common.{Rounds, settles, doesnt_settle, stops, Exchanged, LinkStand, spelled}
 use Rattle.sporc_outside.proofs.Growing.{words_none}
 use Rattle.sporc_wire.specs.declared.to_server.ToServer.TheVariants as to_server
@@ -10,7 +10,7 @@ use Rattle.sporc_shared.specs.declared.membership.Membership.{Membership}
 use Rattle.sporc_session.specs.declared.fault.SessionFault.TheVariants as faults
 use Rattle.sporc_session.proofs.Tracing.{did_then, did_stopped, stopped_within}
 use Rattle.sporc_session.proofs.Knowing.{knows_none, seen_after}
-use Rattle.sporc_session.proofs.Stepping.{act_did, ask_stopped, look_did, look_trace}
+use Rattle.sporc_session.proofs.Stepping.{act_did, ask_stopped, look_did, look_trace, not_sent}
 use Rattle.sporc_session.proofs.Telling.{Replied, Tells, worn_stopped}
 
 -- ---- Hello
@@ -31,9 +31,9 @@ module _ {ready : ℕ → ℕ → Bool} {words : Option (List (List ℕ))} {g : 
   }) greets
 
   pub hello_sent : {document : List ℕ} {member : ℕ} {message : ToServer} {sent : Result ⊤ SessionFault} → message ≡ to_server.Hello document member
-      → SendEnds a b message sent → DidOrStopped ready (stand k a words g) (stand k b words g) (Greeting document member) (Between 0) sent
-  hello_sent {sent = Ok x} is s = record { ends = greeted (subst (λ (m : ToServer). Exchanged a b (spelled (m ∷ [])) []) is s.ok) }
-  hello_sent {sent = Err fault} is s = record { ends = ask_stopped refl (unsent (subst (λ (m : ToServer). Unsent a b m fault) is s.err)) }
+      → OnOk sent (Exchanged a b (spelled (message ∷ [])) []) → IfErr sent (Unsent a b message) → DidOrStopped ready (stand k a words g) (stand k b words g) (Greeting document member) (Between 0) sent
+  hello_sent {sent = Ok x} is ok err = record { ends = greeted (subst (λ (m : ToServer). Exchanged a b (spelled (m ∷ [])) []) is ok) }
+  hello_sent {sent = Err fault} is ok err = record { ends = ask_stopped refl (not_sent (subst (λ (m : ToServer). Unsent a b m fault) is err)) }
 
 -- Hello, and then the rounds
 pub first_then : {a b c : Stand} {rounds : ℕ} {all : Result ⊤ SessionFault}

@@ -2,7 +2,7 @@
 use Rattle.std.proofs.Common.{◌≡◌, ◌≢◌, ◌⊎◌, ℕ, ◌+◌, ◌≤◌, Bool, true, false, List, [], ◌∷◌, ◌++◌, length, map, take, Option, refl, sym, ap, ◌∙◌, subst, arith, inl, inr}
 use Rattle.sporc_session.proofs.Common.{Result, Ok, append-nil, take_all, AppendsItems, Refusal, Known, ToClient, ToServer, SubmitFault, Submitted, Logged, is_flight, submission_added, IsCall, Item}
 use Rattle.sporc_session.proofs.Common.{Happened, Past, client_of, items_of, SessionFault, Act, Ask, Look, Pull, Take, Submit, Check, AreInOrder, Fits, FitAll, Looked, all_of, answers_by, handed_out}
-use Rattle.sporc_session.proofs.Common.{items_by, messages_by, moment_after, words_by, AskFails, Gathered, GatherStopped, SilentFor, UnsentFor, asking, silent, taking, unsent, wrong, Stand, stand}
+use Rattle.sporc_session.proofs.Common.{items_by, messages_by, moment_after, words_by, AskFails, Gathered, GatherStopped, SilentFor, Unsent, UnsentFor, asking, silent, taking, unsent, wrong, Stand, stand}
 use Rattle.sporc_session.proofs.Common.{Trace, KnowsMore, Cause, IsAnswer, IsTaking, IsSubmitting, AcceptGives, TakeCause, takes_of, SubmitCause, Submission, Did, Stopped, IsPoint, Mode, Asking}
 use Rattle.sporc_session.proofs.Common.{Greeting, Between, Pulling, Taking, Sending, Checking, Stuck, Then, Submits, Drains, Leads, Goes, IsQuiet, asks, looks, takes, drained, is_gone, is_there}
 use Rattle.sporc_session.proofs.Common.{submits_none, submits_entry, message_due, rounds_begun, Exchanged, LinkStand, spelled}
@@ -12,8 +12,12 @@ use Rattle.sporc_wire.specs.declared.to_server.ToServer.TheVariants as to_server
 use Rattle.sporc_client.specs.declared.fault.AcceptFault.TheVariants as accepts
 use Rattle.sporc_client.specs.declared.submitted.Submitted.TheVariants as submitted
 use Rattle.sporc_session.specs.Endings.{IsBeside}
+use Rattle.sporc_session.specs.Asking.{session_fault}
 use Rattle.sporc_session.specs.declared.fault.SessionFault.TheVariants as faults
-use Rattle.sporc_session.proofs.Exchanging.{exchanged_none}
+use Rattle.sporc_exchange.specs.declared.fault.ExchangeFault.{ExchangeFault}
+use Rattle.sporc_exchange.specs.declared.fault.ExchangeFault.TheVariants as exchanges
+use Rattle.sporc_exchange.specs.Asking as exchange
+use Rattle.sporc_exchange.proofs.Exchanging.{exchanged_none}
 use Rattle.sporc_session.proofs.Knowing.{call_client, call_knows, call_later, call_point, knows_none, seen_after}
 
 at_most : (n : ℕ) → n ≤ n
@@ -133,11 +137,15 @@ leads_takes ready n at [] rest next = ap (λ x. Taking n x rest next) (omega ari
 leads_takes ready n at (e ∷ es) rest next =
     (Taking n (at + 1) (es ++ rest) next, takes, subst (λ x. Leads ready (Taking n (at + 1) (es ++ rest) next) (takes_of (at + 1) es) (Taking n x rest next)) (omega arith) (leads_takes ready n (at + 1) es rest next))
 
+-- a message that was not sent was not answered
+pub not_sent : {a b : LinkStand} {message : ToServer} {fault : SessionFault} → Unsent a b message fault → AskFails a b message fault
+not_sent u = (u.0, u.1, unsent u.2)
+
 module _ {words : Option (List (List ℕ))} {g : ℕ} {a b : LinkStand} where
   -- no answer came to the message that was due
   pub ask_stopped : {ready : ℕ → ℕ → Bool} {k : Known Item} {m : Mode} {message : ToServer} {fault : SessionFault} → message_due m ≡ message ∷ [] → AskFails a b message fault
       → Stopped ready (stand k a words g) (stand k b words g) m (rounds_begun m) fault
-  ask_stopped {ready} {k} {m} {message} {fault} due fails = by fails
+  ask_stopped {ready} {k} {m} {message} {fault} due fails = subst (Stopped ready A B m (rounds_begun m)) (sym fails.1) (by fails.0 fails.2)
     where
       A : Stand
       A = stand k a words g
@@ -151,28 +159,28 @@ module _ {words : Option (List (List ℕ))} {g : ℕ} {a b : LinkStand} where
       whole : spelled (message ∷ []) ≡ take (length (spelled (message ∷ []))) (spelled (message_due m))
       whole = sym (take_all (length (spelled (message ∷ []))) (spelled (message ∷ [])) (omega arith)) ∙ ap (λ (ms : List ToServer). take (length (spelled (message ∷ []))) (spelled ms)) (sym due)
 
-      stopped : {written : List ℕ} {answers : List ToClient} → Exchanged a b written answers → (n : ℕ) × (written ≡ take n (spelled (message_due m))) → Came m answers → Cause A B m written answers [] fault
-          → Stopped ready A B m (rounds_begun m) fault
-      stopped did part came cause = stops_here (knows_none k) did (words_none words) (omega arith) (record { sent_due = part; came = came; few = omega arith; drawn = λ _. refl }) cause
+      stopped : {written : List ℕ} {answers : List ToClient} (f : SessionFault) → Exchanged a b written answers → (n : ℕ) × (written ≡ take n (spelled (message_due m))) → Came m answers
+          → Cause A B m written answers [] f → Stopped ready A B m (rounds_begun m) f
+      stopped f did part came cause = stops_here (knows_none k) did (words_none words) (omega arith) (record { sent_due = part; came = came; few = omega arith; drawn = λ _. refl }) cause
 
-      unsent_cause : (written : List ℕ) (f : SessionFault) → UnsentFor a b f → Cause A B m written [] [] f
-      unsent_cause written faults.LinkFault c = (c, due_some)
-      unsent_cause written faults.Memory c = tt
+      unsent_cause : (written : List ℕ) (e : ExchangeFault) → UnsentFor a b e → Cause A B m written [] [] (session_fault e)
+      unsent_cause written exchanges.LinkFault c = (c, due_some)
+      unsent_cause written exchanges.Memory c = tt
       unsent_cause written _ c = absurd c
 
-      silent_cause : (f : SessionFault) → SilentFor a b f → Cause A B m (spelled (message ∷ [])) [] [] f
-      silent_cause faults.LinkFault c = (c, due_some)
-      silent_cause faults.Memory c = tt
-      silent_cause (faults.LinkEnded taken) c = (c.0, due_some, ap spelled (sym due), refl, c.1, c.2)
-      silent_cause (faults.BadMessage place) c = inr (record { due = due_some; sent = ap spelled (sym due); came = refl; frame = c })
-      silent_cause _ c = absurd c
+      silent_cause : (e : ExchangeFault) → SilentFor a b e → Cause A B m (spelled (message ∷ [])) [] [] (session_fault e)
+      silent_cause exchanges.LinkFault c = (c, due_some)
+      silent_cause exchanges.Memory c = tt
+      silent_cause (exchanges.LinkEnded taken) c = (c.0, due_some, ap spelled (sym due), refl, c.1, c.2)
+      silent_cause (exchanges.BadMessage place) c = inr (record { due = due_some; sent = ap spelled (sym due); came = refl; frame = c })
 
-      by : AskFails a b message fault → Stopped ready A B m (rounds_begun m) fault
-      by (unsent h) = stopped h.did (h.n, ap (λ (ms : List ToServer). take h.n (spelled ms)) (sym due)) (inl refl) (unsent_cause (take h.n (spelled (message ∷ []))) fault h.cause)
-      by (silent h) = stopped h.did (length (spelled (message ∷ [])), whole) (inl refl) (silent_cause fault h.cause)
-      by (wrong h) =
-          stopped h.did (length (spelled (message ∷ [])), whole) (inr (message, h.answer, due, refl, h.wrong))
-          (subst (Cause A B m (spelled (message ∷ [])) (h.answer ∷ []) []) (sym h.is)
+      by : (e : ExchangeFault) → exchange.AskFails a b message e → Stopped ready A B m (rounds_begun m) (session_fault e)
+      by e (unsent h) =
+          stopped (session_fault e) h.did (h.n, ap (λ (ms : List ToServer). take h.n (spelled ms)) (sym due)) (inl refl) (unsent_cause (take h.n (spelled (message ∷ []))) e h.cause)
+      by e (silent h) = stopped (session_fault e) h.did (length (spelled (message ∷ [])), whole) (inl refl) (silent_cause e h.cause)
+      by e (wrong h) =
+          stopped (session_fault e) h.did (length (spelled (message ∷ [])), whole) (inr (message, h.answer, due, refl, h.wrong))
+          (subst (λ (cause : ExchangeFault). Cause A B m (spelled (message ∷ [])) (h.answer ∷ []) [] (session_fault cause)) (sym h.is)
           (inl (record { message = message; answer = h.answer; due = due; sent = refl; came = refl; wrong = h.wrong; starts = h.starts })))
 
   -- entries were pulled and accepted

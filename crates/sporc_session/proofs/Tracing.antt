@@ -4,7 +4,7 @@ use Rattle.sporc_session.proofs.Common.{Result, Ok, Err, ⊤, append-nil, Append
 use Rattle.sporc_session.proofs.Common.{FitAll, Stand, KnowsMore, Trace, Cause, Did, Stopped, DidOrStopped, Mode, rounds_begun, Exchanged, spelled}
 use Rattle.sporc_outside.proofs.Growing.{rose_then, words_none, words_then}
 use Rattle.sporc_session.specs.declared.fault.SessionFault.TheVariants as faults
-use Rattle.sporc_session.proofs.Exchanging.{exchanged_none, exchanged_then, spelled_append}
+use Rattle.sporc_exchange.proofs.Exchanging.{exchanged_none, exchanged_then, spelled_append}
 use Rattle.sporc_session.proofs.Fitting.{all_of_append, fit_all_later, fit_all_append, in_order_append, leads_append}
 use Rattle.sporc_session.proofs.Knowing.{knows_none, knows_then}
 

@@ -1,7 +1,10 @@
 -- What the pass of a session has read that ended by a fault: that no ticket is left, or that the disk of the leaves counted a fault.
 use Rattle.std.proofs.Common.{◌≡◌, ◌≢◌, ◌≤◌, ℕ, max, Bool, true, false, List, Option, Ok, Err, refl, sym, subst, arith}
 use Rattle.sporc_session.proofs.Common.{Result, IfErr, ⊤, result_and, Refusal, ToServer, Pass, read_of, watermark_of, AcceptFault, EditFault, SubmitFault, Submitted, Item}
-use Rattle.sporc_session.proofs.Common.{SessionFault, AskFails, Unsent, silent, unsent, wrong, checked_of, edited_of, made_of, taken_of, HasReadFor, LinkStand}
+use Rattle.sporc_session.proofs.Common.{SessionFault, AskFails, Unsent, checked_of, edited_of, made_of, taken_of, HasReadFor, LinkStand}
+use Rattle.sporc_exchange.specs.declared.fault.ExchangeFault.{ExchangeFault}
+use Rattle.sporc_exchange.specs.declared.fault.ExchangeFault.TheVariants as exchanges
+use Rattle.sporc_session.specs.Asking.{IsOfExchange, session_fault}
 use Rattle.sporc_client.specs.declared.fault.AcceptFault.TheVariants as accepts
 use Rattle.sporc_client.specs.declared.fault.EditFault.TheVariants as edits
 use Rattle.sporc_client.specs.declared.fault.SubmitFault.TheVariants as submits
@@ -48,23 +51,21 @@ worn_at {A} p result fault is h = subst (λ (r : Result A SessionFault). IfErr r
 
 -- ---- faults of a link are others
 
-unsent_unworn : (p : Pass Item) (a b : LinkStand) (message : ToServer) (fault : SessionFault) → Unsent a b message fault → HasReadFor p fault
-unsent_unworn p a b message (faults.Worn ticket) u = absurd u.cause
-unsent_unworn p a b message (faults.Leaf leaves.DiskFault) u = absurd u.cause
-unsent_unworn p a b message _ u = tt
+link_unworn : (p : Pass Item) (cause : ExchangeFault) → HasReadFor p (session_fault cause)
+link_unworn p exchanges.LinkFault = tt
+link_unworn p (exchanges.BadMessage place) = tt
+link_unworn p (exchanges.LinkEnded taken) = tt
+link_unworn p exchanges.Memory = tt
+
+exchange_unworn : {Fails : ExchangeFault → Type 0} (p : Pass Item) (fault : SessionFault) → IsOfExchange Fails fault → HasReadFor p fault
+exchange_unworn p fault of = subst (HasReadFor p) (sym of.1) (link_unworn p of.0)
 
 pub unsent_worn : {A : Type 0} (p : Pass Item) (a b : LinkStand) (message : ToServer) (result : Result A SessionFault) → IfErr result (Unsent a b message) → IfErr result (HasReadFor p)
 unsent_worn p a b message (Ok x) u = tt
-unsent_worn p a b message (Err fault) u = unsent_unworn p a b message fault u
+unsent_worn p a b message (Err fault) u = exchange_unworn p fault u
 
 pub asked_unworn : (p : Pass Item) (a b : LinkStand) (message : ToServer) (fault : SessionFault) → AskFails a b message fault → HasReadFor p fault
-asked_unworn p a b message (faults.Worn ticket) (unsent u) = absurd u.cause
-asked_unworn p a b message (faults.Worn ticket) (silent s) = absurd s.cause
-asked_unworn p a b message (faults.Worn ticket) (wrong w) = let no = w.is in absurd cc
-asked_unworn p a b message (faults.Leaf leaves.DiskFault) (unsent u) = absurd u.cause
-asked_unworn p a b message (faults.Leaf leaves.DiskFault) (silent s) = absurd s.cause
-asked_unworn p a b message (faults.Leaf leaves.DiskFault) (wrong w) = let no = w.is in absurd cc
-asked_unworn p a b message _ f = tt
+asked_unworn p a b message fault f = exchange_unworn p fault f
 
 pub asked_worn : {A : Type 0} (p : Pass Item) (a b : LinkStand) (message : ToServer) (result : Result A SessionFault) (fault : SessionFault) → result ≡ Err fault
     → IfErr result (AskFails a b message) → HasReadFor p fault

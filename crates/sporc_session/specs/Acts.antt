@@ -4,11 +4,10 @@ use Rattle.std.specs.Prelude.{◌≡◌, ◌≤◌, ℕ, ◌+◌, Bool, List, []
 use Rattle.std.specs.Prelude.{Result, ⊤}
 use Rattle.sporc_base.specs.Lists.{StartsWith}
 use Rattle.lms_leaf.specs.declared.faults.LeafFault.{LeafFault}
-use Rattle.sporc_head.specs.declared.refusal.Refusal.{Refusal}
 use Rattle.sporc_wire.specs.declared.to_client.ToClient.{ToClient}
-use Rattle.sporc_wire.specs.declared.to_client.ToClient.TheVariants as to_client
 use Rattle.sporc_wire.specs.declared.to_server.ToServer.{ToServer}
 use Rattle.sporc_wire.specs.declared.to_server.ToServer.TheVariants as to_server
+use Rattle.sporc_exchange.specs.Replies.{ServerReply, handed_out, reply_message}
 use Rattle.sporc_client.specs.declared.fault.SubmitFault.{SubmitFault}
 use Rattle.sporc_client.specs.declared.submitted.Submitted.{Submitted}
 use Rattle.sporc_client.specs.Drawing.{MayDraw}
@@ -18,11 +17,6 @@ use Rattle.sporc_client.specs.Step.{is_flight}
 use Rattle.sporc_client.specs.Submissions.{submission, submission_added}
 use Rattle.sporc_shared.specs.Items.{Item, Opened, Happened}
 use Rattle.sporc_session.specs.Points.{IsClientAt, IsPoint}
-
--- the server's answer to an entry that was sent
-pub data ServerReply : Type 0 where
-  Ordered : (position : ℕ) → ServerReply
-  Rejected : Refusal → ServerReply
 
 pub data Act : Type 0 where
   -- the client was asked for its document and its member
@@ -63,15 +57,6 @@ messages_by (Take position entry) = []
 messages_by (Submit point first second answer) = []
 messages_by (Send entry reply) = to_server.Submit entry ∷ []
 messages_by (Check point entry stays) = []
-
--- the answer that hands out entries after some
-abbrev pub handed_out : ℕ → List (List ℕ) → ToClient
-handed_out from [] = to_client.Empty
-handed_out from (entry ∷ entries) = to_client.Entries (from + 1) (entry ∷ entries)
-
-abbrev pub reply_message : ServerReply → ToClient
-reply_message (Ordered position) = to_client.Ordered position
-reply_message (Rejected refusal) = to_client.Rejected refusal
 
 -- the answers that it receives
 abbrev pub answers_by : Act → List ToClient

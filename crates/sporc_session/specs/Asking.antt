@@ -1,124 +1,38 @@
--- What an exchange of messages does to a link.
-use Rattle.std.specs.Prelude.{◌≡◌, ◌<◌, ◌≤◌, ℕ, List, [], ◌∷◌, length, take, Option, None, Some}
-use Rattle.std.specs.Prelude.{Result, Ok, Err, IfErr, IfOk, OnOk, ⊤}
-use Rattle.std.specs.Io.KnownBytes.{Consumes, IsAtEnd}
-use Rattle.sporc_head.specs.declared.refusal.Refusal.{Refusal}
-use Rattle.sporc_outside.specs.Counts.{Rose}
+-- Exchanges of a session, and what is accepted of the entries that come.
+use Rattle.std.specs.Prelude.{◌≡◌, ℕ, List, [], ◌∷◌}
 use Rattle.sporc_turn.specs.declared.known.Known.{Known}
-use Rattle.sporc_wire.specs.declared.to_client.ToClient.{ToClient}
-use Rattle.sporc_wire.specs.declared.to_client.ToClient.TheVariants as to_client
 use Rattle.sporc_wire.specs.declared.to_server.ToServer.{ToServer}
 use Rattle.sporc_wire.specs.declared.to_server.ToServer.TheVariants as to_server
+use Rattle.sporc_exchange.specs.declared.fault.ExchangeFault.{ExchangeFault}
+use Rattle.sporc_exchange.specs.declared.fault.ExchangeFault.TheVariants as exchanges
+use Rattle.sporc_exchange.specs.Asking as exchange
+use Rattle.sporc_exchange.specs.Replies.{handed_out}
+use Rattle.sporc_exchange.specs.Wires.{Exchanged, LinkStand, spelled}
 use Rattle.sporc_shared.specs.Items.{Item}
 use Rattle.sporc_session.specs.declared.fault.SessionFault.{SessionFault}
 use Rattle.sporc_session.specs.declared.fault.SessionFault.TheVariants as faults
-use Rattle.sporc_session.specs.Acts.{ServerReply, Ordered, Rejected, handed_out, reply_message}
 use Rattle.sporc_session.specs.Acts.{all_of, items_by}
 use Rattle.sporc_session.specs.Traces.{KnowsMore}
-use Rattle.sporc_session.specs.Endings.{IsAnswer, TakingStopped, takes_of}
-use Rattle.sporc_session.specs.Wires.{IsBadFrame, IsCut, IsLastFrom, LinkStand, Exchanged}
-use Rattle.sporc_session.specs.Wires.{more_taken, spelled}
+use Rattle.sporc_session.specs.Endings.{TakingStopped, takes_of}
 
--- a piece was taken off the link, and nothing was written to it
-pub record Took (a b : LinkStand) (piece : List ℕ) : Type 0 where
-  pub written : b.written ≡ a.written
-  pub consumed : Consumes a.left b.left piece
-  pub inbox : b.inbox ≡ more_taken piece a.inbox
-  pub count : a.faults ≤ b.faults
+-- the fault of a session in which an exchange fails
+abbrev pub session_fault : ExchangeFault → SessionFault
+session_fault exchanges.LinkFault = faults.LinkFault
+session_fault (exchanges.BadMessage place) = faults.BadMessage place
+session_fault (exchanges.LinkEnded taken) = faults.LinkEnded taken
+session_fault exchanges.Memory = faults.Memory
 
--- why no whole message came, whatever was sent before
-abbrev pub SilentFor : LinkStand → LinkStand → SessionFault → Type 0
-SilentFor a b faults.LinkFault = Rose a.faults b.faults
-SilentFor a b (faults.LinkEnded taken) = IsAtEnd b.left × IsCut b.inbox × (taken ≡ b.inbox.taken)
-SilentFor a b (faults.BadMessage place) = IsBadFrame b.inbox place
-SilentFor a b faults.Memory = ⊤
-SilentFor a b _ = ⊥
-
--- why a message was not sent whole
-abbrev pub UnsentFor : LinkStand → LinkStand → SessionFault → Type 0
-UnsentFor a b faults.LinkFault = Rose a.faults b.faults
-UnsentFor a b faults.Memory = ⊤
-UnsentFor a b _ = ⊥
+-- a session's fault is that of an exchange of which this holds
+abbrev pub IsOfExchange : (ExchangeFault → Type 0) → SessionFault → Type 0
+IsOfExchange Fails fault = (cause : ExchangeFault) × (fault ≡ session_fault cause) × Fails cause
 
 -- a message was not sent: a prefix of its bytes was written
-pub record Unsent (a b : LinkStand) (message : ToServer) (fault : SessionFault) : Type 0 where
-  pub n : ℕ
-  pub did : Exchanged a b (take n (spelled (message ∷ []))) []
-  pub cause : UnsentFor a b fault
-
--- no whole message came
-pub record IsSilent (a b : LinkStand) (fault : SessionFault) : Type 0 where
-  pub did : Exchanged a b [] []
-  pub cause : SilentFor a b fault
-
--- a message was sent, and no whole message came
-pub record NoAnswer (a b : LinkStand) (message : ToServer) (fault : SessionFault) : Type 0 where
-  pub did : Exchanged a b (spelled (message ∷ [])) []
-  pub cause : SilentFor a b fault
-
--- the message that came is no answer to the one sent
-pub record WrongAnswer (a b : LinkStand) (message : ToServer) (fault : SessionFault) : Type 0 where
-  pub answer : ToClient
-  pub place : ℕ
-  pub did : Exchanged a b (spelled (message ∷ [])) (answer ∷ [])
-  pub wrong : ¬ IsAnswer message answer
-  pub starts : IsLastFrom place answer b.inbox
-  pub is : fault ≡ faults.BadMessage place
+abbrev pub Unsent : LinkStand → LinkStand → ToServer → SessionFault → Type 0
+Unsent a b message = IsOfExchange (exchange.Unsent a b message)
 
 -- an exchange failed
-pub data AskFails (a b : LinkStand) (message : ToServer) (fault : SessionFault) : Type 0 where
-  unsent : Unsent a b message fault → AskFails a b message fault
-  silent : NoAnswer a b message fault → AskFails a b message fault
-  wrong : WrongAnswer a b message fault → AskFails a b message fault
-
--- a message was sent, and this one came, whose frame began at the place where the inbox stood
-pub record Asks (a b : LinkStand) (message : ToServer) (answer : ToClient) : Type 0 where
-  pub did : Exchanged a b (spelled (message ∷ [])) (answer ∷ [])
-  pub starts : IsLastFrom a.inbox.at answer b.inbox
-
--- a piece was taken off the link, or why not
-pub record ReadEnds (a b : LinkStand) (result : Result ⊤ SessionFault) : Type 0 where
-  pub ok : OnOk result ((piece : List ℕ) × (0 < length piece) × Took a b piece)
-  pub err : IfErr result (IsSilent a b)
-
--- a message was sent, or why not
-pub record SendEnds (a b : LinkStand) (message : ToServer)
-    (result : Result ⊤ SessionFault) : Type 0 where
-  pub ok : OnOk result (Exchanged a b (spelled (message ∷ [])) [])
-  pub err : IfErr result (Unsent a b message)
-
--- the next message came, whose frame began at the place where the inbox stood, or why not
-pub record ReceiveEnds (a b : LinkStand) (result : Result ToClient SessionFault) : Type 0 where
-  pub ok : IfOk result (λ answer. Exchanged a b [] (answer ∷ [])
-      × IsLastFrom a.inbox.at answer b.inbox)
-  pub err : IfErr result (IsSilent a b)
-
--- a message was sent, and the next one came, or why not
-pub record AskEnds (a b : LinkStand) (message : ToServer)
-    (result : Result ToClient SessionFault) : Type 0 where
-  pub ok : IfOk result (Asks a b message)
-  pub err : IfErr result (AskFails a b message)
-
--- the entries after so many others were pulled, or why not
-pub record PullEnds (a b : LinkStand) (from : ℕ)
-    (result : Result (List (List ℕ)) SessionFault) : Type 0 where
-  pub ok : IfOk result
-      (λ es. Exchanged a b (spelled (to_server.Pull from ∷ [])) (handed_out from es ∷ []))
-  pub err : IfErr result (AskFails a b (to_server.Pull from))
-
--- an entry was ordered, or refused
-abbrev pub IsReply : Option Refusal → ServerReply → Type 0
-IsReply None (Ordered position) = ⊤
-IsReply None (Rejected refusal) = ⊥
-IsReply (Some refusal) (Ordered position) = ⊥
-IsReply (Some refusal) (Rejected r) = r ≡ refusal
-
--- an entry was sent, and it was answered that it was ordered or why it was refused, or why not
-pub record SubmitEnds (a b : LinkStand) (entry : List ℕ)
-    (result : Result (Option Refusal) SessionFault) : Type 0 where
-  pub ok : IfOk result (λ refusal. (reply : ServerReply) × IsReply refusal reply
-      × Exchanged a b (spelled (to_server.Submit entry ∷ [])) (reply_message reply ∷ []))
-  pub err : IfErr result (AskFails a b (to_server.Submit entry))
+abbrev pub AskFails : LinkStand → LinkStand → ToServer → SessionFault → Type 0
+AskFails a b message = IsOfExchange (exchange.AskFails a b message)
 
 -- Entries were pulled after so many others, and accepted
 pub record Gathered (k k' : Known Item) (a b : LinkStand) (at : ℕ)
@@ -133,14 +47,3 @@ pub data GatherStopped (k k' : Known Item) (a b : LinkStand) (at : ℕ)
   taking : {came : List (List ℕ)}
       → Exchanged a b (spelled (to_server.Pull at ∷ [])) (handed_out at came ∷ [])
       → TakingStopped k k' at came fault → GatherStopped k k' a b at fault
-
--- what an answer to an entry says; anything else is no answer to it, and its frame began at this
--- place
-abbrev pub IsOutcomeOf : ℕ → Result ToClient SessionFault
-    → Result (Option Refusal) SessionFault → Type 0
-IsOutcomeOf place (Err fault) result = result ≡ Err fault
-IsOutcomeOf place (Ok (to_client.Ordered position)) result = result ≡ Ok None
-IsOutcomeOf place (Ok (to_client.Rejected refusal)) result = result ≡ Ok (Some refusal)
-IsOutcomeOf place (Ok (to_client.Entries first entries)) result =
-    result ≡ Err (faults.BadMessage place)
-IsOutcomeOf place (Ok to_client.Empty) result = result ≡ Err (faults.BadMessage place)

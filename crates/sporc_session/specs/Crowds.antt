@@ -20,7 +20,7 @@ use Rattle.sporc_session.specs.Editing.{LinesDid}
 use Rattle.sporc_session.specs.Lines.{AreLinesDone, LineEnd}
 use Rattle.sporc_session.specs.Replies.{HasReadFor}
 use Rattle.sporc_session.specs.Sessions.{FirstPhase}
-use Rattle.sporc_session.specs.Wires.{InboxModel}
+use Rattle.sporc_exchange.specs.Wires.{InboxModel}
 
 -- these are the items of the first lines
 pub record EditorPart (log : List Item) (start number : ℕ) (lines : List EditorLine)

@@ -9,7 +9,6 @@ use Rattle.sporc_turn.specs.declared.known.Known.{Known}
 use Rattle.sporc_turn.specs.declared.limits.TheConstants.{MAX_TICKETS}
 use Rattle.sporc_wire.specs.declared.to_client.ToClient.{ToClient}
 use Rattle.sporc_wire.specs.declared.to_server.ToServer.{ToServer}
-use Rattle.sporc_wire.specs.declared.to_server.ToServer.TheVariants as to_server
 use Rattle.sporc_client.specs.declared.fault.AcceptFault.{AcceptFault}
 use Rattle.sporc_client.specs.declared.fault.AcceptFault.TheVariants as accepts
 use Rattle.sporc_client.specs.declared.fault.SubmitFault.{SubmitFault}
@@ -22,19 +21,13 @@ use Rattle.sporc_client.specs.Submissions.{submission, submission_added}
 use Rattle.sporc_shared.specs.Items.{Item, Happened}
 use Rattle.sporc_session.specs.declared.fault.SessionFault.{SessionFault}
 use Rattle.sporc_session.specs.declared.fault.SessionFault.TheVariants as faults
-use Rattle.sporc_session.specs.Acts.{Act, Take, Submit, ServerReply, handed_out, reply_message}
+use Rattle.sporc_session.specs.Acts.{Act, Take, Submit}
 use Rattle.sporc_session.specs.Acts.{all_of, items_by, Fits}
 use Rattle.sporc_session.specs.Traces.{Stand, Trace, KnowsMore}
 use Rattle.sporc_session.specs.Points.{IsClientAt, IsPoint}
 use Rattle.sporc_session.specs.Protocol.{Mode, Taking, Stuck, Then, Submits, Leads, message_due}
 use Rattle.sporc_session.specs.Protocol.{rounds_begun}
-use Rattle.sporc_session.specs.Wires.{IsBadFrame, IsCut, IsLastFrom, spelled}
-
--- a message from the server is an answer to this one
-abbrev pub IsAnswer : ToServer → ToClient → Type 0
-IsAnswer (to_server.Hello document member) answer = ⊥
-IsAnswer (to_server.Pull from) answer = (came : List (List ℕ)) × (answer ≡ handed_out from came)
-IsAnswer (to_server.Submit entry) answer = (reply : ServerReply) × (answer ≡ reply_message reply)
+use Rattle.sporc_exchange.specs.Wires.{IsBadFrame, IsCut, IsLastFrom, spelled}
 
 -- the next act is that this entry is accepted as the one at this position
 abbrev pub IsTaking : Mode → ℕ → List ℕ → Type 0

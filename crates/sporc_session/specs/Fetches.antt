@@ -8,7 +8,7 @@ use Rattle.sporc_session.specs.declared.fault.SessionFault.{SessionFault}
 use Rattle.sporc_session.specs.declared.fault.SessionFault.TheVariants as faults
 use Rattle.sporc_session.specs.Acts.{Act, Greet, Pull, all_of, answers_by, messages_by}
 use Rattle.sporc_session.specs.Asking.{AskFails, Unsent}
-use Rattle.sporc_session.specs.Wires.{Exchanged, LinkStand, spelled}
+use Rattle.sporc_exchange.specs.Wires.{Exchanged, LinkStand, spelled}
 
 -- Pulls in a row, by the entries that came at each. A Pull is from the number of entries that came
 -- before it

@@ -2,7 +2,6 @@ pub mod Points
 pub mod Acts
 pub mod Protocol
 pub mod Flows
-pub mod Wires
 pub mod Traces
 pub mod Endings
 pub mod Lines

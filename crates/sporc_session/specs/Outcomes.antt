@@ -17,7 +17,7 @@ use Rattle.sporc_session.specs.Traces.{Stand, KnowsMore, stand}
 use Rattle.sporc_session.specs.Endings.{TakeCause, TakingStopped, takes_of, SubmitCause, Submission}
 use Rattle.sporc_session.specs.Endings.{Did, Stopped}
 use Rattle.sporc_session.specs.Protocol.{Mode, IsQuiet, always, rounds_begun}
-use Rattle.sporc_session.specs.Wires.{LinkStand}
+use Rattle.sporc_exchange.specs.Wires.{LinkStand}
 
 -- an entry was accepted after so many others, or why not
 abbrev pub TookOne : Known Item → Known Item → ℕ → List ℕ → Result ⊤ SessionFault → Type 0

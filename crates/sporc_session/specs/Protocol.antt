@@ -9,7 +9,7 @@ use Rattle.sporc_client.specs.declared.fault.SubmitFault.TheVariants as submits
 use Rattle.sporc_client.specs.declared.submitted.Submitted.{Submitted}
 use Rattle.sporc_client.specs.declared.submitted.Submitted.TheVariants as submitted
 use Rattle.sporc_session.specs.Acts.{Act, Ask, Greet, Look, Pull, Take, Submit, Send, Check}
-use Rattle.sporc_session.specs.Acts.{Ordered, Rejected}
+use Rattle.sporc_exchange.specs.Replies.{Ordered, Rejected}
 
 -- what follows once all entries that came are accepted: a submission, or, if this entry was
 -- rejected, a further pull

@@ -3,8 +3,6 @@ use Rattle.std.specs.Prelude.{◌≢◌, ℕ, List, Bool, true, false, Option, N
 use Rattle.std.specs.Prelude.{⊤}
 use Rattle.lms_leaf.specs.declared.faults.LeafFault.TheVariants as leaves
 use Rattle.sporc_head.specs.declared.refusal.Refusal.{Refusal}
-use Rattle.sporc_wire.specs.declared.fault.FrameFault.{FrameFault}
-use Rattle.sporc_wire.specs.declared.fault.FrameFault.TheVariants as frames
 use Rattle.sporc_turn.specs.declared.pass.Pass.{Pass}
 use Rattle.sporc_turn.specs.declared.turn.Worn.{Worn}
 use Rattle.sporc_turn.specs.Passes.{IsWorn, watermark_of}
@@ -61,12 +59,6 @@ edited_of editor line (Ok n) = Ok tt
 edited_of editor line (Err edits.JournalFull) = Err faults.JournalFull
 edited_of editor line (Err edits.Memory) = Err faults.Memory
 edited_of editor line (Err fault) = Err (faults.EditRefused editor line fault)
-
--- the fault of a session in which the next frame, which begins at this place, is no message
-abbrev pub unread_fault : ℕ → FrameFault → SessionFault
-unread_fault place (frames.BadMessage at) = faults.BadMessage at
-unread_fault place (frames.TooLong len) = faults.BadMessage place
-unread_fault place frames.Memory = faults.Memory
 
 -- what the pass of a session that ended by this fault has read: that no ticket is left, or that the
 -- disk of the leaves counted a fault

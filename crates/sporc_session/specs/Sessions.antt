@@ -17,7 +17,7 @@ use Rattle.sporc_session.specs.Traces.{Stand, Trace, stand_at}
 use Rattle.sporc_session.specs.Endings.{Did, Stopped}
 use Rattle.sporc_session.specs.Lines.{EditorDid}
 use Rattle.sporc_session.specs.Protocol.{Asking, Between, always, is_unsettled}
-use Rattle.sporc_session.specs.Wires.{InboxModel, empty_inbox}
+use Rattle.sporc_exchange.specs.Wires.{InboxModel, empty_inbox}
 
 -- the first phase: the receiver does its rounds, or stops with a fault
 abbrev pub FirstPhase : Stand → Stand → ℕ → Option SessionFault → Type 0

@@ -12,7 +12,7 @@ use Rattle.sporc_wire.specs.declared.to_client.ToClient.{ToClient}
 use Rattle.sporc_shared.specs.Items.{Item, Past, IsAllowed, by_of, items_of}
 use Rattle.sporc_session.specs.Acts.{Act, items_by, messages_by, answers_by, words_by, all_of}
 use Rattle.sporc_session.specs.Acts.{AreInOrder, FitAll}
-use Rattle.sporc_session.specs.Wires.{InboxModel, LinkStand, Exchanged, link_at, spelled}
+use Rattle.sporc_exchange.specs.Wires.{InboxModel, LinkStand, Exchanged, link_at, spelled}
 
 -- the receiver's pass and what it knows, what the link tells, and the words that the chance gave,
 -- with its count of faults

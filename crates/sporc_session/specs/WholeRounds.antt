@@ -5,8 +5,9 @@ use Rattle.sporc_head.specs.declared.refusal.Refusal.{Refusal}
 use Rattle.sporc_client.specs.declared.fault.SubmitFault.{SubmitFault}
 use Rattle.sporc_client.specs.declared.submitted.Submitted.{Submitted}
 use Rattle.sporc_client.specs.declared.submitted.Submitted.TheVariants as submitted
-use Rattle.sporc_session.specs.Acts.{Act, Ask, Greet, Look, Pull, Submit, Send, Check, Ordered}
-use Rattle.sporc_session.specs.Acts.{Rejected}
+use Rattle.sporc_session.specs.Acts.{Act, Ask, Greet, Look, Pull, Submit, Send, Check}
+use Rattle.sporc_exchange.specs.Replies.{Ordered}
+use Rattle.sporc_exchange.specs.Replies.{Rejected}
 use Rattle.sporc_session.specs.Endings.{takes_of}
 use Rattle.sporc_session.specs.Protocol.{IsQuiet}
 

@@ -2,11 +2,11 @@
 
 ghost use Rattle.std.specs.Prelude.{◌≡◌};
 ghost use Rattle.sporc_session.specs.Fetches.{IsFetch};
-ghost use Rattle.sporc_session.specs.Wires.{InboxModel, empty_inbox, link_at};
+ghost use Rattle.sporc_exchange.specs.Wires.{InboxModel, empty_inbox, link_at};
 
-use crate::exchange::{hello_of, pull, send};
+use crate::asking::{pull, send};
 use crate::fault::SessionFault;
-use crate::inbox::Inbox;
+use sporc_exchange::{Inbox, hello_of};
 use sporc_head::MAX_ENTRIES;
 use sporc_outside::Link;
 use sporc_wire::Entries;

@@ -28,13 +28,12 @@
 //! with ample memory (`sporc_thread_tests`). Neither: that an answer comes, or a turn.
 #![tactic(auto)]
 
+mod asking;
 mod context;
 mod crowd;
 mod editor;
-mod exchange;
 mod fault;
 mod fetches;
-mod inbox;
 pub mod laws;
 mod phase;
 mod receiver;

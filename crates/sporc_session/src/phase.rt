@@ -9,14 +9,14 @@ ghost use Rattle.sporc_session.specs.Outcomes.{FirstDid, LinkDid};
 ghost use Rattle.sporc_session.specs.Replies.{HasReadFor};
 ghost use Rattle.sporc_session.specs.Protocol.{Asking, Between, is_unsettled};
 ghost use Rattle.sporc_session.specs.Sessions.{FirstPhase, SecondPhase};
-ghost use Rattle.sporc_session.specs.Wires.{link_at};
+ghost use Rattle.sporc_exchange.specs.Wires.{link_at};
 
+use crate::asking::send;
 use crate::context::Context;
-use crate::exchange::{hello_of, send};
 use crate::fault::SessionFault;
-use crate::inbox::Inbox;
 use crate::receiver::{WithPass, plain};
 use crate::round::round;
+use sporc_exchange::{Inbox, hello_of};
 use sporc_outside::{Chance, Gate, LeafDisk, Link};
 use sporc_shared::{Look, Pass};
 use std::sync::Wait;

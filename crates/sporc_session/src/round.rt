@@ -11,14 +11,14 @@ ghost use Rattle.sporc_session.specs.Outcomes.{GatheredAll, LinkDid, RoundDid};
 ghost use Rattle.sporc_session.specs.Protocol.{Between, Checking, Drains, Pulling, Sending};
 ghost use Rattle.sporc_session.specs.Protocol.{Submits, Taking};
 ghost use Rattle.sporc_session.specs.Replies.{HasReadFor, checked_of};
-ghost use Rattle.sporc_session.specs.Wires.{LinkStand, link_at};
+ghost use Rattle.sporc_exchange.specs.Wires.{LinkStand, link_at};
 
+use crate::asking::{pull, send_entry};
 use crate::context::Context;
-use crate::exchange::{pull, send_entry};
 use crate::fault::SessionFault;
-use crate::inbox::Inbox;
 use crate::receiver::{WithPass, plain, submit, take_all};
 use sporc_base::Bytes;
+use sporc_exchange::Inbox;
 use sporc_head::Refusal;
 use sporc_outside::{Chance, Gate, LeafDisk, Link};
 use sporc_shared::Pass;

@@ -8,13 +8,12 @@ ghost use Rattle.sporc_wire.specs.declared.to_server.ToServer.{ToServer};
 ghost use Rattle.sporc_wire.specs.declared.to_server.ToServer.TheVariants as to_server;
 ghost use Rattle.sporc_wire.specs.ToServer.{to_server_bytes};
 ghost use Rattle.sporc_wire.specs.Messages.{framed};
-ghost use Rattle.sporc_session.specs.Acts.{handed_out};
-ghost use Rattle.sporc_session.specs.Asking.{AskEnds, IsOutcomeOf, PullEnds, ReceiveEnds, SendEnds};
-ghost use Rattle.sporc_session.specs.Asking.{SubmitEnds};
-ghost use Rattle.sporc_session.specs.Replies.{unread_fault};
-ghost use Rattle.sporc_session.specs.Wires.{link_at};
+ghost use Rattle.sporc_exchange.specs.Replies.{handed_out, unread_fault};
+ghost use Rattle.sporc_exchange.specs.Asking.{AskEnds, IsOutcomeOf, PullEnds, ReceiveEnds, SendEnds};
+ghost use Rattle.sporc_exchange.specs.Asking.{SubmitEnds};
+ghost use Rattle.sporc_exchange.specs.Wires.{link_at};
 
-use crate::fault::SessionFault;
+use crate::fault::ExchangeFault;
 use crate::inbox::Inbox;
 use sporc_base::{Bytes, Memory};
 use sporc_head::Refusal;
@@ -23,7 +22,7 @@ use sporc_wire::{Entries, FrameFault, ToClient, ToServer, write_submit, write_to
 use std::alloc::{AllocError, Global};
 
 // What is sent to the server, however it is kept.
-pub(crate) trait Sent {
+pub trait Sent {
     // The message that it is.
     ghost message: { Self → ToServer };
 
@@ -64,7 +63,7 @@ fn fitting(frame: Result<Vec<u8>, FrameFault>) -> Result<Vec<u8>, Memory>
 }
 
 // The Hello of a member, for a document.
-pub(crate) fn hello_of(document: &[u8; 16], member: u16) -> ToServer
+pub fn hello_of(document: &[u8; 16], member: u16) -> ToServer
     ensures value { result ≡ to_server.Hello document.now member }
     ensures within { length (to_server_bytes result) ≤ MAX_BODY }
 {
@@ -75,12 +74,12 @@ pub(crate) fn hello_of(document: &[u8; 16], member: u16) -> ToServer
 }
 
 // Sends a message.
-pub(crate) fn send<L: Link, M: Sent>(
+pub fn send<L: Link, M: Sent>(
     alloc: Global,
     link: &mut L,
     inbox: &Inbox,
     message: &M,
-) -> Result<(), SessionFault>
+) -> Result<(), ExchangeFault>
     requires { length (to_server_bytes (M.message message.now)) ≤ MAX_BODY }
     ensures sent { SendEnds
         (link_at (L.told link.old) inbox.now) (link_at (L.told link.new) inbox.now)
@@ -90,24 +89,24 @@ pub(crate) fn send<L: Link, M: Sent>(
     let bytes = message.frame(alloc)?;
     match write_all(link, bytes.as_slice()) {
         Ok(()) => Ok(()),
-        Err(_) => Err(SessionFault::LinkFault),
+        Err(_) => Err(ExchangeFault::LinkFault),
     }
 }
 
 // The fault of a session in which the next frame is no message. A frame that is too long is one
 // from its start on.
-fn unread(place: u64, fault: FrameFault) -> SessionFault
+fn unread(place: u64, fault: FrameFault) -> ExchangeFault
     ensures { result ≡ unread_fault place fault }
 {
     match fault {
-        FrameFault::BadMessage(at) => SessionFault::BadMessage(at),
-        FrameFault::TooLong(_) => SessionFault::BadMessage(place),
-        FrameFault::Memory => SessionFault::Memory,
+        FrameFault::BadMessage(at) => ExchangeFault::BadMessage(at),
+        FrameFault::TooLong(_) => ExchangeFault::BadMessage(place),
+        FrameFault::Memory => ExchangeFault::Memory,
     }
 }
 
 // The next message that comes.
-fn receive<L: Link>(link: &mut L, inbox: &mut Inbox) -> Result<ToClient, SessionFault>
+fn receive<L: Link>(link: &mut L, inbox: &mut Inbox) -> Result<ToClient, ExchangeFault>
     ensures received { ReceiveEnds
         (link_at (L.told link.old) inbox.old) (link_at (L.told link.new) inbox.new) result }
     ensures shut { (L.told link.new).is_shut ≡ (L.told link.old).is_shut }
@@ -128,7 +127,7 @@ fn ask<L: Link, M: Sent>(
     link: &mut L,
     inbox: &mut Inbox,
     message: &M,
-) -> Result<ToClient, SessionFault>
+) -> Result<ToClient, ExchangeFault>
     requires { length (to_server_bytes (M.message message.now)) ≤ MAX_BODY }
     ensures answered { AskEnds
         (link_at (L.told link.old) inbox.old) (link_at (L.told link.new) inbox.new)
@@ -159,12 +158,12 @@ fn entries_of(alloc: Global, from: u32, answer: ToClient) -> Option<Entries>
 }
 
 // Pulls the entries after some.
-pub(crate) fn pull<L: Link>(
+pub fn pull<L: Link>(
     alloc: Global,
     link: &mut L,
     inbox: &mut Inbox,
     from: u32,
-) -> Result<Entries, SessionFault>
+) -> Result<Entries, ExchangeFault>
     requires { from ≤ MAX_ENTRIES }
     ensures pulled { PullEnds
         (link_at (L.told link.old) inbox.old) (link_at (L.told link.new) inbox.new)
@@ -175,17 +174,17 @@ pub(crate) fn pull<L: Link>(
     let answer = ask(alloc, link, inbox, &ToServer::Pull { from })?;
     match entries_of(alloc, from, answer) {
         Some(entries) => Ok(entries),
-        None => Err(SessionFault::BadMessage(place)),
+        None => Err(ExchangeFault::BadMessage(place)),
     }
 }
 
 // Sends an entry. The answer is that it was ordered, or why it was refused.
-pub(crate) fn send_entry<L: Link>(
+pub fn send_entry<L: Link>(
     alloc: Global,
     link: &mut L,
     inbox: &mut Inbox,
     entry: &Bytes,
-) -> Result<Option<Refusal>, SessionFault>
+) -> Result<Option<Refusal>, ExchangeFault>
     requires { length entry.now < MAX_BODY }
     ensures answered { SubmitEnds
         (link_at (L.told link.old) inbox.old) (link_at (L.told link.new) inbox.new)
@@ -200,15 +199,15 @@ pub(crate) fn send_entry<L: Link>(
 // What an answer to an entry says, whose frame began at a place.
 fn reply_of(
     place: u64,
-    answer: Result<ToClient, SessionFault>,
-) -> Result<Option<Refusal>, SessionFault>
+    answer: Result<ToClient, ExchangeFault>,
+) -> Result<Option<Refusal>, ExchangeFault>
     ensures { IsOutcomeOf place answer result }
 {
     match answer {
         Ok(ToClient::Ordered { .. }) => Ok(None),
         Ok(ToClient::Rejected { refusal }) => Ok(Some(refusal)),
-        Ok(ToClient::Empty) => Err(SessionFault::BadMessage(place)),
-        Ok(ToClient::Entries { .. }) => Err(SessionFault::BadMessage(place)),
+        Ok(ToClient::Empty) => Err(ExchangeFault::BadMessage(place)),
+        Ok(ToClient::Entries { .. }) => Err(ExchangeFault::BadMessage(place)),
         Err(fault) => Err(fault),
     }
 }

@@ -1,8 +1,8 @@
 use Rattle.std.proofs.Common.{refl, ◌∙◌, arith, length, ap}
-use Rattle.sporc_session.proofs.Common.{err_from_is_err_and, Unread, link_at}
-use Rattle.sporc_session.proofs.Inboxes.{still_waits, waits_short}
-use Rattle.sporc_session.proofs.Linking.{more_at, more_rest, one_more, silent_then, waited}
-use Rattle.sporc_session.proofs.exchange.receive.Goals as goal
+use Rattle.sporc_exchange.proofs.Common.{err_from_is_err_and, Unread, link_at}
+use Rattle.sporc_exchange.proofs.Inboxes.{still_waits, waits_short}
+use Rattle.sporc_exchange.proofs.Linking.{more_at, more_rest, one_more, silent_then, waited}
+use Rattle.sporc_exchange.proofs.exchange.receive.Goals as goal
 
 pub read_piece-requires-clause-waits : goal.read_piece-requires-clause-waits
 read_piece-requires-clause-waits g c = (still_waits c.loop-message.inbox c.next.new.self c.in-Ok-None.field-0 c.in-Ok-None.ensures.value c.in-Ok-None.field-0-is c.in-Ok-None.ensures.after).1

@@ -1,16 +1,16 @@
 -- Calls on the link, as exchanges.
 use Rattle.std.proofs.Common.{◌≡◌, ◌≢◌, ℕ, ◌+◌, ◌≤◌, Bool, List, [], ◌∷◌, ◌++◌, length, take, Option, None, Result, Ok, Err, refl, sym, ap, ◌∙◌, subst, append_assoc, arith}
-use Rattle.sporc_session.proofs.Common.{le-ltb, append-nil, length-append, Appends, Consumes, Rose, IfErr, IfOk, if◌then◌else◌, Refusal, MAX_BODY, ToClient, ToServer, Unread, counted_to_end, framed}
-use Rattle.sporc_session.proofs.Common.{frame, SessionFault, ServerReply, Ordered, Rejected, reply_message, AskEnds, AskFails, Asks, IsReply, IsOutcomeOf, IsSilent, ReceiveEnds, SilentFor, SubmitEnds}
-use Rattle.sporc_session.proofs.Common.{Took, Unsent, silent, wrong, IsAnswer, Exchanged, InboxModel, IsLastFrom, LinkStand, more_taken, spelled, unread_of}
+use Rattle.sporc_exchange.proofs.Common.{le-ltb, append-nil, length-append, Appends, Consumes, Rose, IfErr, IfOk, if◌then◌else◌, Refusal, MAX_BODY, ToClient, ToServer, Unread, counted_to_end, framed}
+use Rattle.sporc_exchange.proofs.Common.{frame, ExchangeFault, ServerReply, Ordered, Rejected, reply_message, AskEnds, AskFails, Asks, IsReply, IsOutcomeOf, IsSilent, ReceiveEnds, SilentFor, SubmitEnds}
+use Rattle.sporc_exchange.proofs.Common.{Took, Unsent, silent, wrong, IsAnswer, Exchanged, InboxModel, IsLastFrom, LinkStand, more_taken, spelled, unread_of}
 use Rattle.sporc_outside.proofs.Growing.{rose_then}
 use Rattle.sporc_outside.specs.Writing.{AppendsPrefix}
 use Rattle.sporc_wire.specs.declared.fault.FrameFault.TheVariants.{TooLong}
 use Rattle.sporc_wire.specs.declared.to_client.ToClient.TheVariants as to_client
 use Rattle.sporc_wire.specs.declared.to_server.ToServer.TheVariants as to_server
 use Rattle.sporc_wire.specs.ToServer.{to_server_bytes}
-use Rattle.sporc_session.specs.declared.fault.SessionFault.TheVariants as faults
-use Rattle.sporc_session.proofs.Exchanging.{appends_none, consumes_none, exchanged_none, exchanged_then, received_nothing}
+use Rattle.sporc_exchange.specs.declared.fault.ExchangeFault.TheVariants as faults
+use Rattle.sporc_exchange.proofs.Exchanging.{appends_none, consumes_none, exchanged_none, exchanged_then, received_nothing}
 
 -- ---- one call
 
@@ -92,18 +92,17 @@ more_rest i j k piece same is =
 
 -- ---- exchanges in a row
 
-silent_from : (a b c : LinkStand) (fault : SessionFault) → a.faults ≤ b.faults → SilentFor b c fault → SilentFor a c fault
+silent_from : (a b c : LinkStand) (fault : ExchangeFault) → a.faults ≤ b.faults → SilentFor b c fault → SilentFor a c fault
 silent_from a b c faults.LinkFault low cause = rose_then a.faults b.faults c.faults low cause
 silent_from a b c (faults.LinkEnded taken) low cause = cause
 silent_from a b c (faults.BadMessage place) low cause = cause
 silent_from a b c faults.Memory low cause = tt
-silent_from a b c _ low cause = absurd cause
 
 exchanged_silent : (a b c : LinkStand) (w : List ℕ) → Exchanged a b w [] → Exchanged b c [] [] → Exchanged a c w []
 exchanged_silent a b c w f g = subst (λ (v : List ℕ). Exchanged a c v []) (append-nil w) (exchanged_then a b c w [] [] [] f g)
 
 -- still no message came
-pub silent_then : (a b c : LinkStand) (fault : SessionFault) → Exchanged a b [] [] → IsSilent b c fault → IsSilent a c fault
+pub silent_then : (a b c : LinkStand) (fault : ExchangeFault) → Exchanged a b [] [] → IsSilent b c fault → IsSilent a c fault
 silent_then a b c fault did s = record { did = exchanged_silent a b c [] did s.did; cause = silent_from a b c fault did.count s.cause }
 
 asked : (a b c : LinkStand) (message : ToServer) (answer : ToClient) → b.inbox ≡ a.inbox → Exchanged a b (spelled (message ∷ [])) [] → Exchanged b c [] (answer ∷ []) → IsLastFrom b.inbox.at answer c.inbox → Asks a c message answer
@@ -112,11 +111,11 @@ asked a b c message answer inbox sent came starts = record {
   starts = subst (λ (i : InboxModel). IsLastFrom i.at answer c.inbox) inbox starts;
 }
 
-not_asked : (a b c : LinkStand) (message : ToServer) (fault : SessionFault) → Exchanged a b (spelled (message ∷ [])) [] → IsSilent b c fault → AskFails a c message fault
+not_asked : (a b c : LinkStand) (message : ToServer) (fault : ExchangeFault) → Exchanged a b (spelled (message ∷ [])) [] → IsSilent b c fault → AskFails a c message fault
 not_asked a b c message fault sent s =
     silent (record { did = exchanged_silent a b c (spelled (message ∷ [])) sent s.did; cause = silent_from a b c fault sent.count s.cause })
 
-pub ask_ends : {a b c : LinkStand} {message : ToServer} {result : Result ToClient SessionFault} → Exchanged a b (spelled (message ∷ [])) [] → ReceiveEnds b c result → b.inbox ≡ a.inbox → AskEnds a c message result
+pub ask_ends : {a b c : LinkStand} {message : ToServer} {result : Result ToClient ExchangeFault} → Exchanged a b (spelled (message ∷ [])) [] → ReceiveEnds b c result → b.inbox ≡ a.inbox → AskEnds a c message result
 ask_ends {a} {b} {c} {message} {result = Ok answer} sent came inbox = record { ok = asked a b c message answer inbox sent came.ok.0 came.ok.1; err = tt }
 ask_ends {a} {b} {c} {message} {result = Err fault} sent came inbox = record { ok = tt; err = not_asked a b c message fault sent came.err }
 
@@ -128,13 +127,13 @@ not_answered a b message answer place asks at none =
 -- ---- answers to an entry
 
 module _ (a b : LinkStand) (entry : List ℕ) where
-  abbrev pub AsksFor : Result ToClient SessionFault → Type 0
+  abbrev pub AsksFor : Result ToClient ExchangeFault → Type 0
   AsksFor answer = IfOk answer (λ m. Asks a b (to_server.Submit entry) m)
 
-  abbrev pub Replied : Result (Option Refusal) SessionFault → Type 0
+  abbrev pub Replied : Result (Option Refusal) ExchangeFault → Type 0
   Replied result = IfOk result (λ refusal. (reply : ServerReply) × IsReply refusal reply × Exchanged a b (spelled (to_server.Submit entry ∷ [])) (reply_message reply ∷ []))
 
-  abbrev pub FailsFor : {A : Type 0} → Result A SessionFault → Type 0
+  abbrev pub FailsFor : {A : Type 0} → Result A ExchangeFault → Type 0
   FailsFor result = IfErr result (λ fault. AskFails a b (to_server.Submit entry) fault)
 
 no_reply : (entry : List ℕ) (m : ToClient) → ((reply : ServerReply) → m ≢ reply_message reply) → ¬ IsAnswer (to_server.Submit entry) m
@@ -148,13 +147,13 @@ empty_no_reply : (reply : ServerReply) → to_client.Empty ≢ reply_message rep
 empty_no_reply (Ordered position) = λ e. absurd cc
 empty_no_reply (Rejected refusal) = λ e. absurd cc
 
-module _ (a b : LinkStand) (entry : List ℕ) (place : ℕ) (result : Result (Option Refusal) SessionFault) where
-  replied : (answer : Result ToClient SessionFault) → IsOutcomeOf place answer result → AsksFor a b entry answer → Replied a b entry result
+module _ (a b : LinkStand) (entry : List ℕ) (place : ℕ) (result : Result (Option Refusal) ExchangeFault) where
+  replied : (answer : Result ToClient ExchangeFault) → IsOutcomeOf place answer result → AsksFor a b entry answer → Replied a b entry result
   replied (Ok (to_client.Ordered position)) says asks = subst (Replied a b entry) (sym says) (Ordered position, tt, asks.did)
   replied (Ok (to_client.Rejected refusal)) says asks = subst (Replied a b entry) (sym says) (Rejected refusal, refl, asks.did)
   replied _ says asks = subst (Replied a b entry) (sym says) tt
 
-  not_replied : (answer : Result ToClient SessionFault) → IsOutcomeOf place answer result → place ≡ a.inbox.at → AsksFor a b entry answer → FailsFor a b entry answer → FailsFor a b entry result
+  not_replied : (answer : Result ToClient ExchangeFault) → IsOutcomeOf place answer result → place ≡ a.inbox.at → AsksFor a b entry answer → FailsFor a b entry answer → FailsFor a b entry result
   not_replied (Err fault) says at asks fails = subst (FailsFor a b entry) (sym says) fails
   not_replied (Ok (to_client.Entries first entries)) says at asks fails =
       let m : ToClient = to_client.Entries first entries in
@@ -163,5 +162,5 @@ module _ (a b : LinkStand) (entry : List ℕ) (place : ℕ) (result : Result (Op
       subst (FailsFor a b entry) (sym says) (not_answered a b (to_server.Submit entry) to_client.Empty place asks at (no_reply entry to_client.Empty empty_no_reply))
   not_replied _ says at asks fails = subst (FailsFor a b entry) (sym says) tt
 
-  pub submit_ends : (answer : Result ToClient SessionFault) → IsOutcomeOf place answer result → place ≡ a.inbox.at → AskEnds a b (to_server.Submit entry) answer → SubmitEnds a b entry result
+  pub submit_ends : (answer : Result ToClient ExchangeFault) → IsOutcomeOf place answer result → place ≡ a.inbox.at → AskEnds a b (to_server.Submit entry) answer → SubmitEnds a b entry result
   submit_ends answer says at asks = record { ok = replied answer says asks.ok; err = not_replied answer says at asks.ok asks.err }

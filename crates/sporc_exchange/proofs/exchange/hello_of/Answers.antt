@@ -1,6 +1,6 @@
 use Rattle.std.proofs.Common.{◌≡◌, length, arith, rules}
-use Rattle.sporc_session.proofs.Common.{length-append}
-use Rattle.sporc_session.proofs.exchange.hello_of.Goals as goal
+use Rattle.sporc_exchange.proofs.Common.{length-append}
+use Rattle.sporc_exchange.proofs.exchange.hello_of.Goals as goal
 
 pub returns-clause-within : goal.returns-clause-within
 returns-clause-within c =

@@ -4,17 +4,17 @@ ghost use Rattle.std.specs.Prelude.{◌≡◌, [], None, Ok, IsOkUnless, OnErr, 
 ghost use Rattle.sporc_base.specs.Outcome.{GivesUnless};
 ghost use Rattle.sporc_wire.specs.Messages.{next};
 ghost use Rattle.sporc_wire.specs.ToClient.{to_client_of};
-ghost use Rattle.sporc_session.specs.Asking.{ReadEnds};
-ghost use Rattle.sporc_session.specs.Wires.{empty_inbox, link_at, none_held, unread_of};
+ghost use Rattle.sporc_exchange.specs.Asking.{ReadEnds};
+ghost use Rattle.sporc_exchange.specs.Wires.{empty_inbox, link_at, none_held, unread_of};
 
-use crate::fault::SessionFault;
+use crate::fault::ExchangeFault;
 use sporc_outside::Link;
 use sporc_wire::{FrameFault, Frames, ToClient};
 use std::alloc::Global;
 use std::marker::Model;
 
 /// The most bytes that one read asks for.
-pub(crate) const PIECE: usize = 4096;
+pub const PIECE: usize = 4096;
 
 // The bytes that were taken off a link and not handed out. The last piece is held until it is cut
 // into frames, so that nothing is lost where memory runs out.
@@ -22,7 +22,7 @@ pub(crate) const PIECE: usize = 4096;
 // Contracts see them, with the place of the first of them in the stream and how many were taken in
 // all.
 #[derive(Drop)]
-pub(crate) struct Inbox {
+pub struct Inbox {
     frames: Frames,
     taken: u64,
     piece: [u8; PIECE],
@@ -31,11 +31,11 @@ pub(crate) struct Inbox {
 
 impl Model for Inbox {
     ghost use Rattle.std.specs.Prelude.{take};
-    ghost use Rattle.sporc_session.specs.Wires.{InboxModel};
+    ghost use Rattle.sporc_exchange.specs.Wires.{InboxModel};
 
     ghost Value = { InboxModel };
 
-    ghost use Rattle.sporc_session.specs.Wires.{InboxInvariant};
+    ghost use Rattle.sporc_exchange.specs.Wires.{InboxInvariant};
 
     ghost view = { λ i. record {
       at = i.frames.at;
@@ -49,7 +49,7 @@ impl Model for Inbox {
 
 impl Inbox {
     // Nothing was taken yet.
-    pub(crate) fn new(alloc: Global) -> Inbox
+    pub fn new(alloc: Global) -> Inbox
         ensures value { result ≡ empty_inbox }
     {
         Inbox {
@@ -61,14 +61,14 @@ impl Inbox {
     }
 
     // The place of the next frame in the stream.
-    pub(crate) fn at(&self) -> u64
+    pub fn at(&self) -> u64
         ensures value { result ≡ self.now.at }
     {
         self.frames.at()
     }
 
     // Takes a piece off a link, where no whole frame is there.
-    pub(crate) fn read_piece<L: Link>(&mut self, link: &mut L) -> Result<(), SessionFault>
+    pub fn read_piece<L: Link>(&mut self, link: &mut L) -> Result<(), ExchangeFault>
         requires held { self.old.held ≡ [] }
         requires waits { (next to_client_of (unread_of self.old)).answer ≡ Ok None }
         ensures read { ReadEnds
@@ -76,10 +76,10 @@ impl Inbox {
         ensures shut { (L.told link.new).is_shut ≡ (L.told link.old).is_shut }
     {
         let Ok(n) = link.read(&mut self.piece) else {
-            return Err(SessionFault::LinkFault);
+            return Err(ExchangeFault::LinkFault);
         };
         if n == 0 {
-            return Err(SessionFault::LinkEnded(self.taken));
+            return Err(ExchangeFault::LinkEnded(self.taken));
         }
         self.len = n;
         self.taken = self.taken.saturating_add(n as u64);
@@ -101,7 +101,7 @@ impl Inbox {
     }
 
     // The next message. None exactly if no whole frame is there.
-    pub(crate) fn next(&mut self) -> Result<Option<ToClient>, FrameFault>
+    pub fn next(&mut self) -> Result<Option<ToClient>, FrameFault>
         ensures value { GivesUnless FrameFault.Memory (λ found. found) result
             (next to_client_of (unread_of self.old)).answer }
         ensures after { OnOk result

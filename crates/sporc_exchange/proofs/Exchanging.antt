@@ -1,7 +1,7 @@
 -- Exchanges in a row.
 use Rattle.std.proofs.Common.{◌≡◌, ℕ, ◌+◌, ◌^◌, ◌<◌, List, [], ◌∷◌, ◌++◌, length, Option, Some, None, refl, sym, ap, ◌∙◌, subst, append_assoc, arith}
-use Rattle.sporc_session.proofs.Common.{append-nil, length-append, Appends, Consumes, ToClient, ToServer, Unread, HandsOut, counted_to_end, fed, next, frame, Exchanged, InboxModel, LinkStand}
-use Rattle.sporc_session.proofs.Common.{Received, spelled, unread_of}
+use Rattle.sporc_exchange.proofs.Common.{append-nil, length-append, Appends, Consumes, ToClient, ToServer, Unread, HandsOut, counted_to_end, fed, next, frame, Exchanged, InboxModel, LinkStand}
+use Rattle.sporc_exchange.proofs.Common.{Received, spelled, unread_of}
 use Rattle.std.proofs.lemmas.List.Concat.{flat_map-append}
 use Rattle.std.proofs.KnownBytes.{Appends-trans, Consumes-trans}
 use Rattle.sporc_wire.specs.ToClient.{to_client_of}

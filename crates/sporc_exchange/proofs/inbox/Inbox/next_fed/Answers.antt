@@ -1,6 +1,6 @@
 use Rattle.std.proofs.Common.{rules}
-use Rattle.sporc_session.proofs.Inboxes.{next_over}
-use Rattle.sporc_session.proofs.inbox.Inbox.next_fed.Goals as goal
+use Rattle.sporc_exchange.proofs.Inboxes.{next_over}
+use Rattle.sporc_exchange.proofs.inbox.Inbox.next_fed.Goals as goal
 
 pub invariant_of-self : goal.invariant_of-self
 invariant_of-self c =

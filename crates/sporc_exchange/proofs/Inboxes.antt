@@ -1,7 +1,7 @@
 -- The next message of an inbox.
 use Rattle.std.proofs.Common.{◌≡◌, ℕ, ◌+◌, ◌<◌, ◌≤◌, List, [], ◌++◌, length, take, drop, Option, Some, None, Result, Ok, Err, refl, sym, ap, ◌∙◌, subst, arith, inl, inr, length-drop}
-use Rattle.sporc_session.proofs.Common.{◌≢◌, IfSome, OnOk, OnErr, cases_lt, append-nil, length-take-le, MAX_BODY, ToClient, Unread, fed, next, FirstFrame, partial, too_long, whole, frame_of_len}
-use Rattle.sporc_session.proofs.Common.{first_frame, InboxInvariant, InboxModel, unread_of}
+use Rattle.sporc_exchange.proofs.Common.{◌≢◌, IfSome, OnOk, OnErr, cases_lt, append-nil, length-take-le, MAX_BODY, ToClient, Unread, fed, next, FirstFrame, partial, too_long, whole, frame_of_len}
+use Rattle.sporc_exchange.proofs.Common.{first_frame, InboxInvariant, InboxModel, unread_of}
 use Rattle.std.specs.Int.{w32, from_be_bytes}
 use Rattle.sporc_base.specs.Outcome.{GivesUnless}
 use Rattle.sporc_wire.specs.declared.fault.FrameFault.{FrameFault}

@@ -1,6 +1,6 @@
 use Rattle.std.proofs.Common.{◌≡◌, ◌+◌, ◌-◌, ◌++◌, [], length}
-use Rattle.sporc_session.proofs.Common.{MAX_BODY, Exchanged, link_at}
-use Rattle.sporc_session.proofs.exchange.receive.Given as goal
+use Rattle.sporc_exchange.proofs.Common.{MAX_BODY, Exchanged, link_at}
+use Rattle.sporc_exchange.proofs.exchange.receive.Given as goal
 
 abbrev pub invariant-loop-message : goal.invariant-loop-message
 invariant-loop-message g l = record {

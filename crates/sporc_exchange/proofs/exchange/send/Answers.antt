@@ -1,7 +1,7 @@
 use Rattle.std.proofs.Common.{◌≡◌, Ok, refl, sym, ap, ◌∙◌}
-use Rattle.sporc_session.proofs.Common.{err_from_is_err_and, link_at}
-use Rattle.sporc_session.proofs.Linking.{sent_less, sent_nothing, sent_whole}
-use Rattle.sporc_session.proofs.exchange.send.Goals as goal
+use Rattle.sporc_exchange.proofs.Common.{err_from_is_err_and, link_at}
+use Rattle.sporc_exchange.proofs.Linking.{sent_less, sent_nothing, sent_whole}
+use Rattle.sporc_exchange.proofs.exchange.send.Goals as goal
 
 pub returns-in-Ok-clause-sent : goal.returns-in-Ok-clause-sent
 returns-in-Ok-clause-sent g c =

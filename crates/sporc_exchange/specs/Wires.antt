@@ -8,7 +8,7 @@ use Rattle.sporc_outside.specs.Streams.{StreamTold}
 use Rattle.sporc_wire.specs.declared.fault.FrameFault.TheVariants as frames
 use Rattle.sporc_wire.specs.declared.to_client.ToClient.{ToClient}
 use Rattle.sporc_wire.specs.declared.to_server.ToServer.{ToServer}
-use Rattle.sporc_session.specs.declared.inbox.TheConstants.{PIECE}
+use Rattle.sporc_exchange.specs.declared.inbox.TheConstants.{PIECE}
 use Rattle.sporc_wire.specs.Messages.{Unread, HandsOut, counted_to_end, fed, next}
 use Rattle.sporc_wire.specs.Stream.{frame}
 use Rattle.sporc_wire.specs.ToClient.{to_client_of}

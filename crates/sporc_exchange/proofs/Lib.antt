@@ -1,0 +1,4 @@
+pub mod Exchanging
+pub mod Inboxes
+pub mod Linking
+pub mod Common

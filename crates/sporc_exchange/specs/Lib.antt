@@ -1,0 +1,3 @@
+pub mod Wires
+pub mod Replies
+pub mod Asking
