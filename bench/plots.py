@@ -1,11 +1,11 @@
 #!/usr/bin/env python3
-"""Draws the tables of docs/SPEED.md that show growth, as bars of text, and holds the page against them.
+"""Draws the tables of docs/SPEED.md that show growth, as bars of text, and holds the page to them.
 
     bench/plots.py            prints each plot that is not what it should be
     bench/plots.py --write    puts them into the page
 
-A plot stands as a block of text after the line `<!-- plot: COLUMN -->`, and draws this column of the
-last table above it. Its scale begins at 0, and the longest bar is the largest number.
+A plot stands as a block of text after the line `<!-- plot: COLUMN -->`, and draws this column of
+the last table above it. Its scale begins at 0, and the longest bar is the largest number.
 """
 
 from __future__ import annotations
@@ -52,9 +52,10 @@ def plot(table: list[list[str]], column: str) -> str:
     most = max(number(row[place]) for row in rows)
     left = max(len(row[0]) for row in rows)
     right = max(len(row[place]) for row in rows)
+    bars = ["█" * round(WIDTH * number(row[place]) / most) for row in rows]
     lines = [
-        f"  {row[0]:>{left}}  {row[place]:>{right}}  " + "█" * round(WIDTH * number(row[place]) / most)
-        for row in rows
+        f"  {row[0]:>{left}}  {row[place]:>{right}}  {bar}"
+        for row, bar in zip(rows, bars, strict=True)
     ]
     return f"  {head[0]}, and {column[0].lower()}{column[1:]}:\n\n" + "\n".join(lines) + "\n"
 

@@ -14,6 +14,7 @@ from __future__ import annotations
 import re
 import sys
 from collections.abc import Callable
+from itertools import groupby
 from pathlib import Path
 
 Lines = list[str]
@@ -27,7 +28,8 @@ def read(name: str) -> str:
 
 def script(name: str) -> Lines:
     """The lines of a play script that are no comments."""
-    return [line for line in read(f"examples/{name}.play").splitlines() if line[:1] not in ("", "#")]
+    lines = read(f"examples/{name}.play").splitlines()
+    return [line for line in lines if line and not line.startswith("#")]
 
 
 # ---- a fork
@@ -166,11 +168,10 @@ def passed(first: Delta, second: Delta) -> tuple[Delta, Delta]:
 def parts(delta: Delta) -> str:
     """A delta as a report writes it: `k1 i"X" k2`."""
     said: Lines = []
-    for kind, character in delta:
-        if said and said[-1][0] == kind:
-            said[-1] = f'i"{said[-1][2:-1]}{character}"' if kind == "i" else f"{kind}{int(said[-1][1:]) + 1}"
-        else:
-            said.append(f'i"{character}"' if kind == "i" else f"{kind}1")
+    for kind, equal in groupby(delta, key=lambda mark: mark[0]):
+        characters = [character for _, character in equal]
+        inserted = "".join(characters)
+        said.append(f'i"{inserted}"' if kind == "i" else f"{kind}{len(characters)}")
     return " ".join(said)
 
 
@@ -258,7 +259,8 @@ def epochs() -> Lines:
     wanted = {"commitment", "previous", "wraps"}
     if not wanted <= named_fields():
         raise ValueError(f"change.rt: a change has no {wanted - named_fields()}")
-    changes = [" ".join(line.split()[2:]) for line in script("joiner") if line.startswith("change ")]
+    made = [line.split() for line in script("joiner") if line.startswith("change ")]
+    changes = [" ".join(words[2:]) for words in made]
     last = len(changes)
     columns = [["genesis", "", "commitment to k0", "", ""]]
     for epoch, change in enumerate(changes, 1):
@@ -274,10 +276,11 @@ def epochs() -> Lines:
     lines = ["  " + "   ".join(cell.ljust(w) for cell, w in zip(row, widths, strict=True)).rstrip()
              for row in zip(*columns, strict=True)]
     lines += ["", "  the joiner's way back:", ""]
-    lines.append(f"  its wrap in change {last}, under the key that it shares with the author:  k{last}")
+    shared = "under the key that it shares with the author"
+    lines.append(f"  its wrap in change {last}, {shared}:  k{last}")
     for epoch in range(last, 0, -1):
-        meets = f"change {epoch}"
-        lines.append(f"  k{epoch} meets the commitment of {meets}, and opens its previous:  k{epoch - 1}")
+        meets = f"meets the commitment of change {epoch}"
+        lines.append(f"  k{epoch} {meets}, and opens its previous:  k{epoch - 1}")
     return [*lines, "  k0 meets the commitment of the genesis"]
 
 
@@ -331,7 +334,7 @@ def session() -> Lines:
         "    ..                  ..                  │   │ pending edits, journal, leaves│",
         "  script 8 ─────────> editor 8     ─────────┘   └───────────────────────────────┘",
         "",
-        "  without a turn: reading and writing the link, verifying signatures, drawing random words",
+        "  without a turn: the link is read and written, signatures verified, words drawn",
         "  in a turn:      a look, an edit, a key's lookup, an accept, a submission",
     ]
 
@@ -365,7 +368,8 @@ def main(arguments: Lines) -> int:
         failed = True
         pairs = zip(text.splitlines(), wanted.splitlines(), strict=False)
         place = next((n for n, (is_, be) in enumerate(pairs, 1) if is_ != be), 1)
-        print(f"{page.relative_to(TOP)}:{place}: this picture is not what examples/pictures.py makes")
+        where = f"{page.relative_to(TOP)}:{place}"
+        print(f"{where}: this picture is not what examples/pictures.py makes")
     for name in sorted(PICTURES.keys() - shown):
         print(f"examples/pictures.py: no page has the picture {name}")
         failed = True

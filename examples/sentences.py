@@ -4,9 +4,9 @@
     examples/sentences.py [--list N] PAGE ..      with --list: the sentences of more than N words
 
 A sentence ends with a full stop, a question mark or an exclamation mark before a space, with its
-paragraph, its item of a list, or its cell of a table. What stands between backticks, and what a link
-leads to, counts as one word. Blocks of commands, pictures and headings are no sentences, nor is the
-last cell of a row that names contracts or definitions.
+paragraph, its item of a list, or its cell of a table. What stands between backticks, and what a
+link leads to, counts as one word. Blocks of commands, pictures and headings are no sentences, nor
+is a cell of a column that lists contracts or definitions.
 """
 
 from __future__ import annotations
