@@ -7,9 +7,10 @@ ghost use Rattle.sporc_client.specs.declared.fault.RestartFault.TheVariants as r
 ghost use Rattle.sporc_client.specs.declared.fault.SubmitFault.TheVariants as submits;
 
 use lms_leaf::LeafFault;
-use sporc_head::Refusal;
+use sporc_head::{NameParts, Refusal};
 use sporc_line::LineOpenFault;
 use std::alloc::AllocError;
+use std::fmt::{self, Display, Formatter, Write};
 use thiserror::Error;
 
 /// Why a client was not opened.
@@ -18,44 +19,44 @@ pub type ClientOpenFault = LineOpenFault;
 /// Why an edit, a change or a discard is refused.
 #[derive(Clone, Copy, Debug, PartialEq, Eq, Error)]
 pub enum EditFault {
-    #[error("the member was removed, or the device dropped")]
+    /// The member was removed, or the device dropped.
     Removed,
-    #[error("the member has no right to it")]
+    /// The member has no right to it.
     NoRight,
-    #[error("the journal has only {0} events")]
+    /// The journal has only so many events.
     SeenAhead(u64),
-    #[error("the delta is of a text of another length")]
+    /// The delta is of a text of another length.
     WrongLength,
-    #[error("the delta has {0} bytes")]
+    /// The delta has so many bytes.
     TooLong(u64),
-    #[error("too much is pending")]
+    /// Too much is pending.
     PendingFull,
-    #[error("the journal is full")]
+    /// The journal is full.
     JournalFull,
-    #[error("out of memory")]
+    /// Out of memory.
     Memory,
 }
 
 /// Why a submission is refused.
 #[derive(Clone, Copy, Debug, PartialEq, Eq, Error)]
 pub enum SubmitFault {
-    #[error("the member was removed, or the device dropped")]
+    /// The member was removed, or the device dropped.
     Removed,
-    #[error("the member has no right to the first pending item")]
+    /// The member has no right to the first pending item.
     NoRight,
-    #[error("the history is full")]
+    /// The history is full.
     HistoryFull,
-    #[error("the journal is full")]
+    /// The journal is full.
     JournalFull,
-    #[error("the first pending edit has {0} bytes")]
+    /// The first pending edit has so many bytes.
     HeadTooLong(u64),
-    #[error("no pairwise key with member {0}")]
+    /// There is no pairwise key with this member.
     NoPairKey(u16),
-    #[error("all {0} leaves are drawn")]
+    /// All leaves are drawn, so many.
     Exhausted(u32),
-    #[error("the disk of the leaf file failed")]
+    /// The disk of the leaf file failed.
     LeafFault,
-    #[error("out of memory")]
+    /// Out of memory.
     Memory,
 }
 
@@ -77,6 +78,73 @@ pub enum RestartFault {
     Ahead(u32),
     #[error("out of memory")]
     Memory,
+}
+
+impl EditFault {
+    // What it says, in parts.
+    fn message(self) -> NameParts {
+        match self {
+            EditFault::Removed => NameParts::of("the member was removed, or the device dropped"),
+            EditFault::NoRight => NameParts::of("the member has no right to it"),
+            EditFault::SeenAhead(len) => NameParts {
+                before: "the journal has only ",
+                number: Some(len),
+                behind: " events",
+            },
+            EditFault::WrongLength => NameParts::of("the delta is of a text of another length"),
+            EditFault::TooLong(len) => NameParts {
+                before: "the delta has ",
+                number: Some(len),
+                behind: " bytes",
+            },
+            EditFault::PendingFull => NameParts::of("too much is pending"),
+            EditFault::JournalFull => NameParts::of("the journal is full"),
+            EditFault::Memory => NameParts::of("out of memory"),
+        }
+    }
+}
+
+// By its message, in one step for all variants.
+impl Display for EditFault {
+    fn fmt<W: Write>(&self, f: &mut Formatter<W>) -> fmt::Result {
+        self.message().fmt(f)
+    }
+}
+
+impl SubmitFault {
+    // What it says, in parts.
+    fn message(self) -> NameParts {
+        match self {
+            SubmitFault::Removed => NameParts::of("the member was removed, or the device dropped"),
+            SubmitFault::NoRight => {
+                NameParts::of("the member has no right to the first pending item")
+            }
+            SubmitFault::HistoryFull => NameParts::of("the history is full"),
+            SubmitFault::JournalFull => NameParts::of("the journal is full"),
+            SubmitFault::HeadTooLong(len) => NameParts {
+                before: "the first pending edit has ",
+                number: Some(len),
+                behind: " bytes",
+            },
+            SubmitFault::NoPairKey(member) => {
+                NameParts::with_number("no pairwise key with member ", u64::from(member))
+            }
+            SubmitFault::Exhausted(count) => NameParts {
+                before: "all ",
+                number: Some(u64::from(count)),
+                behind: " leaves are drawn",
+            },
+            SubmitFault::LeafFault => NameParts::of("the disk of the leaf file failed"),
+            SubmitFault::Memory => NameParts::of("out of memory"),
+        }
+    }
+}
+
+// By its message, in one step for all variants.
+impl Display for SubmitFault {
+    fn fmt<W: Write>(&self, f: &mut Formatter<W>) -> fmt::Result {
+        self.message().fmt(f)
+    }
 }
 
 impl From<AllocError> for EditFault {

@@ -7,7 +7,7 @@ use sporc_base::Memory;
 use sporc_entry::EntryFault;
 use sporc_member::ChangeFault;
 use std::alloc::{AllocError, Global};
-use std::fmt::Write;
+use std::fmt::{self, Display, Formatter, Write};
 use thiserror::Error;
 
 /// The first check that an entry fails at a history, in the order of the checks.
@@ -15,58 +15,57 @@ use thiserror::Error;
 pub enum Refusal {
     /// The bytes are no entry: the first field from the left that is cut short or forbidden begins
     /// at this place.
-    #[error("the bytes are no entry, from place {0} on")]
     Malformed(usize),
-    #[error("it is an entry of another document")]
+    /// It is an entry of another document.
     WrongDocument,
-    #[error("its position is not the next one")]
+    /// Its position is not the next one.
     WrongPosition,
-    #[error("the history removes this member or its device")]
+    /// The history removes this member or its device.
     Removed,
-    #[error("the history is full")]
+    /// The history is full.
     HistoryFull,
-    #[error("it is of another version than the history")]
+    /// It is of another version than the history.
     WrongVersion,
-    #[error("its author is no member")]
+    /// Its author is no member.
     UnknownAuthor,
-    #[error("its author has no such live device")]
+    /// Its author has no such live device.
     UnknownDevice,
-    #[error("its base is ahead of the history")]
+    /// Its base is ahead of the history.
     BaseAhead,
-    #[error("its base is before the last change")]
+    /// Its base is before the last change.
     BeforeBarrier,
-    #[error("its base is another history")]
+    /// Its base is another history.
     WrongHistory,
-    #[error("its number is not the next one of the author's device")]
+    /// Its number is not the next one of the author's device.
     WrongNumber,
-    #[error("its base is before the last entry of the author's device")]
+    /// Its base is before the last entry of the author's device.
     BehindOwn,
-    #[error("it is of another epoch")]
+    /// It is of another epoch.
     WrongEpoch,
-    #[error("its author may not make it")]
+    /// Its author may not make it.
     NoRight,
-    #[error("its signature is of another leaf than its header says")]
+    /// Its signature is of another leaf than its header says.
     LeafMismatch,
-    #[error("its signature does not verify")]
+    /// Its signature does not verify.
     BadSignature,
-    #[error("its edit is no delta")]
+    /// Its edit is no delta.
     BadPayload,
-    #[error("its edit is of a text of another length")]
+    /// Its edit is of a text of another length.
     WrongLength,
-    #[error("its change is refused: {0}")]
+    /// Its change is refused, for this cause.
     BadChange(ChangeFault),
-    #[error("its wraps are not for exactly the members after it")]
+    /// Its wraps are not for exactly the members after it.
     WrongWraps,
-    #[error("no key opens its epoch")]
+    /// No key opens its epoch.
     NoKey,
-    #[error("its epoch's key does not meet the commitment")]
+    /// Its epoch's key does not meet the commitment.
     WrongKey,
     /// Out of memory: nothing is said of the entry.
-    #[error("out of memory")]
     Memory,
 }
 
-/// The parts of a name: words, a number behind them, and a word behind that, where it has these.
+/// The parts of a name or a message: words, a number behind them, and words behind that, where it
+/// has these.
 #[derive(Clone, Copy)]
 pub struct NameParts {
     pub before: &'static str,
@@ -98,6 +97,23 @@ impl NameParts {
             number: Some(number),
             behind: "",
         }
+    }
+}
+
+impl Display for NameParts {
+    fn fmt<W: Write>(&self, f: &mut Formatter<W>) -> fmt::Result {
+        f.write_str(self.before)?;
+        if let Some(number) = self.number {
+            write!(f, "{number}")?;
+        }
+        f.write_str(self.behind)
+    }
+}
+
+// By its name, in one step for all variants.
+impl Display for Refusal {
+    fn fmt<W: Write>(&self, f: &mut Formatter<W>) -> fmt::Result {
+        self.parts().fmt(f)
     }
 }
 

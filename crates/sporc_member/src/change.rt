@@ -3,6 +3,7 @@
 ghost use Rattle.std.specs.Prelude.{◌≡◌};
 
 use crate::role::Role;
+use std::fmt::{self, Display, Formatter, Write};
 use thiserror::Error;
 
 /// A change of the members, of their devices, or of the document's version.
@@ -41,30 +42,37 @@ pub enum Change {
 /// Why a change is refused.
 #[derive(Clone, Copy, Debug, PartialEq, Eq, Error)]
 pub enum ChangeFault {
-    #[error("the number is 0 or was a member's before")]
+    /// The number is 0 or was a member's before.
     NumberUsed,
-    #[error("no member has that number")]
+    /// No member has that number.
     NotMember,
-    #[error("the member has that role")]
+    /// The member has that role.
     SameRole,
-    #[error("no admin would be left")]
+    /// No admin would be left.
     LastAdmin,
-    #[error("the roster is full")]
+    /// The roster is full.
     RosterFull,
-    #[error("the key is of no known type")]
+    /// The key is of no known type.
     BadKey,
-    #[error("the number was a device of the member before")]
+    /// The number was a device of the member before.
     DeviceUsed,
-    #[error("no live device of the member has that number")]
+    /// No live device of the member has that number.
     NoDevice,
-    #[error("the member would have no device")]
+    /// The member would have no device.
     LastDevice,
-    #[error("the member has as many devices as one can have")]
+    /// The member has as many devices as one can have.
     DevicesFull,
-    #[error("the document is not upgraded")]
+    /// The document is not upgraded.
     NotUpgraded,
-    #[error("the document is upgraded")]
+    /// The document is upgraded.
     AlreadyUpgraded,
+}
+
+// By its name, in one step for all variants.
+impl Display for ChangeFault {
+    fn fmt<W: Write>(&self, f: &mut Formatter<W>) -> fmt::Result {
+        f.write_str(self.name())
+    }
 }
 
 impl ChangeFault {
