@@ -109,6 +109,10 @@ module _ {g : Genesis} {kit : Kit} {A : List (List ℕ)} {key : Option (List ℕ
         limit = omega (arith, over, before_small k n, small, all_inserted-drop forms n, k.few, k.room);
       }
 
+  -- the text after n entries is as long as the forms of these lead to
+  pub text_before : (n : ℕ) → length (text_of g kit (take n A)) ≡ reached base (take n forms)
+  text_before n = text_at g kit A n k.good (follow_at k n) ∙ ap (λ (fs : List (List Mark)). reached 0 (take n fs)) (sym k.forms_are) ∙ ap (λ (b : ℕ). reached b (take n forms)) (sym k.base_is)
+
   next_over : (b : List ℕ) (f : List Mark) → first_fault g kit A (length A + 1) b ≡ None → f ≡ next_form g kit A b → CanPut f base forms text
   next_over b f none is =
       let p = passed g kit A (length A + 1) b none in

@@ -1,6 +1,6 @@
 //! A history as one member reads it.
 
-ghost use Rattle.std.specs.Prelude.{◌≡◌, ◌-◌, ◌≤◌, [], length, take, map, slice_get, Some, IfOk};
+ghost use Rattle.std.specs.Prelude.{◌≡◌, ◌-◌, ◌≤◌, [], drop, length, take, map, slice_get, Some, IfOk};
 ghost use Rattle.std.specs.Prelude.{is_none, option_copied, IsTrue, ◌↔◌};
 ghost use Rattle.std.specs.String.{string_bytes};
 ghost use Rattle.std.specs.Str.{chars, encode_utf8_all};
@@ -8,6 +8,7 @@ ghost use Rattle.std.specs.FinMap as map;
 ghost use Rattle.std.specs.List.{All};
 ghost use Rattle.sporc_base.specs.FirstFault.{AnswersUnless, first_of};
 ghost use Rattle.sporc_hash.specs.Chain.{chain, commitment_of};
+ghost use Rattle.sporc_suffix.specs.Compositions.{composed};
 ghost use Rattle.sporc_entry.specs.declared.limits.TheConstants.{MAX_ENTRY};
 ghost use Rattle.sporc_entry.specs.Genesis.{genesis_bytes, IsGenesis};
 ghost use Rattle.sporc_epoch.specs.Keys.{pairs_in};
@@ -179,6 +180,17 @@ impl Line {
             ≡ Some result.now }
     {
         self.forms.form(i - 1)
+    }
+
+    /// The forms of all entries after the first `from`, in one delta: it leads from the text after
+    /// these to the text.
+    pub fn composed(&self, from: u32) -> Result<Delta, Memory>
+        requires { from ≤ length self.now.entries }
+        ensures ok { IfOk result (λ d. d ≡ composed
+            (length (text_of self.now.genesis self.now.kit (take from self.now.entries)))
+            (drop from (forms_of self.now.genesis self.now.kit self.now.entries))) }
+    {
+        self.forms.composed(from)
     }
 
     /// How many characters the text had after `i` entries.

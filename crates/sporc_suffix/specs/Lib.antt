@@ -1,2 +1,3 @@
+pub mod Compositions
 pub mod Forms
 pub mod Runs

@@ -5,10 +5,12 @@ ghost use Rattle.std.specs.Prelude.{length, slice_get, Some, IfOk, IfErr, OnOk, 
 ghost use Rattle.sporc_delta.specs.declared.limits.TheConstants.{MAX_TEXT_LEN};
 ghost use Rattle.sporc_delta.specs.Marks.{base_len, inserted_len};
 ghost use Rattle.std.specs.Vec.{vec_capacity, vec_len};
+ghost use Rattle.sporc_suffix.specs.Compositions.{composed};
 ghost use Rattle.sporc_suffix.specs.Forms.{TwoADigit, all_inserted, later_over, reached};
 ghost use Rattle.sporc_suffix.specs.Runs.{EndWith, IsReadyAt, Joined, KeepRuns, forms_in};
 
 use crate::Steps;
+use crate::composing::in_halves;
 use crate::ready::ReadyForm;
 use crate::runs::{over_runs, runs_ended};
 use sporc_base::Memory;
@@ -153,6 +155,33 @@ impl Blocks {
             count,
             steps,
         )
+    }
+
+    /// All forms after the first `from`, in one delta: it leads from the text after those to the
+    /// text after all.
+    pub fn composed(&self, from: u32) -> Result<Delta, Memory>
+        requires in_bounds { from ≤ length self.now.forms }
+        requires limit { self.now.base ≤ MAX_TEXT_LEN }
+        ensures ok { IfOk result (λ d. d ≡ composed
+            (reached self.now.base (take from self.now.forms)) (drop from self.now.forms)) }
+    {
+        let len = reached_at(self.base, self.forms.as_slice(), from as usize);
+        let (_, rest) = self.forms.as_slice().split_at(from as usize);
+        in_halves(*self.forms.allocator(), len, rest)
+    }
+}
+
+// The length of the text after the first `count` forms, over a text of `base` characters.
+fn reached_at(base: u64, forms: &[ReadyForm], count: usize) -> u64
+    requires in_bounds { count ≤ length forms.now }
+    requires limit { base ≤ MAX_TEXT_LEN }
+    ensures value { result ≡ reached base (take count (forms_in forms.now)) }
+    ensures within { result ≤ MAX_TEXT_LEN }
+{
+    if count == 0 {
+        base
+    } else {
+        forms[count - 1].form().out_len()
     }
 }
 

@@ -11,15 +11,17 @@
 //! let ready = blocks.ready(form)?;
 //! blocks.put(ready);                                       // takes none
 //! let last = blocks.later_over(&q, 0, &mut steps)?;        // q behind all forms
+//! let all = blocks.composed(0)?;                           // all forms in one
 //! ```
 //!
 //! Proved: `later_over` gives the delta passed over each form after `from`, in order, in at most
-//! two steps for each binary digit of their number; forms follow one another, each over the text
-//! after the one before. Only tested: that memory suffices if there is ample. Neither: how long a
-//! call takes, and how many bytes the compositions have.
+//! two steps for each binary digit of their number; `composed` gives these forms in one; forms
+//! follow one another, each over the text after the one before. Only tested: that memory suffices
+//! if there is ample. Neither: how long a call takes, and how many bytes the compositions have.
 #![tactic(auto)]
 
 mod blocks;
+mod composing;
 mod ready;
 mod runs;
 mod steps;

@@ -59,6 +59,7 @@ fn append(rt: &impl Abort, blocks: &mut Blocks, form: Delta)
     requires follow { Follow blocks.old.base blocks.old.forms }
     requires form_limit { inserted_len form ≤ 10000 }
     requires inserted_limit { all_inserted blocks.old.forms ≤ 10000 * length blocks.old.forms }
+    ensures base { blocks.new.base ≡ blocks.old.base }
     ensures len { length blocks.new.forms ≡ length blocks.old.forms + 1 }
     ensures follow { Follow blocks.new.base blocks.new.forms }
     ensures reached { reached blocks.new.base blocks.new.forms ≡ out_len form }
@@ -69,6 +70,7 @@ fn append(rt: &impl Abort, blocks: &mut Blocks, form: Delta)
 
 // So many forms over `xyz`, each of which inserts a letter at 0.
 fn forms(rt: &impl Abort, alloc: Global, count: u32) -> Blocks
+    ensures base { result.base ≡ 3 }
     ensures len { length result.forms ≡ count }
     ensures within { length result.forms ≤ 10000 }
     ensures follow { Follow result.base result.forms }
@@ -147,4 +149,13 @@ fn letters_at_the_front_are_passed_in_few_steps(rt: HostRuntime) {
     let alloc = rt.alloc();
     let blocks = forms(&rt, alloc, 4096);
     passes_as_walked::<Brand>(&rt, Blank::new(1), alloc, &blocks, 1);
+}
+
+#[test]
+fn forms_after_a_place_are_put_in_one(rt: HostRuntime) {
+    let alloc = rt.alloc();
+    let blocks = forms(&rt, alloc, 5);
+    let one = blocks.composed(2).expect(&rt, "memory");
+    let plain = Delta::insert_at(alloc, 5, 0, "aaa").expect(&rt, "memory");
+    check(&rt, "forms in one", one.is_same(&plain));
 }
