@@ -326,13 +326,13 @@ def session() -> Lines:
         if not any(word in file.read_text(encoding="utf-8") for file in (TOP / path).glob("*.rt")):
             raise ValueError(f"{path} has no {word}")
     return [
-        "  threads                                        in the lock",
-        "                                    one turn",
-        "  server <── link ──> receiver     ─────────┐",
-        "  script 1 ─────────> editor 1     ─────────┤   ┌───────────────────────────────┐",
-        "  script 2 ─────────> editor 2     ─────────┼──>│ SharedClient: history, text,  │",
-        "    ..                  ..                  │   │ pending edits, journal, leaves│",
-        "  script 8 ─────────> editor 8     ─────────┘   └───────────────────────────────┘",
+        "  threads                            take turns at the lock of",
+        "",
+        "  server <── link ──> receiver  ────┐",
+        "  script 1 ─────────> editor 1  ────┤    ┌─────────────────────────────────┐",
+        "  script 2 ─────────> editor 2  ────┼──> │ SharedClient: history, text,    │",
+        "     ..                  ..         │    │ pending edits, journal, leaves  │",
+        "  script 8 ─────────> editor 8  ────┘    └─────────────────────────────────┘",
         "",
         "  without a turn: the link is read and written, signatures verified, words drawn",
         "  in a turn:      a look, an edit, a key's lookup, an accept, a submission",
