@@ -334,7 +334,7 @@ def session() -> Lines:
         "     ..                  ..         │    │ pending edits, journal, leaves  │",
         "  script 8 ─────────> editor 8  ────┘    └─────────────────────────────────┘",
         "",
-        "  without a turn: the link is read and written, signatures verified, words drawn",
+        "  without a turn: the link is read and written, signatures verified ahead, words drawn",
         "  in a turn:      a look, an edit, a key's lookup, an accept, a submission",
     ]
 
