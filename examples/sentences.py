@@ -6,7 +6,7 @@
 A sentence ends with a full stop, a question mark or an exclamation mark before a space, with its
 paragraph, its item of a list, or its cell of a table. What stands between backticks, and what a
 link leads to, counts as one word. Blocks of commands, pictures and headings are no sentences, nor
-is a cell of a column that lists contracts or definitions.
+is the last cell of a row that lists contracts or definitions.
 """
 
 from __future__ import annotations
@@ -17,15 +17,15 @@ from collections.abc import Iterator
 from pathlib import Path
 
 LIMIT = 40
-# The heads of columns that list names, and tell nothing.
-LISTS = {"Contract", "Definition", "Where it stands", "Definitions"}
+# The heads of last columns that list names, and tell nothing.
+LISTS = {"Contract", "Definition", "Where it stands"}
 
 
 def blocks(text: str) -> Iterator[tuple[int, str]]:
     """Each paragraph, item and cell of a page, with the number of its first line."""
     fenced = False
     start, held = 0, ""
-    lists: set[int] = set()
+    names = 0
     row_before = False
     for number, line in enumerate(text.splitlines(), 1):
         row = line.startswith("|")
@@ -40,10 +40,9 @@ def blocks(text: str) -> Iterator[tuple[int, str]]:
         if row:
             cells = [cell.strip() for cell in re.split(r"(?<!\\)\|", line)[1:-1]]
             if not row_before:
-                lists = {place for place, cell in enumerate(cells) if cell in LISTS}
-            for place, cell in enumerate(cells):
-                if place not in lists:
-                    yield number, cell
+                names = 1 if cells[-1] in LISTS else 0
+            for cell in cells[: len(cells) - names]:
+                yield number, cell
         row_before = row
         if not alone:
             start, held = (start, held + " " + line.strip()) if held else (number, line.strip())
