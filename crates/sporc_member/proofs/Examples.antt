@@ -1,8 +1,12 @@
 -- Worked examples: changes of a document that one admin founded.
-use Rattle.std.proofs.Common.{◌≡◌, ℕ, [], ◌∷◌, List, refl, Some, None, replicate, true, false}
+use Rattle.std.proofs.Common.{◌≡◌, ℕ, [], ◌∷◌, Bool, List, Option, refl, Some, None, replicate, true, false}
 use Rattle.sporc_member.proofs.Common.{fold, map, Add, Remove, SetRole, AddDevice, DropDevice, Upgrade, NumberUsed, NotMember, SameRole, LastAdmin, BadKey, DeviceUsed, NoDevice, LastDevice}
 use Rattle.sporc_member.proofs.Common.{DevicesFull, NotUpgraded, AlreadyUpgraded, Roster, founded, after_change, change_fault_of, numbers_of, devices_of, key_of, removes}
+use Rattle.sporc_member.specs.declared.people.Owned.{Owned}
+use Rattle.sporc_member.specs.declared.people.Person.{Person}
+use Rattle.sporc_member.specs.declared.role.Role.{Role}
 use Rattle.sporc_member.specs.declared.role.Role.TheVariants.{Reader, Editor, Admin}
+use Rattle.sporc_member.specs.People.{can_restore, people_of, roster_of_people}
 
 -- founded by member 1, an admin
 abbrev alone : Roster
@@ -131,3 +135,48 @@ removed_alone = refl
 
 another_stays : removes (record { member = 1; number = 2 }) (DropDevice 1 3) ≡ false
 another_stays = refl
+
+-- ---- people
+
+abbrev owned : ℕ → Bool → Owned
+owned device live = record { device = device; live = live; key = [] }
+
+abbrev person : ℕ → Option Role → List Owned → Person
+person member role devices = record { member = member; role = role; devices = devices }
+
+-- who left keeps a number and a device that was used
+abbrev one_of_two : List Person
+one_of_two = person 1 (Some Admin) (owned 0 true ∷ []) ∷ person 2 None (owned 0 false ∷ []) ∷ []
+
+two_left : people_of without_two ≡ one_of_two
+two_left = refl
+
+two_can_be_restored : can_restore one_of_two ≡ true
+two_can_be_restored = refl
+
+two_is_gone_still : roster_of_people one_of_two false ≡ without_two
+two_is_gone_still = refl
+
+-- a dropped device too
+three_stays_dropped : roster_of_people (people_of without_three) true ≡ without_three
+three_stays_dropped = refl
+
+-- a number may stand without a device, and is used
+without_a_device : can_restore (person 1 (Some Admin) (owned 0 true ∷ []) ∷ person 2 None [] ∷ []) ≡ true
+without_a_device = refl
+
+it_is_used_too : change_fault_of (roster_of_people (person 2 None [] ∷ []) false) (Add 2 Editor []) ≡ Some NumberUsed
+it_is_used_too = refl
+
+-- an admin is needed, each member needs a device, and who is none has no live one
+no_admin : can_restore (person 1 (Some Editor) (owned 0 true ∷ []) ∷ []) ≡ false
+no_admin = refl
+
+no_live_device : can_restore (person 1 (Some Admin) (owned 0 false ∷ []) ∷ []) ≡ false
+no_live_device = refl
+
+no_role : can_restore (person 1 (Some Admin) (owned 0 true ∷ []) ∷ person 2 None (owned 0 true ∷ []) ∷ []) ≡ false
+no_role = refl
+
+not_ascending : can_restore (person 2 (Some Admin) (owned 0 true ∷ []) ∷ person 2 None [] ∷ []) ≡ false
+not_ascending = refl

@@ -5,6 +5,8 @@ pub mod Ordered
 mod Grouped
 pub mod Belonging
 pub mod Sound
+pub mod PeopleOf
+pub mod Gone
 pub mod SameDevice
 mod Examples
 pub mod Common

@@ -62,10 +62,10 @@ used_place n (m ∷ ns) = go (ltb n m) (used_place n ns)
 number_inserted : (q n : ℕ) (ns : List ℕ) → list_any (λ m. eqb m q) (insert ns (place_among n ns) n) ≡ (eqb n q || list_any (λ m. eqb m q) ns)
 number_inserted q n ns = any_inserted (λ m. eqb m q) ns (place_among n ns) n
 
-numbers_inserted : (q : ℕ) (m : Member) (ms : List Member) → list_any (λ n. eqb n q) (numbers_of (insert_sorted m ms)) ≡ (eqb m.member q || list_any (λ n. eqb n q) (numbers_of ms))
+pub numbers_inserted : (q : ℕ) (m : Member) (ms : List Member) → list_any (λ n. eqb n q) (numbers_of (insert_sorted m ms)) ≡ (eqb m.member q || list_any (λ n. eqb n q) (numbers_of ms))
 numbers_inserted q m ms = ap (list_any (λ n. eqb n q)) (numbers_of-insert_sorted m ms) ∙ number_inserted q m.member (numbers_of ms)
 
-used_inserted : (q n : ℕ) (ns : List ℕ) → list_any (λ m. eqb m q) (insert_by (λ m. m) n ns) ≡ (eqb n q || list_any (λ m. eqb m q) ns)
+pub used_inserted : (q n : ℕ) (ns : List ℕ) → list_any (λ m. eqb m q) (insert_by (λ m. m) n ns) ≡ (eqb n q || list_any (λ m. eqb m q) ns)
 used_inserted q n ns = ap (list_any (λ m. eqb m q)) (used_place n ns) ∙ number_inserted q n ns
 
 either : (a b c : Bool) → (b ≡ true → c ≡ true) → (a || b) ≡ true → (a || c) ≡ true

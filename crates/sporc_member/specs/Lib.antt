@@ -5,3 +5,5 @@ pub mod Device
 pub mod Roster
 pub mod RosterModel
 pub mod Codes
+pub mod People
+pub mod Histories

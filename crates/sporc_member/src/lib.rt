@@ -8,7 +8,8 @@
 //!
 //! A [`Roster`] holds the members, at most [`MAX_MEMBERS`], with their live devices, and tests and
 //! makes [`Change`]s: a new member, one that leaves, another role, a further device, one that signs
-//! no more, the Upgrade. At least one admin is always left.
+//! no more, the Upgrade. At least one admin is always left. Its people ([`Person`]) are all who are
+//! or were members, with every device that they ever used; a roster can be made of them again.
 //!
 //! ```text
 //! let mut roster = Roster::found(alloc, genesis.founders.as_slice())?;
@@ -17,9 +18,9 @@
 //! ```
 //!
 //! Proved: a change is refused for exactly its first fault and otherwise makes exactly its change;
-//! members stand in the order of their numbers; what takes memory leaves all as it was if there is
-//! none. Only tested: the names of faults by a table, and that memory suffices if there is ample.
-//! Neither: nothing else is claimed.
+//! members stand in the order of their numbers; a device that was removed is live never again; what
+//! takes memory leaves all as it was if there is none. Only tested: the names of faults by a table,
+//! and that memory suffices if there is ample. Neither: nothing else is claimed.
 #![tactic(auto)]
 
 mod change;
@@ -30,6 +31,7 @@ pub mod laws;
 mod limits;
 mod lists;
 mod member;
+mod people;
 mod role;
 mod roster;
 
@@ -38,6 +40,7 @@ pub use device::{Device, FIRST_DEVICE, KeyedDevice};
 pub use founder::Founder;
 pub use limits::{MAX_DEVICES, MAX_MEMBERS};
 pub use member::Member;
+pub use people::{Owned, Person};
 pub use role::{Role, role_name};
 pub use roster::Roster;
 pub use sporc_base::Memory;

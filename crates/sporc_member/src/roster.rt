@@ -1,15 +1,16 @@
 //! The members and their devices as changes make them.
 
 ghost use Rattle.std.specs.Prelude.{◌≡◌, ◌≤◌, true, false, [], length, option_map, is_some, IfOk};
-ghost use Rattle.std.specs.Prelude.{OnOk, OnErr, IsOk, None};
+ghost use Rattle.std.specs.Prelude.{OnOk, OnErr, IsOk, None, map};
 ghost use Rattle.std.specs.Option.{option_copied};
 ghost use Rattle.sporc_member.specs.declared.limits.TheConstants.{MAX_MEMBERS};
 ghost use Rattle.std.specs.List.Sorted.{IsStrictlyIncreasing};
+ghost use Rattle.sporc_member.specs.People.{person_of};
 
 use crate::change::{Change, ChangeFault};
 use crate::device::{Device, KeyedDevice};
 use crate::device_lists::{
-    device_numbers_in, devices_by, insert_device, insert_live, place_from, renumber,
+    device_numbers_in, devices_by, devices_with, insert_device, insert_live, place_from, renumber,
     take_out_device, take_out_devices_of,
 };
 use crate::founder::Founder;
@@ -19,9 +20,10 @@ use crate::lists::{
     numbers_with, numbers_without, place_of, take_out_member, take_out_number,
 };
 use crate::member::Member;
+use crate::people::{Person, ever_in, live_in, members_in, owned_in, used_in};
 use crate::role::Role;
 use lms_tree::LmsPublic;
-use sporc_base::Memory;
+use sporc_base::{Items, Memory};
 use std::alloc::Global;
 use std::marker::Model;
 
@@ -55,6 +57,8 @@ impl Roster {
     ghost use Rattle.sporc_member.specs.Roster.{founder_numbers, numbers_of, member_at, key_of};
     ghost use Rattle.sporc_member.specs.Roster.{devices_of, is_used, is_device_used};
     ghost use Rattle.sporc_member.specs.Roster.{change_fault_of, after_change, founded};
+    ghost use Rattle.sporc_member.specs.People.{CanRestore, people_of, person_of};
+    ghost use Rattle.sporc_member.specs.People.{roster_of_people};
 
     /// The roster of the founders.
     pub fn found(alloc: Global, founders: &[Founder]) -> Result<Roster, Memory>
@@ -77,6 +81,57 @@ impl Roster {
             ever,
             upgraded: false,
         })
+    }
+
+    /// The roster that has these people, with room for no change.
+    pub fn restore(alloc: Global, people: &[Person], upgraded: bool) -> Result<Roster, Memory>
+        requires possible { CanRestore people.now }
+        ensures ok { IfOk result (λ roster. roster.roster
+            ≡ roster_of_people people.now upgraded) }
+    {
+        let members = members_in(alloc, people)?;
+        let numbers = numbers_in(alloc, members.as_slice())?;
+        let used = used_in(alloc, people)?;
+        let devices = live_in(alloc, people)?;
+        let device_numbers = device_numbers_in(alloc, devices.as_slice())?;
+        let ever = ever_in(alloc, people)?;
+        Ok(Roster {
+            members,
+            numbers,
+            used,
+            devices,
+            device_numbers,
+            ever,
+            upgraded,
+        })
+    }
+
+    /// The people: one for each number that was ever a member's, ascending, with its role, if it is
+    /// a member's now, and each device that it ever used.
+    pub fn people(&self) -> Result<Vec<Person>, Memory>
+        ensures ok { IfOk result (λ people. people.items ≡ people_of self.now.roster) }
+    {
+        people_with(self, self.used.as_slice())
+    }
+
+    // Who has this number, or had it.
+    fn person(&self, number: u16) -> Result<Person, Memory>
+        ensures { IfOk result (λ person. person ≡ person_of self.now.roster number) }
+    {
+        let alloc = self.alloc();
+        let ever = devices_with(self.ever.as_slice(), number);
+        let live = devices_with(self.devices.as_slice(), number);
+        let devices = owned_in(alloc, ever, live)?;
+        Ok(Person {
+            member: number,
+            role: self.role(number),
+            devices: Items::new(devices),
+        })
+    }
+
+    // The allocator of its lists.
+    fn alloc(&self) -> Global {
+        *self.used.allocator()
     }
 
     /// The numbers of the members, ascending.
@@ -407,4 +462,16 @@ impl Roster {
             }
         }
     }
+}
+
+// The people with these numbers.
+fn people_with(roster: &Roster, numbers: &[u16]) -> Result<Vec<Person>, Memory>
+    ensures { IfOk result (λ people. people.items
+        ≡ map (person_of roster.now.roster) numbers.now) }
+{
+    let mut people = Vec::with_capacity(roster.alloc(), numbers.len())?;
+    for number in numbers {
+        people.push(roster.person(*number)?)?;
+    }
+    Ok(people)
 }

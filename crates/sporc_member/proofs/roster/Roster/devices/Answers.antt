@@ -8,16 +8,16 @@ use Rattle.sporc_member.proofs.roster.Roster.devices.Goals as goal
 pub slice_bounds-result-count : goal.slice_bounds-result-count
 slice_bounds-result-count c = omega (
   arith,
-  c.place_from-first.ensures,
-  c.place_from-end.ensures,
+  c.place_from-first.ensures.value,
+  c.place_from-end.ensures.value,
   place_from-mono c.from.result (c.from-2.result + 1) c.as_slice-devices.result.now (omega (arith, c.from.ensures, c.from-2.ensures)),
 )
 
 pub slice_bounds-result-start : goal.slice_bounds-result-start
 slice_bounds-result-start c = omega (
   arith,
-  c.place_from-first.ensures,
-  c.place_from-end.ensures,
+  c.place_from-first.ensures.value,
+  c.place_from-end.ensures.value,
   place_from-mono c.from.result (c.from-2.result + 1) c.as_slice-devices.result.now (omega (arith, c.from.ensures, c.from-2.ensures)),
 )
 
@@ -27,16 +27,16 @@ slice_bounds-result-end c =
     let number : KeyedDevice → ℕ = λ d. d.device.number in
     let numbers : length c.deref.result.now ≡ length i.devices.items = ap length (c.deref.ensures.value ∙ c.self.invariant.device_numbers) ∙ length-map i.devices.items number in
     let devices : length c.as_slice-devices.result.now ≡ length i.devices.items = ap length c.as_slice-devices.ensures.value in
-    omega (arith, numbers, devices, c.place_from-end.ensures, place_from-le (c.from-2.result + 1) c.as_slice-devices.result.now)
+    omega (arith, numbers, devices, c.place_from-end.ensures.value, place_from-le (c.from-2.result + 1) c.as_slice-devices.result.now)
 
 pub returns-clause-value : goal.returns-clause-value
 returns-clause-value c =
     let i = c.self.inside in
     let me = c.args.member in
     let first : c.place_from-first.result ≡ place_from me i.devices.items =
-    c.place_from-first.ensures ∙ ap (λ (k : ℕ). place_from k c.as_slice-devices.result.now) c.from.ensures ∙ ap (place_from me) c.as_slice-devices.ensures.value in
+    c.place_from-first.ensures.value ∙ ap (λ (k : ℕ). place_from k c.as_slice-devices.result.now) c.from.ensures ∙ ap (place_from me) c.as_slice-devices.ensures.value in
     let end : c.place_from-end.result ≡ place_from (me + 1) i.devices.items =
-    c.place_from-end.ensures ∙ ap (λ (k : ℕ). place_from (k + 1) c.as_slice-devices.result.now) c.from-2.ensures ∙ ap (place_from (me + 1)) c.as_slice-devices.ensures.value in
+    c.place_from-end.ensures.value ∙ ap (λ (k : ℕ). place_from (k + 1) c.as_slice-devices.result.now) c.from-2.ensures ∙ ap (place_from (me + 1)) c.as_slice-devices.ensures.value in
     ap (λ (ns : List ℕ). take (c.place_from-end.result - c.place_from-first.result) (drop c.place_from-first.result ns)) c.deref.ensures.value
     ∙ ap (λ (k : ℕ). take (c.place_from-end.result - k) (drop k i.device_numbers.items)) first
     ∙ ap (λ (k : ℕ). take (k - place_from me i.devices.items) (drop (place_from me i.devices.items) i.device_numbers.items)) end
