@@ -39,7 +39,7 @@ pub use Rattle.sporc_hash.specs.Strings.{CollisionFree, chain_strings, key_strin
 pub use Rattle.sporc_cipher.proofs.Stream.{length-mask_from, mask_from-mask_from}
 pub use Rattle.sporc_cipher.specs.Mask.{mask_of}
 pub use Rattle.sporc_delta.proofs.Lengths.{base_len-append, base_len-insert_marks, base_len-keep_marks, base_len-remove_marks, inserted_len-append, inserted_len-insert_marks, inserted_len-keep_marks}
-pub use Rattle.sporc_delta.proofs.Lengths.{inserted_len-remove_marks, out_len-keep_marks}
+pub use Rattle.sporc_delta.proofs.Lengths.{inserted_len-remove_marks}
 pub use Rattle.sporc_delta.proofs.Runs.{marks_of-runs}
 pub use Rattle.sporc_delta.proofs.Spelled.{length-encode_all}
 pub use Rattle.sporc_delta.specs.Format.{HasSpelling, HaveSpellings, Spells, delta_bytes, part_bytes, parts_bytes}

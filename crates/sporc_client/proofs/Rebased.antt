@@ -1,13 +1,13 @@
 -- Another's form and the pending items pass each other: both ways lead to one text.
 use Rattle.std.proofs.Common.{◌≡◌, ℕ, suc, ◌+◌, ◌<◌, ◌≤◌, List, [], ◌∷◌, ◌++◌, length, drop, fold, get_or, refl, sym, ap, ◌∙◌, add-one, append_assoc, arith, take, set, subst, Option}
-use Rattle.sporc_client.proofs.Common.{MAX_TEXT_LEN, Mark, apply, base_len, inserted_len, insertion, insert_marks, out_len, keep_marks, earlier, later, compose, base_len-later, base_len-earlier}
+use Rattle.sporc_client.proofs.Common.{MAX_TEXT_LEN, Mark, apply, base_len, inserted_len, out_len, keep_marks, earlier, later, compose, base_len-later, base_len-earlier}
 use Rattle.sporc_client.proofs.Common.{inserted_len-earlier, out_len-le, length-apply, Pending, after_pending, AreOver, AreStated, beyond, inserted_by, rebased, in_one, length-append, length-take-le}
-use Rattle.sporc_client.proofs.Common.{append_nil, base_len-insert_marks, base_len-keep_marks, drop-cons, take-suc, CanAllBecome, ItemCanBecome, all_became, item_became}
+use Rattle.sporc_client.proofs.Common.{base_len-keep_marks, drop-cons, take-suc, CanAllBecome, ItemCanBecome, all_became, item_became}
 use Rattle.sporc_xform.proofs.LawLemmas.{later_merges, earlier_merges, composes}
 use Rattle.sporc_client.specs.declared.pending.Pending.TheVariants.{Edit, Change}
 use Rattle.sporc_xform.specs.declared.restating.Passed.{Passed}
 use Rattle.sporc_xform.proofs.InTurn.{apply-compose}
-use Rattle.sporc_client.proofs.Shown.{apply-insert_marks, apply-keep_marks}
+use Rattle.sporc_client.proofs.Shown.{apply-keep_marks}
 
 -- the text after pending items
 abbrev pub text_shown : List ℕ → List Pending → List ℕ
@@ -171,6 +171,17 @@ passed_one form all after next ps new p i item within is pushed one can_one form
       fits = rw form_one first.rest;
     }
 
+-- ---- pending edits one after the other
+
+-- the first of some items is stated on a text, and the others on that after it
+pub record FirstStated (text : List ℕ) (item : Pending) (others : List Pending) : Type 0 where
+  pub first : AreStated text (item ∷ [])
+  pub rest : AreStated (after_pending text item) others
+
+pub first_stated : (text : List ℕ) (item : Pending) (rest : List Pending) → AreStated text (item ∷ rest) → FirstStated text item rest
+first_stated text (Change change) rest stated = record { first = tt; rest = stated }
+first_stated text (Edit marks) rest stated = record { first = (stated.0, tt); rest = stated.1 }
+
 -- ---- pending edits in one
 
 pub record InOne (start : List Mark) (text : List ℕ) (pending : List Pending) : Type 0 where
@@ -188,27 +199,6 @@ all_in_one start text (Edit marks ∷ ps) base stated =
     let P : List ℕ → Type 0 = λ t. AreStated t ps in
     let rest = all_in_one (compose start marks) text ps ((composes start marks between).base ∙ base) (subst P (sym next) stated.1) in
     record { base = rest.base; text_is = rest.text_is ∙ ap (λ (t : List ℕ). fold after_pending t ps) next }
-
--- ---- one item more
-
-pub record FirstInOne (start : List Mark) (item : Pending) (rest : List Pending) : Type 0 where
-  pub over : AreOver (out_len start) (item ∷ [])
-  pub in_one_is : in_one start (item ∷ rest) ≡ in_one (in_one start (item ∷ [])) rest
-  pub rest_over : AreOver (out_len (in_one start (item ∷ []))) rest
-
-pub first_in_one : (start : List Mark) (item : Pending) (rest : List Pending) → AreOver (out_len start) (item ∷ rest) → FirstInOne start item rest
-first_in_one start (Change change) rest over = record { over = tt; in_one_is = refl; rest_over = over }
-first_in_one start (Edit marks) rest over =
-    let P : ℕ → Type 0 = λ n. AreOver n rest in
-    record { over = (over.0, tt); in_one_is = refl; rest_over = subst P (sym (composes start marks (sym over.0)).out) over.1 }
-
--- ---- a text and then what is pending
-
-pub insertion_base : (text : List ℕ) → base_len (insertion 0 0 text) ≡ 0
-insertion_base text = ap base_len (append_nil (insert_marks text)) ∙ base_len-insert_marks text
-
-pub insertion_text : (text : List ℕ) → apply (insertion 0 0 text) [] ≡ text
-insertion_text text = ap (λ (ms : List Mark). apply ms []) (append_nil (insert_marks text)) ∙ apply-insert_marks text
 
 -- all pending edits in one lead from a text to that with each of them applied
 pub pending_in_one : (text : List ℕ) (pending : List Pending) → AreStated text pending → InOne (keep_marks (length text)) text pending × (apply (in_one (keep_marks (length text)) pending) text ≡ fold after_pending text pending)

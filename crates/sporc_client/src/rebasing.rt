@@ -1,15 +1,17 @@
 //! Another's form and the pending items, passing each other.
 
-ghost use Rattle.std.specs.Prelude.{◌≡◌, ◌+◌, ◌≤◌, ◌∷◌, [], IfOk, OnOk};
-ghost use Rattle.sporc_delta.specs.Marks.{base_len, inserted_len, out_len, keep_marks};
-ghost use Rattle.sporc_delta.specs.declared.limits.TheConstants.{MAX_COUNT, MAX_TEXT_LEN};
+ghost use Rattle.std.specs.Prelude.{◌≡◌, ◌+◌, ◌≤◌, ◌∷◌, [], fold, IfOk, OnOk};
+ghost use Rattle.sporc_delta.specs.Marks.{base_len, inserted_len};
+ghost use Rattle.sporc_delta.specs.declared.limits.TheConstants.{MAX_TEXT_LEN};
 ghost use Rattle.sporc_client.specs.Passing.{CanAllBecome, ItemCanBecome, all_became, item_became};
-ghost use Rattle.sporc_client.specs.Rebasing.{AreOver, beyond, in_one, inserted_by, rebased};
+ghost use Rattle.sporc_client.specs.PlainClient.{after_pending};
+ghost use Rattle.sporc_client.specs.Rebasing.{AreOver, AreStated, beyond, inserted_by, rebased};
 
 use crate::pending::Pending;
 use sporc_base::Memory;
 use sporc_delta::Delta;
-use sporc_xform::{Passed, compose, pass};
+use sporc_text::Doc;
+use sporc_xform::{Passed, pass};
 use std::alloc::Global;
 
 /// What each pending item becomes behind another's form, None if it stays, and the form behind
@@ -88,26 +90,25 @@ fn put_one(passed: Option<Passed>, item: &mut Pending)
     }
 }
 
-/// The pending edits in one delta, over a text of `len` characters.
-pub(crate) fn in_one(alloc: Global, len: u64, items: &[Pending]) -> Result<Delta, Memory>
-    requires limit { len ≤ MAX_COUNT }
-    requires over { AreOver len items.now }
-    ensures value { IfOk result (λ d. d ≡ in_one (keep_marks len) items.now) }
+/// Applies pending edits to a text, one after the other. If memory runs out, the text is one in
+/// between.
+pub(crate) fn apply_all(text: &mut Doc, items: &[Pending]) -> Result<(), Memory>
+    requires stated { AreStated text.old items.now }
+    ensures value { OnOk result (text.new ≡ fold after_pending text.old items.now) }
 {
-    let mut all = Delta::keep_all(alloc, len)?;
     for item in items {
-        all = one_more(alloc, all, item)?;
+        apply_one(text, item)?;
     }
-    Ok(all)
+    Ok(())
 }
 
-// A delta and an item behind it, in one.
-fn one_more(alloc: Global, all: Delta, item: &Pending) -> Result<Delta, Memory>
-    requires over { AreOver (out_len all) (item.now ∷ []) }
-    ensures value { IfOk result (λ d. d ≡ in_one all (item.now ∷ [])) }
+// Applies a pending item to a text.
+fn apply_one(text: &mut Doc, item: &Pending) -> Result<(), Memory>
+    requires stated { AreStated text.old (item.now ∷ []) }
+    ensures value { OnOk result (text.new ≡ after_pending text.old item.now) }
 {
     match item {
-        Pending::Edit(delta) => compose(alloc, &all, delta),
-        Pending::Change(_) => Ok(all),
+        Pending::Edit(delta) => text.apply(delta),
+        Pending::Change(_) => Ok(()),
     }
 }

@@ -290,6 +290,13 @@ impl Line {
         self.key.as_ref()
     }
 
+    /// The committed text.
+    pub fn doc(&self) -> &Doc
+        ensures value { result.now ≡ text_of self.now.genesis self.now.kit self.now.entries }
+    {
+        &self.text
+    }
+
     /// The committed text as UTF-8.
     pub fn text(&self) -> Result<String, Memory>
         ensures ok { IfOk result (λ t. string_bytes t

@@ -36,6 +36,15 @@ impl Chunk {
         Ok(Chunk { characters })
     }
 
+    // A copy.
+    pub(crate) fn copy(&self, alloc: Global) -> Result<Chunk, Memory>
+        ensures { IfOk result (λ c. c ≡ self.now) }
+    {
+        let mut chunk = Chunk::new(alloc)?;
+        chunk.extend(self.characters());
+        Ok(chunk)
+    }
+
     pub(crate) fn len(&self) -> usize
         ensures value { result ≡ length self.now }
         ensures within { result ≤ MAX_CHUNK }

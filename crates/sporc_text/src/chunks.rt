@@ -1,7 +1,7 @@
 //! The chunks of a text.
 
 ghost use Rattle.std.specs.Prelude.{◌≡◌, ◌+◌, ◌-◌, ◌*◌, ◌^◌, ◌<◌, ◌≤◌, ◌++◌, ◌↔◌, IsTrue, []};
-ghost use Rattle.std.specs.Prelude.{length, take, drop, slice_index_or};
+ghost use Rattle.std.specs.Prelude.{length, take, drop, slice_index_or, IfOk};
 ghost use Rattle.std.specs.Bool.{OnTrue};
 ghost use Rattle.std.specs.List.{concat};
 ghost use Rattle.std.specs.Vec.{vec_capacity, vec_len};
@@ -12,8 +12,20 @@ ghost use Rattle.sporc_text.specs.ReadyTextModel.{replaced};
 
 use crate::chunk::{Chunk, cut};
 use crate::limits::{MAX_CHUNK, MAX_JOINED};
+use sporc_base::Memory;
 use std::alloc::Global;
 use std::vec::IntoIter;
+
+// Copies of chunks.
+pub(crate) fn copies(alloc: Global, chunks: &[Chunk]) -> Result<Vec<Chunk>, Memory>
+    ensures { IfOk result (λ copies. copies.items ≡ chunks.now) }
+{
+    let mut copies = Vec::with_capacity(alloc, chunks.len())?;
+    for chunk in chunks {
+        copies.push(chunk.copy(alloc)?)?;
+    }
+    Ok(copies)
+}
 
 // The first chunk that reaches to a place, and how many characters in front of the place it has.
 pub(crate) fn find(chunks: &[Chunk], place: usize) -> (usize, usize)

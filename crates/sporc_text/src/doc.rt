@@ -9,6 +9,7 @@ ghost use Rattle.sporc_text.specs.declared.limits.TheConstants.{MAX_CHUNK, MEAN_
 ghost use Rattle.sporc_text.specs.ReadyTextModel.{rewritten};
 
 use crate::chunk::Chunk;
+use crate::chunks::copies;
 use crate::ready::ReadyText;
 use sporc_base::Memory;
 use sporc_delta::Delta;
@@ -46,6 +47,17 @@ impl Doc {
             chunks: Vec::new(alloc),
             len: 0,
         }
+    }
+
+    /// A copy.
+    pub fn copy(&self) -> Result<Doc, Memory>
+        ensures ok { IfOk result (λ d. d ≡ self.now) }
+    {
+        let chunks = copies(*self.chunks.allocator(), self.chunks.as_slice())?;
+        Ok(Doc {
+            chunks,
+            len: self.len,
+        })
     }
 
     /// The number of characters.

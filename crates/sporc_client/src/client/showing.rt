@@ -3,9 +3,7 @@
 ghost use Rattle.std.specs.Prelude.{◌≡◌, ◌<◌, ◌≤◌, ◌↔◌, length, IsNone, IfSome, IfOk, OnOk};
 ghost use Rattle.std.specs.Prelude.{is_none, option_copied};
 ghost use Rattle.std.specs.String.{string_bytes};
-ghost use Rattle.std.specs.Str.{chars, encode_utf8_all};
-ghost use Rattle.sporc_delta.specs.Marks.{apply, base_len};
-ghost use Rattle.sporc_delta.specs.declared.limits.TheConstants.{MAX_COUNT};
+ghost use Rattle.std.specs.Str.{encode_utf8_all};
 ghost use Rattle.sporc_head.specs.History.{epoch_of};
 ghost use Rattle.sporc_line.specs.declared.limits.TheConstants.{MAX_COMMITTED_LEN};
 ghost use Rattle.sporc_line.specs.Document.{text_of};
@@ -16,13 +14,10 @@ ghost use Rattle.sporc_client.specs.ClientModel.{state_of};
 ghost use Rattle.sporc_client.specs.PlainClient.{committed_of, shown_after, shown_of};
 
 use super::Client;
-use crate::rebasing::in_one;
+use crate::rebasing::apply_all;
 use sporc_base::Memory;
-use sporc_delta::Delta;
 use sporc_line::Line;
 use sporc_outside::LeafDisk;
-use sporc_text::Doc;
-use std::alloc::Global;
 
 impl<D: LeafDisk> Client<D> {
     /// The committed text as UTF-8.
@@ -40,11 +35,13 @@ impl<D: LeafDisk> Client<D> {
             (λ t. string_bytes t ≡ encode_utf8_all (shown_of (state_of self.now))) }
         ensures within { OnOk result (length (shown_of (state_of self.now)) ≤ MAX_SHOWN_LEN) }
     {
-        let text = self.line.text()?;
-        let len = committed_len(&self.line);
         let pending = self.own.pending();
-        let all = in_one(self.alloc, len, pending)?;
-        let shown = edited(self.alloc, text.as_str(), &all)?;
+        if pending.is_empty() {
+            return self.line.text();
+        }
+        let mut doc = self.line.doc().copy()?;
+        apply_all(&mut doc, pending)?;
+        let shown = doc.text()?;
         Ok(shown)
     }
 
@@ -85,19 +82,4 @@ fn committed_len(line: &Line) -> u64
     ensures within { result ≤ MAX_COMMITTED_LEN }
 {
     line.text_len_at(line.len())
-}
-
-// A text after a delta.
-fn edited(alloc: Global, text: &str, delta: &Delta) -> Result<String, Memory>
-    requires base { base_len delta.now ≡ length (chars text.now) }
-    requires limit { length text.now ≤ MAX_COUNT }
-    ensures value { IfOk result
-        (λ t. string_bytes t ≡ encode_utf8_all (apply delta.now (chars text.now))) }
-{
-    let all = Delta::insert_at(alloc, 0, 0, text)?;
-    let mut doc = Doc::new(alloc);
-    doc.apply(&all)?;
-    doc.apply(delta)?;
-    let text = doc.text()?;
-    Ok(text)
 }
