@@ -24,6 +24,14 @@ link_string previous entry = 0x01 ∷ previous ++ sha256 (entry_string entry)
 abbrev pub next_value : List ℕ → List ℕ → List ℕ
 next_value previous entry = sha256 (link_string previous entry)
 
+-- the digest of an entry's own bytes, which needs no history
+abbrev pub entry_digest : List ℕ → List ℕ
+entry_digest entry = sha256 (entry_string entry)
+
+-- the chain's value after one entry more, by the digest of its bytes
+abbrev pub link_value : List ℕ → List ℕ → List ℕ
+link_value previous digest = sha256 (0x01 ∷ previous ++ digest)
+
 -- the chain's values before each entry and after the last, from a first value on
 unfoldable pub chain_after : List ℕ → List (List ℕ) → List (List ℕ)
 chain_after value [] = value ∷ []

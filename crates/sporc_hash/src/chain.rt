@@ -1,7 +1,8 @@
 //! The values of a history's chain, and commitments to keys.
 
 ghost use Rattle.std.specs.Prelude.{◌≡◌};
-ghost use Rattle.sporc_hash.specs.Chain.{genesis_value, next_value, commitment_of};
+ghost use Rattle.sporc_hash.specs.Chain.{genesis_value, next_value, entry_digest, link_value};
+ghost use Rattle.sporc_hash.specs.Chain.{commitment_of};
 
 use sha2::{Digest, Sha256};
 
@@ -18,20 +19,34 @@ pub fn genesis_hash(genesis: &[u8]) -> Digest32
     hasher.finalize()
 }
 
-/// The value of the chain after `entry`, the bytes of a whole entry, where the value before it is
-/// `prev`.
-pub fn next_hash(prev: &Digest32, entry: &[u8]) -> Digest32
-    ensures value { result ≡ next_value prev.now entry.now }
+/// The digest of `entry`, the bytes of a whole entry. It needs no history, and the chain's value
+/// after the entry needs nothing else of it.
+pub fn entry_hash(entry: &[u8]) -> Digest32
+    ensures value { result ≡ entry_digest entry.now }
 {
-    let mut inner = Sha256::new();
-    inner.update([0x02u8]);
-    inner.update(entry);
-    let digest = inner.finalize();
+    let mut hasher = Sha256::new();
+    hasher.update([0x02u8]);
+    hasher.update(entry);
+    hasher.finalize()
+}
+
+/// The value of the chain after an entry of this digest, where the value before it is `prev`.
+pub fn link_hash(prev: &Digest32, digest: &Digest32) -> Digest32
+    ensures value { result ≡ link_value prev.now digest.now }
+{
     let mut hasher = Sha256::new();
     hasher.update([0x01u8]);
     hasher.update(prev);
     hasher.update(digest);
     hasher.finalize()
+}
+
+/// The value of the chain after `entry`, the bytes of a whole entry, where the value before it is
+/// `prev`.
+pub fn next_hash(prev: &Digest32, entry: &[u8]) -> Digest32
+    ensures value { result ≡ next_value prev.now entry.now }
+{
+    link_hash(prev, &entry_hash(entry))
 }
 
 /// The commitment to the key of an epoch of a document.

@@ -24,5 +24,5 @@ mod chain;
 pub mod laws;
 mod verdict;
 
-pub use chain::{Digest32, commit, genesis_hash, next_hash};
+pub use chain::{Digest32, commit, entry_hash, genesis_hash, link_hash, next_hash};
 pub use verdict::{Verdict, compare};

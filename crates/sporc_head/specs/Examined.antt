@@ -1,6 +1,7 @@
 -- What examining an entry's signature finds, and the key that the check of a signature uses.
 use Rattle.std.specs.Prelude.{◌≡◌, ℕ, Bool, false, List, Option, None, Some, Result, Ok, Err}
 use Rattle.lms_tree.specs.LmsPublic.{public_key_in}
+use Rattle.sporc_hash.specs.Chain.{entry_digest}
 use Rattle.sporc_member.specs.Roster.{Roster, key_of}
 use Rattle.sporc_entry.specs.declared.entry.Entry.{Entry}
 use Rattle.sporc_entry.specs.declared.header.Header.{Header}
@@ -22,11 +23,12 @@ is_signed_read key (Err at) = false
 unfoldable pub is_verified : List ℕ → List ℕ → Bool
 is_verified key bytes = is_signed_read key (entry_of bytes)
 
--- a verdict tells exactly that of these bytes
-abbrev pub IsExact : Verdict → List ℕ → Type 0
-IsExact v bytes = v.good ≡ is_verified v.key bytes
+-- a verdict tells exactly that of these bytes, and what the chain links of them
+pub record IsExact (v : Verdict) (bytes : List ℕ) : Type 0 where
+  pub good : v.good ≡ is_verified v.key bytes
+  pub digest : v.digest ≡ entry_digest bytes
 
--- a verdict tells exactly that of an entry
+-- a verdict tells exactly whether an entry's signature verifies
 abbrev pub IsExactOf : Verdict → Entry → Type 0
 IsExactOf v e = v.good ≡ is_signed_under v.key e
 

@@ -2,13 +2,12 @@
 
 ghost use Rattle.std.specs.Prelude.{◌≡◌, ◌≤◌, ◌+◌, length, take, drop, IfOk};
 ghost use Rattle.std.specs.Option.{option_copied};
-ghost use Rattle.sporc_hash.specs.Chain.{next_value};
 ghost use Rattle.sporc_entry.specs.Entry.{change_of};
 ghost use Rattle.sporc_head.specs.History.{member_change_of};
 
 use sporc_base::{Bytes, Memory};
 use sporc_entry::{ChangeBody, EntryView, Header, body_at};
-use sporc_hash::{Digest32, next_hash};
+use sporc_hash::Digest32;
 use sporc_member::Change;
 use std::alloc::Global;
 use std::marker::Model;
@@ -37,21 +36,19 @@ impl Model for Checked {
 }
 
 impl Checked {
-    // An entry whose bytes are copied and hashed, after this value of the chain.
+    // An entry whose bytes are copied, with the value of the chain after it.
     pub(crate) fn copied(
         alloc: Global,
         view: EntryView<'_>,
-        before: &Digest32,
+        hash: Digest32,
     ) -> Result<Checked, Memory>
         ensures entry { IfOk result (λ checked. checked.entry ≡ view.entry.entry) }
         ensures bytes { IfOk result (λ checked. checked.bytes ≡ view.entry.bytes) }
-        ensures hash { IfOk result
-            (λ checked. checked.hash ≡ next_value before.now view.entry.bytes) }
+        ensures hash { IfOk result (λ checked. checked.hash ≡ hash) }
     {
         let header = *view.header();
         let body_len = view.body().len();
         let bytes = Bytes::copy_of(alloc, view.bytes())?;
-        let hash = next_hash(before, bytes.as_slice());
         let change = view.into_change();
         Ok(Checked {
             header,

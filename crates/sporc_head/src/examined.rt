@@ -1,4 +1,4 @@
-//! Signatures examined before an entry's turn.
+//! Entries examined before their turn.
 
 ghost use Rattle.std.specs.Prelude.{◌≡◌, IfOk, IfErr};
 ghost use Rattle.sporc_head.specs.Examined.{IsExact, is_verified};
@@ -6,11 +6,12 @@ ghost use Rattle.sporc_head.specs.Examined.{IsExact, is_verified};
 use crate::authors::verifies_under;
 use sporc_base::Memory;
 use sporc_entry::{EntryFault, EntryView};
+use sporc_hash::{Digest32, entry_hash};
 use std::alloc::{AllocError, Global};
 use std::marker::Model;
 
-/// What examining an entry's signature under a key found. It is of no use without the entry's
-/// bytes.
+/// What examining an entry found that needs no history: whether its signature verifies under a
+/// key, and the digest of its bytes. It is of no use without these.
 #[derive(Clone, Copy)]
 pub struct Verdict {
     /// The bytes of the key.
@@ -18,6 +19,8 @@ pub struct Verdict {
     /// Whether the bytes are an entry whose signature verifies under the key. No signature verifies
     /// under a key of no known type.
     pub good: bool,
+    /// The digest of the bytes, which the chain links.
+    pub digest: Digest32,
 }
 
 impl Verdict {
@@ -27,7 +30,12 @@ impl Verdict {
         ensures key { IfOk result (λ v. v.key ≡ key.now) }
     {
         let good = is_verified(alloc, key, entry)?;
-        Ok(Verdict { key: *key, good })
+        let digest = entry_hash(entry);
+        Ok(Verdict {
+            key: *key,
+            good,
+            digest,
+        })
     }
 }
 

@@ -5,7 +5,7 @@ ghost use Rattle.std.specs.Prelude.{option_map, None, Some, IfOk, IfErr, IfSome,
 ghost use Rattle.std.specs.Prelude.{IsTrue, ◌↔◌};
 ghost use Rattle.std.specs.List.{All};
 ghost use Rattle.sporc_base.specs.FirstFault.{Answers, AnswersUnless, first_of};
-ghost use Rattle.sporc_hash.specs.Chain.{chain};
+ghost use Rattle.sporc_hash.specs.Chain.{chain, next_value};
 ghost use Rattle.sporc_entry.specs.Genesis.{IsGenesis, genesis_bytes};
 ghost use Rattle.sporc_entry.specs.declared.limits.TheConstants.{MAX_ENTRY};
 ghost use Rattle.sporc_member.specs.Roster.{member_at, key_of};
@@ -27,7 +27,7 @@ use crate::refusal::Refusal;
 use crate::tables::{Tables, Tally, is_gone, record_entry, record_removal, tally_of};
 use sporc_base::{Memory, is_same};
 use sporc_entry::{EntryView, Genesis, Header, header_in, version_of, write_genesis};
-use sporc_hash::{Digest32, genesis_hash};
+use sporc_hash::{Digest32, genesis_hash, link_hash, next_hash};
 use sporc_member::{Change, Device, Roster};
 use std::alloc::Global;
 use std::marker::Model;
@@ -324,9 +324,22 @@ impl Heads {
         let alloc = *self.hashes.allocator();
         let view = EntryView::read(alloc, bytes)?;
         self.check_entry(alloc, me, pos, &view, known)?;
-        let before = self.hash_at(self.len());
-        let checked = Checked::copied(alloc, view, &before)?;
+        let hash = self.hash_after(bytes, known);
+        let checked = Checked::copied(alloc, view, hash)?;
         Ok(checked)
+    }
+
+    // The value of the chain after an entry of these bytes, as the next one. A digest that is known
+    // is not made anew.
+    fn hash_after(&self, bytes: &[u8], known: Option<&Verdict>) -> Digest32
+        requires exact { IfSome known (λ v. IsExact v.now bytes.now) }
+        ensures value { result ≡ next_value (hash_of self.now.genesis self.now.entries) bytes.now }
+    {
+        let before = self.hash_at(self.len());
+        match known {
+            Some(verdict) => link_hash(&before, &verdict.digest),
+            None => next_hash(&before, bytes),
+        }
     }
 
     // The checks of an entry.

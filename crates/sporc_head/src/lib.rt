@@ -2,8 +2,9 @@
 //! they look up.
 //!
 //! [`Heads`] holds a document's genesis and the bytes of its entries, at most [`MAX_ENTRIES`]. An
-//! entry is read once, where its bytes stand, and copied and hashed once, after all checks: so a
-//! refusal copies nothing.
+//! entry is read once, where its bytes stand, and copied once, after all checks: so a refusal
+//! copies nothing. It is hashed once for the chain: before its turn if it is examined then, or
+//! else after all checks.
 //!
 //! ```text
 //! // the first check that fails is the refusal

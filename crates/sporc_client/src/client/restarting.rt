@@ -19,6 +19,7 @@ use crate::fault::RestartFault;
 use crate::workspace::Workspace;
 use lms_sign::Signer;
 use sporc_base::Memory;
+use sporc_hash::entry_hash;
 use sporc_head::{Refusal, Verdict};
 use sporc_line::Line;
 use sporc_outside::LeafDisk;
@@ -150,7 +151,14 @@ fn good_verdict(line: &Line, bytes: &[u8]) -> Option<Verdict>
     ensures { IfSome result (λ verdict. IsExact verdict bytes.now) }
 {
     match line.key_for(bytes) {
-        Some(key) => Some(Verdict { key, good: true }),
+        Some(key) => {
+            let digest = entry_hash(bytes);
+            Some(Verdict {
+                key,
+                good: true,
+                digest,
+            })
+        }
         None => None,
     }
 }

@@ -1,5 +1,5 @@
-use Rattle.std.proofs.Common.{◌≡◌, ◌≤◌, ℕ, List, length, take, ap, sym, ◌∙◌, subst, arith, Result, Ok}
-use Rattle.sporc_head.proofs.Common.{take_all, next_value, Entry, entry_of, hash_of}
+use Rattle.std.proofs.Common.{◌≡◌, ◌≤◌, ℕ, List, length, ap, sym, ◌∙◌, subst, Result, Ok}
+use Rattle.sporc_head.proofs.Common.{next_value, Entry, entry_of, hash_of}
 use Rattle.sporc_entry.specs.declared.limits.TheConstants.{MAX_ENTRY}
 use Rattle.sporc_entry.specs.declared.fault.EntryFault.TheVariants.{Malformed}
 use Rattle.sporc_entry.proofs.FieldLaws.{fault_as_ok}
@@ -23,11 +23,9 @@ returns-clause-checked c =
     let found : entry_of c.args.bytes.now ≡ Ok c.in_ok-view.view.entry = fault_as_ok Malformed (entry_of c.args.bytes.now) c.in_ok-view.view.entry c.in_ok-view.ensures.value in
     let read : entry_of checked.bytes ≡ Ok checked.entry = ap entry_of same ∙ found ∙ ap made (sym c.in_ok-checked.ensures.entry) in
     let seen : entry_of checked.bytes ≡ Ok c.in_ok-view.view.entry = ap entry_of same ∙ found in
-    let all : length entries ≤ length entries = omega arith in
-    let last : c.hash_at-before.result ≡ hash_of g entries = c.hash_at-before.ensures.value ∙ ap (λ (n : ℕ). hash_of g (take n entries)) c.len.ensures.value ∙ ap (hash_of g) (take_all (length entries) entries all) in
     record {
       read = read;
       sized = subst (λ (b : List ℕ). length b ≤ MAX_ENTRY) (sym same) c.in_ok-view.ensures.within;
-      hash = c.in_ok-checked.ensures.hash ∙ ap (λ (v : List ℕ). next_value v c.in_ok-view.view.bytes) last ∙ ap (next_value (hash_of g entries)) (sym c.in_ok-checked.ensures.bytes);
+      hash = c.in_ok-checked.ensures.hash ∙ c.hash_after-hash.ensures.value ∙ ap (next_value (hash_of g entries)) (sym same);
       passed = fault_for_nobody g c.args.me entries c.args.pos checked.bytes (passed_of g c.args.me entries c.args.pos checked.bytes c.in_ok-view.view.entry seen c.in_ok-check_entry.ensures);
     }
