@@ -9,8 +9,8 @@ ghost use Rattle.sporc_wire.specs.declared.to_server.ToServer.TheVariants as to_
 ghost use Rattle.sporc_wire.specs.ToServer.{to_server_bytes};
 ghost use Rattle.sporc_wire.specs.Messages.{framed};
 ghost use Rattle.sporc_exchange.specs.Replies.{handed_out, unread_fault};
-ghost use Rattle.sporc_exchange.specs.Asking.{AskEnds, IsOutcomeOf, PullEnds, ReceiveEnds, SendEnds};
-ghost use Rattle.sporc_exchange.specs.Asking.{SubmitEnds};
+ghost use Rattle.sporc_exchange.specs.Asking.{AskEnds, IsOutcomeOf, PullEnds, ReceiveEnds};
+ghost use Rattle.sporc_exchange.specs.Asking.{SendEnds, SubmitEnds};
 ghost use Rattle.sporc_exchange.specs.Wires.{link_at};
 
 use crate::fault::ExchangeFault;
@@ -21,7 +21,7 @@ use sporc_outside::{Link, write_all};
 use sporc_wire::{Entries, FrameFault, ToClient, ToServer, write_submit, write_to_server};
 use std::alloc::{AllocError, Global};
 
-// What is sent to the server, however it is kept.
+/// What is sent to the server, however it is kept.
 pub trait Sent {
     // The message that it is.
     ghost message: { Self → ToServer };
@@ -62,7 +62,7 @@ fn fitting(frame: Result<Vec<u8>, FrameFault>) -> Result<Vec<u8>, Memory>
     }
 }
 
-// The Hello of a member, for a document.
+/// The Hello of a member, for a document.
 pub fn hello_of(document: &[u8; 16], member: u16) -> ToServer
     ensures value { result ≡ to_server.Hello document.now member }
     ensures within { length (to_server_bytes result) ≤ MAX_BODY }
@@ -73,7 +73,7 @@ pub fn hello_of(document: &[u8; 16], member: u16) -> ToServer
     }
 }
 
-// Sends a message.
+/// Sends a message.
 pub fn send<L: Link, M: Sent>(
     alloc: Global,
     link: &mut L,
@@ -157,7 +157,7 @@ fn entries_of(alloc: Global, from: u32, answer: ToClient) -> Option<Entries>
     }
 }
 
-// Pulls the entries after some.
+/// Pulls the entries after some.
 pub fn pull<L: Link>(
     alloc: Global,
     link: &mut L,
@@ -178,7 +178,7 @@ pub fn pull<L: Link>(
     }
 }
 
-// Sends an entry. The answer is that it was ordered, or why it was refused.
+/// Sends an entry. The answer is that it was ordered, or why it was refused.
 pub fn send_entry<L: Link>(
     alloc: Global,
     link: &mut L,

@@ -16,11 +16,11 @@ use std::marker::Model;
 /// The most bytes that one read asks for.
 pub const PIECE: usize = 4096;
 
-// The bytes that were taken off a link and not handed out. The last piece is held until it is cut
-// into frames, so that nothing is lost where memory runs out.
-//
-// Contracts see them, with the place of the first of them in the stream and how many were taken in
-// all.
+/// The bytes that were taken off a link and not handed out. The last piece is held until it is cut
+/// into frames, so that nothing is lost where memory runs out.
+///
+/// Contracts see them, with the place of the first of them in the stream and how many were taken in
+/// all.
 #[derive(Drop)]
 pub struct Inbox {
     frames: Frames,
@@ -48,7 +48,7 @@ impl Model for Inbox {
 }
 
 impl Inbox {
-    // Nothing was taken yet.
+    /// Nothing was taken yet.
     pub fn new(alloc: Global) -> Inbox
         ensures value { result ≡ empty_inbox }
     {
@@ -60,14 +60,14 @@ impl Inbox {
         }
     }
 
-    // The place of the next frame in the stream.
+    /// The place of the next frame in the stream.
     pub fn at(&self) -> u64
         ensures value { result ≡ self.now.at }
     {
         self.frames.at()
     }
 
-    // Takes a piece off a link, where no whole frame is there.
+    /// Takes a piece off a link, where no whole frame is there.
     pub fn read_piece<L: Link>(&mut self, link: &mut L) -> Result<(), ExchangeFault>
         requires held { self.old.held ≡ [] }
         requires waits { (next to_client_of (unread_of self.old)).answer ≡ Ok None }
@@ -100,7 +100,7 @@ impl Inbox {
         Ok(())
     }
 
-    // The next message. None exactly if no whole frame is there.
+    /// The next message. None exactly if no whole frame is there.
     pub fn next(&mut self) -> Result<Option<ToClient>, FrameFault>
         ensures value { GivesUnless FrameFault.Memory (λ found. found) result
             (next to_client_of (unread_of self.old)).answer }

@@ -1,7 +1,7 @@
 //! A history as one member reads it.
 
-ghost use Rattle.std.specs.Prelude.{◌≡◌, ◌-◌, ◌≤◌, [], drop, length, take, map, slice_get, Some, IfOk};
-ghost use Rattle.std.specs.Prelude.{is_none, option_copied, IsTrue, ◌↔◌};
+ghost use Rattle.std.specs.Prelude.{◌≡◌, ◌-◌, ◌≤◌, [], length, take, map, slice_get, Some, IfOk};
+ghost use Rattle.std.specs.Prelude.{drop, is_none, option_copied, IsTrue, ◌↔◌};
 ghost use Rattle.std.specs.String.{string_bytes};
 ghost use Rattle.std.specs.Str.{chars, encode_utf8_all};
 ghost use Rattle.std.specs.FinMap as map;
