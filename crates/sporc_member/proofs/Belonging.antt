@@ -124,7 +124,7 @@ pub live_first : (ds : List KeyedDevice) (upgraded : Bool) (d : Device) → AreF
 live_first ds upgraded d k h old = k old d (sym (has_key (λ l. same_device l.device d) ds) ∙ h)
 
 -- one who is no member has no device
-none_of : (n : ℕ) (ds : List KeyedDevice) → has_one_of n ds ≡ false → filter (λ d. eqb d.device.member n) ds ≡ []
+pub none_of : (n : ℕ) (ds : List KeyedDevice) → has_one_of n ds ≡ false → filter (λ d. eqb d.device.member n) ds ≡ []
 none_of n [] h = refl
 none_of n (d ∷ ds) h =
     let p = or_parts (eqb d.device.member n) (has_one_of n ds) h in

@@ -7,6 +7,8 @@ pub mod Belonging
 pub mod Sound
 pub mod PeopleOf
 pub mod Gone
+pub mod PeopleBack
+pub mod RosterBack
 pub mod SameDevice
 mod Examples
 pub mod Common

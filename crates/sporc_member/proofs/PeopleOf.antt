@@ -131,7 +131,7 @@ in_order_owned m low (o ∷ os) ds h stands order = (
   in_order_owned m (suc o.device) os ds h.1 stands order,
 )
 
-in_order_ever : (low : ℕ) (ps : List Person) → Above low (numbers ps) → list_all (λ p. ascend (map (λ o. o.device) p.devices)) ps ≡ true → AreInOrder (flat_map ever_of ps)
+pub in_order_ever : (low : ℕ) (ps : List Person) → Above low (numbers ps) → list_all (λ p. ascend (map (λ o. o.device) p.devices)) ps ≡ true → AreInOrder (flat_map ever_of ps)
 in_order_ever low [] h all = tt
 in_order_ever low (p ∷ ps) h all =
     let a = and_parts (ascend (map (λ o. o.device) p.devices)) (list_all (λ p. ascend (map (λ o. o.device) p.devices)) ps) all in
@@ -207,7 +207,7 @@ pub flagged_people : (ps : List Person) → flagged (flat_map flags_of ps) (flat
 flagged_people [] = refl
 flagged_people (p ∷ ps) = flagged_owned p.member p.devices (flat_map flags_of ps) (flat_map ever_of ps) ∙ ap (λ (l : List KeyedDevice). live_of p ++ l) (flagged_people ps)
 
-stands_flagged : (d : Device) (bs : List Bool) (ds : List KeyedDevice) → StandsBefore d ds → StandsBefore d (flagged bs ds)
+pub stands_flagged : (d : Device) (bs : List Bool) (ds : List KeyedDevice) → StandsBefore d ds → StandsBefore d (flagged bs ds)
 stands_flagged d [] ds h = tt
 stands_flagged d (b ∷ bs) [] h = tt
 stands_flagged d (true ∷ bs) (e ∷ ds) h = (h.0, stands_flagged d bs ds h.1)
@@ -237,6 +237,12 @@ live_behind d ds [] h = refl
 live_behind d ds (e ∷ es) h =
     ap (λ (b : Bool). cond (b || has_device e.device ds) (e ∷ filter (λ e. has_device e.device (d ∷ ds)) es) (filter (λ e. has_device e.device (d ∷ ds)) es)) (apart d.device e.device h.0).0
     ∙ ap (λ (l : List KeyedDevice). cond (has_device e.device ds) (e ∷ l) l) (live_behind d ds es h.1)
+
+pub live_behind_map : (d : KeyedDevice) (ds es : List KeyedDevice) → StandsBefore d.device es → map (λ e. has_device e.device (d ∷ ds)) es ≡ map (λ e. has_device e.device ds) es
+live_behind_map d ds [] h = refl
+live_behind_map d ds (e ∷ es) h =
+    ap (λ (b : Bool). (b || has_device e.device ds) ∷ map (λ e. has_device e.device (d ∷ ds)) es) (apart d.device e.device h.0).0
+    ∙ ap (λ (l : List Bool). has_device e.device ds ∷ l) (live_behind_map d ds es h.1)
 
 live_none : (es : List KeyedDevice) → filter (λ e. has_device e.device []) es ≡ []
 live_none [] = refl
