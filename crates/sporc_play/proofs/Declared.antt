@@ -4,6 +4,8 @@ use Rattle.sporc_play.proofs.Common.{filter_map, AllByRecursion, cons_option, fi
 use Rattle.sporc_play.proofs.Common.{Seat, declared_member, device_by, founder_by, founder_of, public_of, rogue_by, unpaired_by, HasDeclared, HasRogue, HasSat, HaveDeclared, HaveRogues, HaveSeats, IsFresh, IsFreshRogue, IsNamed}
 use Rattle.sporc_play.proofs.Common.{all_append, map-append, founders_by, rogue_devices, seated, Pair, Cast, Declared}
 use Rattle.sporc_script.specs.declared.command.Command.TheVariants as commands
+use Rattle.sporc_script.specs.declared.command.RosterEdit.{RosterEdit}
+use Rattle.sporc_script.specs.declared.sign.Forgery.{Forgery}
 
 -- one line more: what it adds to a list that is read off the lines
 more : {Y : Type 0} (f : Command → Option Y) (lines : List PlayLine) (l : PlayLine) (c : Command) → l.command ≡ c
@@ -116,6 +118,16 @@ cast_same tree lines l c cast known is nobody paired founder = record {
   founders = known.founders ∙ sym (founders_same tree lines l (ap founder_by is ∙ founder));
 }
 
+-- trees whose sizes are the same
+pub with_trees : (tree : Tree) (lines : List PlayLine) (cast : Cast) (trees : Tree) → trees ≡ cast.tree → HasDeclared tree lines cast → HasDeclared tree lines (record cast { tree = trees })
+with_trees tree lines cast trees same known = record {
+  tree_is = same ∙ known.tree_is;
+  declared = known.declared;
+  keys = known.keys;
+  unpaired = known.unpaired;
+  founders = known.founders;
+}
+
 -- ---- all of it
 
 pub all_declared : (tree : Tree) (lines : List PlayLine) (cast : Cast) (seats : List Seat) (rogues : List Rogue) → HasDeclared tree lines cast → HaveSeats tree lines seats → HaveRogues tree lines rogues → HaveDeclared tree lines cast seats rogues
@@ -123,12 +135,28 @@ all_declared tree lines cast seats rogues one two three = record { cast_is = one
 
 -- ---- a line that declares nothing
 
-record DeclaresNone (c : Command) : Type 0 where
-  declared : declared_member c ≡ None
-  unpaired : unpaired_by c ≡ None
-  founder : founder_by c ≡ None
-  device : device_by c ≡ None
-  rogue : rogue_by c ≡ None
+pub record DeclaresNone (c : Command) : Type 0 where
+  pub declared : declared_member c ≡ None
+  pub unpaired : unpaired_by c ≡ None
+  pub founder : founder_by c ≡ None
+  pub device : device_by c ≡ None
+  pub rogue : rogue_by c ≡ None
+
+pub nothing_by_change : (edit : RosterEdit) → DeclaresNone (commands.Change edit)
+nothing_by_change edit = record { declared = refl; unpaired = refl; founder = refl; device = refl; rogue = refl }
+
+pub nothing_by_sign : (forgery : Forgery) → DeclaresNone (commands.Sign forgery)
+nothing_by_sign forgery = record { declared = refl; unpaired = refl; founder = refl; device = refl; rogue = refl }
+
+pub nothing_more : (tree : Tree) (lines : List PlayLine) (l : PlayLine) (c : Command) (cast new : Cast) (seats : List Seat) (rogues : List Rogue) → l.command ≡ c → DeclaresNone c → new ≡ cast
+    → HaveDeclared tree lines cast seats rogues → HaveDeclared tree (lines ++ l ∷ []) new seats rogues
+nothing_more tree lines l c cast new seats rogues is none same known =
+    subst (λ (x : Cast). HaveDeclared tree (lines ++ l ∷ []) x seats rogues) (sym same)
+    (record {
+      cast_is = cast_same tree lines l c cast known.cast_is is none.declared none.unpaired none.founder;
+      seats_are = seats_same tree lines l c seats known.seats_are is none.device;
+      rogues_are = rogues_same tree lines l c rogues known.rogues_are is none.rogue;
+    })
 
 nothing_declared : (c : Command) → ((m : MemberRole) → c ≡ commands.Member m → ⊥) → ((m : MemberRole) → c ≡ commands.Rogue m → ⊥) → ((m : ℕ) → c ≡ commands.Joiner m → ⊥) → ((p : Pair) → c ≡ commands.Unpaired p → ⊥) → ((who : Device) → c ≡ commands.Device who → ⊥) → DeclaresNone c
 nothing_declared (commands.Member m) a b d e f = absurd (a m refl)
@@ -142,9 +170,4 @@ pub none_declared : (tree : Tree) (lines : List PlayLine) (l : PlayLine) (cast :
     → ((m : MemberRole) → l.command ≡ commands.Member m → ⊥) → ((m : MemberRole) → l.command ≡ commands.Rogue m → ⊥) → ((m : ℕ) → l.command ≡ commands.Joiner m → ⊥) → ((p : Pair) → l.command ≡ commands.Unpaired p → ⊥) → ((who : Device) → l.command ≡ commands.Device who → ⊥)
     → HaveDeclared tree lines cast seats rogues → HaveDeclared tree (lines ++ l ∷ []) cast seats rogues
 none_declared tree lines l cast seats rogues a b d e f known =
-    let none = nothing_declared l.command a b d e f in
-    record {
-      cast_is = cast_same tree lines l l.command cast known.cast_is refl none.declared none.unpaired none.founder;
-      seats_are = seats_same tree lines l l.command seats known.seats_are refl none.device;
-      rogues_are = rogues_same tree lines l l.command rogues known.rogues_are refl none.rogue;
-    }
+    nothing_more tree lines l l.command cast cast seats rogues refl (nothing_declared l.command a b d e f) refl known

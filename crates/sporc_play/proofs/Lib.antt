@@ -29,4 +29,5 @@ pub mod ShortTexts
 pub mod Submissions
 pub mod SubmitActs
 pub mod Submitted
+pub mod TreeKeys
 pub mod Common

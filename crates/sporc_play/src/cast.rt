@@ -1,33 +1,25 @@
 //! Who takes part in a play, and what each was given.
 
-ghost use Rattle.std.specs.Prelude.{◌≡◌, ◌≤◌, ◌^◌, [], false, length, map, IfOk, OnOk};
+ghost use Rattle.std.specs.Prelude.{◌≡◌, ◌≤◌, [], length, map, IfOk, OnOk};
 ghost use Rattle.std.specs.List.{list_any};
-ghost use Rattle.lms_leaf.specs.LeafFile.{IsLeafHeight};
-ghost use Rattle.lms_tree.specs.LmsType.{height_of};
 ghost use Rattle.sporc_client.specs.Run.{Setup, key_of_device};
 ghost use Rattle.sporc_epoch.specs.Keys.{pairs_in};
 ghost use Rattle.sporc_member.specs.Lists.{insert_by, place_among};
 ghost use Rattle.sporc_member.specs.Roster.{founder_numbers};
-ghost use Rattle.sporc_play.specs.Cast.{first_ring, genesis_by, is_pair, lms_type_of};
-ghost use Rattle.sporc_play.specs.Cast.{member_change, ots_type_of, pairs_among, private_of};
-ghost use Rattle.sporc_play.specs.Cast.{tree_of, with_pair};
+ghost use Rattle.sporc_play.specs.Cast.{first_ring, genesis_by, is_pair, member_change};
+ghost use Rattle.sporc_play.specs.Cast.{pairs_among, tree_of, with_pair};
 ghost use Rattle.sporc_play.specs.Forged.{IsSmallChange};
-ghost use Rattle.sporc_play.specs.Seats.{AreDrawn};
 ghost use Rattle.sporc_play.specs.Stage.{IsCastOf};
 
-use crate::derived::{document_number, first_key, identifier_of, pair_key, seed_of};
-use lms_leaf::{LeafOpenFault, Leaves, blank};
-use lms_ots::OtsType;
-use lms_sign::Signer;
-use lms_tree::{LmsType, Tree as SignatureTree};
+use crate::derived::{document_number, first_key, pair_key};
+use crate::trees::Trees;
 use sporc_base::Memory;
 use sporc_entry::{Founders, Genesis};
 use sporc_epoch::{Pairs, Ring};
 use sporc_hash::commit;
 use sporc_member::{Change, Device, Founder};
-use sporc_memory::{Calls, MemoryDisk};
-use sporc_script::{Command, Height, Pair, PlayLine, RosterChange, Tree, Width};
-use std::alloc::{AllocError, Global};
+use sporc_script::{Command, Height, Pair, PlayLine, RosterChange, Tree, What, Width};
+use std::alloc::Global;
 use std::collections::BTreeMap;
 
 /// One who is declared, with its public key.
@@ -38,10 +30,10 @@ pub struct Declared {
 }
 
 /// Who takes part in a play: all who are declared, the pairs of them that share no key, and the
-/// founders in ascending order of their numbers; with the sizes of all their trees.
+/// founders in ascending order of their numbers; with all their trees.
 #[derive(Drop)]
 pub struct Cast {
-    pub tree: Tree,
+    pub tree: Trees,
     pub declared: Vec<Declared>,
     pub unpaired: Vec<Pair>,
     pub founders: Vec<Founder>,
@@ -56,7 +48,7 @@ impl Cast {
         ensures founders { result.founders.items ≡ [] }
     {
         Cast {
-            tree,
+            tree: Trees::new(alloc, tree),
             declared: Vec::new(alloc),
             unpaired: Vec::new(alloc),
             founders: Vec::new(alloc),
@@ -108,8 +100,7 @@ impl Cast {
         self.unpaired.iter().any(|p| is_pair(one, other, p))
     }
 
-    // A device's public key. None is kept but those of the first devices of all who are declared:
-    // it is made anew.
+    // A device's public key: of the first device of one who is declared, or of another one.
     #[tactic(auto, using(sporc_member::proofs::SameDevice::same_one))]
     fn key_of(&self, alloc: Global, device: Device) -> Result<[u8; 56], Memory>
         ensures value { IfOk result
@@ -120,10 +111,27 @@ impl Cast {
                 return Ok(one.key);
             }
         }
-        let signer = signer_of(alloc, self.tree, device)?;
-        let key = signer.public().to_bytes();
-        drop(signer);
-        Ok(key)
+        self.tree.key_of(alloc, device)
+    }
+
+    /// Keeps the key of the device that a change adds, so that its tree is built once.
+    pub fn learn(&mut self, alloc: Global, change: &RosterChange) -> Result<(), Memory>
+        ensures unchanged { self.new ≡ self.old }
+    {
+        match change {
+            RosterChange::AddDevice(added) => self.tree.learn(alloc, *added),
+            _ => Ok(()),
+        }
+    }
+
+    /// Does so for a change that a rogue signs.
+    pub fn learn_of(&mut self, alloc: Global, what: &What) -> Result<(), Memory>
+        ensures unchanged { self.new ≡ self.old }
+    {
+        match what {
+            What::Change(change) => self.learn(alloc, change),
+            _ => Ok(()),
+        }
     }
 
     /// A change of the members. The key of a new one, and of a further device, is its own.
@@ -185,59 +193,6 @@ pub fn tree_of(lines: &[PlayLine]) -> Tree
             height: Height::Five,
             width: Width::Four,
         },
-    }
-}
-
-/// A device's signer, with a blank leaf file.
-pub fn signer_of(alloc: Global, tree: Tree, device: Device) -> Result<Signer<MemoryDisk>, Memory>
-    ensures key { IfOk result (λ signer. signer.key ≡ private_of tree device) }
-    ensures undrawn { IfOk result (λ signer. AreDrawn (private_of tree device) 0 signer.leaves) }
-{
-    let lms = lms_type_of(tree.height);
-    let ots = ots_type_of(tree.width);
-    let leaves = blank_leaves(alloc, lms.height())?;
-    match SignatureTree::build(alloc, &seed_of(device), &identifier_of(device), lms, ots) {
-        Ok(tree) => Ok(Signer::open(tree, leaves)),
-        Err(memory) => {
-            drop(leaves);
-            Err(memory)
-        }
-    }
-}
-
-fn lms_type_of(height: Height) -> LmsType
-    ensures value { result ≡ lms_type_of height }
-    ensures has_file { IsLeafHeight (height_of result) }
-{
-    match height {
-        Height::Five => LmsType::H5,
-        Height::Ten => LmsType::H10,
-    }
-}
-
-fn ots_type_of(width: Width) -> OtsType
-    ensures value { result ≡ ots_type_of width }
-{
-    match width {
-        Width::Four => OtsType::W4,
-        Width::Eight => OtsType::W8,
-    }
-}
-
-// The leaf numbers of a blank file. A disk in memory fails only if it finds no memory, which is
-// then the answer.
-fn blank_leaves(alloc: Global, height: u32) -> Result<Leaves<MemoryDisk>, Memory>
-    requires { IsLeafHeight height }
-    ensures next { IfOk result (λ leaves. leaves.next ≡ 0) }
-    ensures leaf_count { IfOk result (λ leaves. leaves.leaf_count ≡ 2 ^ height) }
-    ensures works { IfOk result (λ leaves. leaves.faulty ≡ false) }
-{
-    let bytes = blank(alloc, height)?;
-    let disk = MemoryDisk::new(alloc, bytes, Calls::failing(Vec::new(alloc)))?;
-    match Leaves::open(alloc, disk, height) {
-        Ok(leaves) => Ok(leaves),
-        Err((LeafOpenFault::BadLength(_), _)) => unreachable!(),
-        Err(_) => Err(AllocError),
     }
 }
 

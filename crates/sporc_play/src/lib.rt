@@ -34,6 +34,7 @@ mod playing;
 mod seat;
 mod signing;
 mod state;
+mod trees;
 
 pub use crate::fault::PlayFault;
 pub use crate::generated::play_generated;

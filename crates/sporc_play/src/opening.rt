@@ -13,8 +13,9 @@ ghost use Rattle.sporc_play.specs.Joined.{seat_open};
 ghost use Rattle.sporc_play.specs.Opening.{HasRogue, HasSat, HaveDeclared, IsNamed};
 ghost use Rattle.sporc_play.specs.Stage.{IsCastOf};
 
-use crate::cast::{Cast, Declared, first_ring, insert_founder, signer_of};
+use crate::cast::{Cast, Declared, first_ring, insert_founder};
 use crate::seat::{Rogue, Seat, open_seat};
+use crate::trees::Trees;
 use sporc_base::Memory;
 use sporc_entry::Genesis;
 use sporc_line::LineOpenFault;
@@ -22,7 +23,7 @@ use sporc_member::{Device, Founder};
 use sporc_script::{Command, MemberRole, PlayLine, Tree};
 use std::alloc::{AllocError, Global};
 
-/// Adds what a line declares.
+/// Adds what a line declares. Of a command the key of the device that it adds is made ready.
 pub fn declare(
     alloc: Global,
     cast: &mut Cast,
@@ -36,27 +37,29 @@ pub fn declare(
 {
     match &line.command {
         Command::Member(founder) => {
-            let key = add_seat(alloc, cast.tree, seats, Device::first(founder.member))?;
+            let key = add_seat(alloc, &cast.tree, seats, Device::first(founder.member))?;
             add_declared(cast, founder.member, key)?;
             add_founder(cast, founder, key)
         }
         Command::Rogue(founder) => {
-            let key = add_rogue(alloc, cast.tree, rogues, founder.member)?;
+            let key = add_rogue(alloc, &cast.tree, rogues, founder.member)?;
             add_declared(cast, founder.member, key)?;
             add_founder(cast, founder, key)
         }
         Command::Joiner(member) => {
-            let key = add_seat(alloc, cast.tree, seats, Device::first(*member))?;
+            let key = add_seat(alloc, &cast.tree, seats, Device::first(*member))?;
             add_declared(cast, *member, key)
         }
         Command::Device(device) => {
-            add_seat(alloc, cast.tree, seats, *device)?;
-            Ok(())
+            let key = add_seat(alloc, &cast.tree, seats, *device)?;
+            cast.tree.keep(*device, key)
         }
         Command::Unpaired(pair) => {
             cast.unpaired.push(*pair)?;
             Ok(())
         }
+        Command::Change(edit) => cast.learn(alloc, &edit.change),
+        Command::Sign(forgery) => cast.learn_of(alloc, &forgery.signed.what),
         _ => Ok(()),
     }
 }
@@ -64,14 +67,14 @@ pub fn declare(
 // A seat for a device that has or may get a client. Its public key.
 fn add_seat(
     alloc: Global,
-    tree: Tree,
+    trees: &Trees,
     seats: &mut Vec<Seat>,
     device: Device,
 ) -> Result<[u8; 56], Memory>
-    ensures key { IfOk result (λ key. key ≡ public_of tree device) }
-    ensures seats { OnOk result (HasSat tree device seats.old.items seats.new.items) }
+    ensures key { IfOk result (λ key. key ≡ public_of trees.now device) }
+    ensures seats { OnOk result (HasSat trees.now device seats.old.items seats.new.items) }
 {
-    let signer = signer_of(alloc, tree, device)?;
+    let signer = trees.signer(alloc, device)?;
     let key = signer.public().to_bytes();
     seats.push(Seat {
         device,
@@ -86,16 +89,16 @@ fn add_seat(
 // A signer for one for whom the script signs. Its public key.
 fn add_rogue(
     alloc: Global,
-    tree: Tree,
+    trees: &Trees,
     rogues: &mut Vec<Rogue>,
     member: u16,
 ) -> Result<[u8; 56], Memory>
-    ensures key { IfOk result (λ key. key ≡ public_of tree (first_device member)) }
+    ensures key { IfOk result (λ key. key ≡ public_of trees.now (first_device member)) }
     ensures rogues { OnOk result
-        (HasRogue tree (first_device member) rogues.old.items rogues.new.items) }
+        (HasRogue trees.now (first_device member) rogues.old.items rogues.new.items) }
 {
     let device = Device::first(member);
-    let signer = signer_of(alloc, tree, device)?;
+    let signer = trees.signer(alloc, device)?;
     let key = signer.public().to_bytes();
     rogues.push(Rogue {
         device,

@@ -1,8 +1,8 @@
-use Rattle.std.proofs.Common.{ap, refl, subst, ◌∙◌}
+use Rattle.std.proofs.Common.{◌++◌, ◌∷◌, [], ap, refl, subst, ◌∙◌}
 use Rattle.sporc_script.specs.declared.command.Command.TheVariants as commands
 use Rattle.sporc_play.proofs.Common.{Device, first_device, public_of, HasSat}
-use Rattle.sporc_play.proofs.Becoming.{ok_then}
-use Rattle.sporc_play.proofs.Declared.{all_declared, cast_same, founded, joined, none_declared, parted, rogues_more, rogues_same, seats_more, seats_same}
+use Rattle.sporc_play.proofs.Becoming.{ok_any, ok_then}
+use Rattle.sporc_play.proofs.Declared.{all_declared, cast_same, founded, joined, none_declared, nothing_by_change, nothing_by_sign, nothing_more, parted, rogues_more, rogues_same, seats_more, seats_same, with_trees}
 use Rattle.sporc_play.proofs.opening.declare.Goals as goal
 
 pub returns-in_ok-add_declared-in-Member : goal.returns-in_ok-add_declared-in-Member
@@ -51,17 +51,17 @@ returns-in_ok-key-in-Joiner c =
           (rogues_same tree lines line (commands.Joiner m) c.args.rogues.now.items known.rogues_are is refl));
     }
 
-pub returns-in_ok-add_seat-in-Device : goal.returns-in_ok-add_seat-in-Device
-returns-in_ok-add_seat-in-Device c =
+pub returns-in_ok-key-in-Device : goal.returns-in_ok-key-in-Device
+returns-in_ok-key-in-Device c =
     let line = c.args.line.now in
     let who = c.in-Device.device in
     let is = c.in-Device.is in
     let cast = c.args.cast.now in
     record {
-      ok = λ tree lines known. all_declared _ _ _ _ _
-          (cast_same tree lines line (commands.Device who) cast known.cast_is is refl refl refl)
-          (seats_more tree cast.tree lines line (commands.Device who) who c.args.seats.now.items c.add_seat-in-Device.new.seats.items known.seats_are known.cast_is.tree_is is refl c.in_ok-add_seat-in-Device.ensures.seats)
-          (rogues_same tree lines line (commands.Device who) c.args.rogues.now.items known.rogues_are is refl);
+      ok = ok_any c.keep.result _ (λ tree lines known. all_declared _ _ _ _ _
+          (with_trees tree (lines ++ line ∷ []) cast c.keep.new.self c.keep.ensures.unchanged (cast_same tree lines line (commands.Device who) cast known.cast_is is refl refl refl))
+          (seats_more tree cast.tree lines line (commands.Device who) who c.args.seats.now.items c.add_seat-in-Device.new.seats.items known.seats_are known.cast_is.tree_is is refl c.in_ok-key-in-Device.ensures.seats)
+          (rogues_same tree lines line (commands.Device who) c.args.rogues.now.items known.rogues_are is refl));
     }
 
 pub returns-in_ok-push-in-Unpaired : goal.returns-in_ok-push-in-Unpaired
@@ -75,6 +75,14 @@ returns-in_ok-push-in-Unpaired c =
           (seats_same tree lines line (commands.Unpaired pair) c.args.seats.now.items known.seats_are is refl)
           (rogues_same tree lines line (commands.Unpaired pair) c.args.rogues.now.items known.rogues_are is refl);
     }
+
+pub returns-in-Change : goal.returns-in-Change
+returns-in-Change c =
+    record { ok = ok_any c.learn.result _ (λ tree lines known. nothing_more tree lines c.args.line.now (commands.Change c.in-Change.edit) c.args.cast.now c.learn.new.self c.args.seats.now.items c.args.rogues.now.items c.in-Change.is (nothing_by_change c.in-Change.edit) c.learn.ensures.unchanged known) }
+
+pub returns-in-Sign : goal.returns-in-Sign
+returns-in-Sign c =
+    record { ok = ok_any c.learn_of.result _ (λ tree lines known. nothing_more tree lines c.args.line.now (commands.Sign c.in-Sign.forgery) c.args.cast.now c.learn_of.new.self c.args.seats.now.items c.args.rogues.now.items c.in-Sign.is (nothing_by_sign c.in-Sign.forgery) c.learn_of.ensures.unchanged known) }
 
 pub returns-in_default : goal.returns-in_default
 returns-in_default c =

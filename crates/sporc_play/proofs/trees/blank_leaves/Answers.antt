@@ -3,7 +3,7 @@ use Rattle.std.proofs.lemmas.List.{length-replicate}
 use Rattle.sporc_play.proofs.Common.{replicate, MemoryDiskModel, state_after, block_count, taken_blocks}
 use Rattle.lms_leaf.specs.declared.leaf_file.TheConstants.{LEAVES_PER_BLOCK}
 use Rattle.sporc_play.proofs.Blanks.{none_taken}
-use Rattle.sporc_play.proofs.cast.blank_leaves.Goals as goal
+use Rattle.sporc_play.proofs.trees.blank_leaves.Goals as goal
 
 pub unreachable-requires : goal.unreachable-requires
 unreachable-requires c =
