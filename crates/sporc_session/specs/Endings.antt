@@ -19,6 +19,7 @@ use Rattle.sporc_client.specs.Drawing.{MayDraw}
 use Rattle.sporc_client.specs.PlainClient.{PlainClient}
 use Rattle.sporc_client.specs.Submissions.{submission, submission_added}
 use Rattle.sporc_shared.specs.Items.{Item, Happened}
+use Rattle.sporc_exchange.specs.Replies.{IsAnswer}
 use Rattle.sporc_session.specs.declared.fault.SessionFault.{SessionFault}
 use Rattle.sporc_session.specs.declared.fault.SessionFault.TheVariants as faults
 use Rattle.sporc_session.specs.Acts.{Act, Take, Submit}
