@@ -1,0 +1,4 @@
+pub mod Edits
+pub mod Lines
+pub mod Machine
+pub mod Screens
