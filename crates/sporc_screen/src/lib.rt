@@ -28,12 +28,14 @@
 //! ```
 //!
 //! Proved: what each call does and answers, and which fault comes; that after out of memory all is
-//! as before; over every list of moves of an editor and a screen with a pipe each way, that each
-//! edit names a line and a place that are known, that a line that is applied leads to the text that
-//! was shown as it was written, and that both texts are one if nothing is under way
-//! ([`laws::lines_lead_to_the_text`]). Only tested: that memory suffices if there is ample.
-//! Neither: how long a call takes; that an editor keeps the rule, and that pipes keep lines and
-//! their order, which the law says of its machine.
+//! as before; over every list of moves of an editor and a screen with a pipe each way, while fewer
+//! than [`MAX_NAMED`] lines stand behind what the editor has, that each edit names a line and a
+//! place that are known, that a line that is applied leads to the text that was shown as it was
+//! written, and that both texts are one if nothing is under way
+//! ([`laws::lines_lead_to_the_text`]; no edit is refused there, and no text is written anew).
+//! Neither proved nor tested: how long a call takes; that an editor keeps the rule, and that pipes
+//! keep lines and their order, which the law says of its machine; that memory suffices if there is
+//! ample.
 #![tactic(auto)]
 
 mod edit;
