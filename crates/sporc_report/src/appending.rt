@@ -9,7 +9,7 @@ use itoa::Buffer;
 use sporc_base::Memory;
 use sporc_member::{Role, role_name};
 
-// Appends a word.
+/// Appends a word.
 pub fn push_word(out: &mut String, word: &str) -> Result<(), Memory>
     ensures ok { OnOk result (string_bytes out.new ≡ string_bytes out.old ++ word.now) }
     ensures memory { OnErr result (StartsWith (string_bytes out.new) (string_bytes out.old)) }
@@ -17,7 +17,7 @@ pub fn push_word(out: &mut String, word: &str) -> Result<(), Memory>
     out.push_str(word)
 }
 
-// Appends a number in decimal.
+/// Appends a number in decimal.
 pub fn push_decimal(out: &mut String, number: u64) -> Result<(), Memory>
     ensures ok { OnOk result (string_bytes out.new ≡ string_bytes out.old ++ decimal number) }
     ensures memory { OnErr result (StartsWith (string_bytes out.new) (string_bytes out.old)) }
@@ -26,7 +26,7 @@ pub fn push_decimal(out: &mut String, number: u64) -> Result<(), Memory>
     out.push_str(digits.format(number))
 }
 
-// Appends a word and a number behind it.
+/// Appends a word and a number behind it.
 pub fn push_counted(out: &mut String, word: &str, number: u64) -> Result<(), Memory>
     ensures ok { OnOk result
         (string_bytes out.new ≡ string_bytes out.old ++ (word.now ++ decimal number)) }
@@ -36,7 +36,7 @@ pub fn push_counted(out: &mut String, word: &str, number: u64) -> Result<(), Mem
     push_decimal(out, number)
 }
 
-// Appends a number with a word before it and one behind it.
+/// Appends a number with a word before it and one behind it.
 pub fn push_between(out: &mut String, before: &str, number: u64, behind: &str) -> Result<(), Memory>
     ensures ok { OnOk result (string_bytes out.new
         ≡ string_bytes out.old ++ (before.now ++ (decimal number ++ behind.now))) }

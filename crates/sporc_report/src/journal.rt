@@ -157,8 +157,8 @@ fn push_device_words(out: &mut String, word: &str, member: u16, device: u8) -> R
     push_counted(out, " ", u64::from(device))
 }
 
-// The parts of a delta, with a space between them, or `-` if there is none.
-pub(crate) fn push_delta(out: &mut String, delta: &Delta) -> Result<(), Memory>
+/// Appends the parts of a delta, with a space between them, or `-` if there is none.
+pub fn push_delta(out: &mut String, delta: &Delta) -> Result<(), Memory>
     ensures ok { OnOk result (string_bytes out.new ≡ string_bytes out.old ++ delta_text delta.now) }
     ensures memory { OnErr result (StartsWith (string_bytes out.new) (string_bytes out.old)) }
 {

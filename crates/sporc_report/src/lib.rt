@@ -25,12 +25,14 @@ mod names;
 mod quoted;
 mod showing;
 
+pub use crate::appending::{push_between, push_counted, push_decimal, push_word};
 pub use crate::entries::push_entries;
-pub use crate::journal::push_journal;
+pub use crate::journal::{push_delta, push_journal};
 pub use crate::names::{
     edit_fault_name, hint_fault_parts, open_fault_name, push_accept_fault, push_edit_fault,
     push_hint_fault, push_open_fault, push_submit_fault,
 };
+pub use crate::quoted::push_quoted;
 pub use crate::showing::{
     last_hash, push_device, push_digits, push_hash, push_members, push_number, push_show,
     push_start, push_verdict,

@@ -14,7 +14,7 @@ use sporc_base::{Memory, is_same};
 use sporc_member::{Device, Founder, KeyedDevice};
 use std::alloc::Global;
 
-// The command that the whole line spells, if there is one.
+/// The command that the whole line of an editor script spells, if there is one.
 #[tactic(auto, unfolding(crate::specs::EditorLines::editor_of))]
 pub fn read_editor_command(alloc: Global, line: &[u8]) -> Result<Option<EditorCommand>, Memory>
     ensures ok { IfOk result (λ found. found ≡ editor_of line.now) }

@@ -94,7 +94,7 @@ pub fn read_text_edit(alloc: Global, words: &[u8]) -> Result<Option<TextEdit>, M
     }
 }
 
-// `AT TEXT`
+/// What `AT TEXT` spells, if the words are that.
 #[tactic(auto, unfolding(crate::specs::Edits::insertion_of))]
 pub fn read_insertion(alloc: Global, words: &[u8]) -> Result<Option<Insertion>, Memory>
     ensures ok { IfOk result (λ found. found ≡ insertion_of words.now) }
@@ -111,7 +111,7 @@ pub fn read_insertion(alloc: Global, words: &[u8]) -> Result<Option<Insertion>, 
     Ok(Some(Insertion { at, text }))
 }
 
-// `AT COUNT`
+/// What `AT COUNT` spells, if the words are that.
 #[tactic(auto, unfolding(crate::specs::Edits::removal_of))]
 pub fn read_removal(words: &[u8]) -> Option<Removal>
     ensures value { result ≡ removal_of words.now }

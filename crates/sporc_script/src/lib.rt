@@ -2,8 +2,9 @@
 //!
 //! [`read_play`] reads a play, which declares members and then has commands, and [`read_editor`]
 //! the lines of one editor. Both answer the lines that are not skipped, with their numbers and the
-//! values that their words stand for, or the first line outside the grammar. The grammar stands in
-//! docs/FORMATS.md:
+//! values that their words stand for, or the first line outside the grammar. A grammar with lines
+//! like those of editors reads them by [`read_editor_command`], [`cut`] and the readers of edits. The
+//! grammar stands in docs/FORMATS.md:
 //!
 //! ```text
 //! member 1 admin
@@ -50,10 +51,12 @@ pub use command::{
     Command, DevicePair, Edit, Flip, Give, Height, Join, Pair, Restart, RosterEdit, Tree, Width,
 };
 pub use declared::MAX_DECLARED;
+pub use editor_commands::read_editor_command;
 pub use editor_line::{EditorCommand, EditorLine, KEY_BYTES};
 pub use editor_script::{EditorScript, read_editor};
+pub use edits::{read_insertion, read_removal};
 pub use limits::{MAX_EDITORS, MAX_GENERATED, MAX_SCRIPT_BYTES};
-pub use lines::LineFault;
+pub use lines::{LineFault, is_skipped};
 pub use member_role::MemberRole;
 pub use names::parse_role;
 pub use play_line::PlayLine;
@@ -61,4 +64,4 @@ pub use play_script::{PlayScript, read_play};
 pub use roster_change::RosterChange;
 pub use sign::{Forgery, Signed, Suffix, What};
 pub use text_edit::{Insertion, Removal, TextEdit};
-pub use words::{parse_device, parse_member, parse_u32, parse_u64};
+pub use words::{cut, parse_device, parse_member, parse_u32, parse_u64};

@@ -49,7 +49,7 @@ pub fn next_line(text: &[u8]) -> (&[u8], &[u8])
     }
 }
 
-// An empty line or a comment, in UTF-8.
+/// Whether the line is empty, or a comment in UTF-8.
 pub fn is_skipped(line: &[u8]) -> bool
     ensures value { IsTrue result ↔ IsSkipped line.now }
 {

@@ -39,7 +39,7 @@ fn ends_word(place: Place, b: u8) -> bool
     }
 }
 
-// The first word of a line that has more, and those after it.
+/// The first word of a line that has more, and those after it. A space within quotes ends no word.
 pub fn cut(line: &[u8]) -> Option<(&[u8], &[u8])>
     ensures value { MatchOption result (cut line.now ≡ None)
         (λ parts. cut line.now ≡ Some (parts.0.now, parts.1.now)) }
