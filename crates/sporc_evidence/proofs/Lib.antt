@@ -1,0 +1,5 @@
+pub mod FormatLaws
+pub mod Differences
+pub mod Signing
+pub mod Written
+mod Examples

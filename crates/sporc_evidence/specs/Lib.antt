@@ -1,0 +1,5 @@
+pub mod Summary
+pub mod SummaryBytes
+pub mod Evidence
+pub mod Summarizing
+pub mod Judging
