@@ -3,3 +3,5 @@ pub mod SummaryBytes
 pub mod Evidence
 pub mod Summarizing
 pub mod Judging
+pub mod Genuine
+pub mod Forks

@@ -20,10 +20,11 @@
 //! ```
 //!
 //! Proved: which bytes a summary is and which leaf signs it; the first fault of bytes that are no
-//! evidence; what is written reads back, and what is read is written so; and the judgment, which
-//! looks at every place. Only tested: that calls succeed with ample memory, and each fault by files
-//! with real signatures (`sporc_client_tests`). Neither: who lied, the server or one of the two
-//! who signed, and how long a call takes.
+//! evidence; what is written reads back, and what is read is written so; the judgment, which looks
+//! at every place; and what it shows of the histories ([`laws::forks_are_shown`]).
+//! Only tested: that calls succeed with ample memory, and each fault by files with real signatures
+//! (`sporc_client_tests`). Neither: who lied, the server or one of the two who signed, and how long
+//! a call takes.
 #![tactic(auto)]
 
 mod evidence;
