@@ -1,11 +1,11 @@
 # Holds what the program says of its commands against the documents, and prints the line of what does not fit:
 #
-#   crates/sporc_help/src/pages.rt     the overview has at most 24 lines of 80 columns, a page lines of 75; each command of the
-#                                      overview has a page, which begins with its words
-#   docs/MANUAL.md                     its first indented block is the overview's list of commands, line by line; each command
-#                                      has a heading of its words, and in the block's order
+#   crates/sporc_words/src     the overview of command.rt has at most 24 lines of 80 columns, a page lines of 75; each command of the
+#                              overview has a page, which begins with its words
+#   docs/MANUAL.md             its first indented block is the overview's list of commands, line by line; each command
+#                              has a heading of its words, and in the block's order
 #
-# Run by examples/documents, as awk -f examples/pages.awk crates/sporc_help/src/pages.rt docs/MANUAL.md.
+# Run by examples/documents, on command.rt and pages.rt, the commands' files beside them, and MANUAL.md.
 function wrong(what) { print FILENAME ":" FNR ": " what; failed = 1 }
 
 # The words of a line of the overview: up to two spaces.
@@ -16,8 +16,8 @@ FNR == 1 { name = ""; block = 0; heads = 0 }
 
 # ---- the pages
 
-FILENAME ~ /pages\.rt$/ && /^pub const [A-Z_]+: &str = "\\$/ { name = $3; sub(/:/, "", name); lines = 0; head = ""; next }
-FILENAME ~ /pages\.rt$/ && name && /^";$/ {
+FILENAME ~ /\.rt$/ && /^pub const [A-Z_]+: &str = "\\$/ { name = $3; sub(/:/, "", name); lines = 0; head = ""; next }
+FILENAME ~ /\.rt$/ && name && /^";$/ {
     if (name == "OVERVIEW" && lines > 24) wrong("the overview has " lines " lines")
     if (name != "OVERVIEW") {
         page[first_of(head)] = head
@@ -27,7 +27,7 @@ FILENAME ~ /pages\.rt$/ && name && /^";$/ {
     name = ""
     next
 }
-FILENAME ~ /pages\.rt$/ && name {
+FILENAME ~ /\.rt$/ && name {
     lines++
     if (length($0) > (name == "OVERVIEW" ? 80 : 75)) wrong("a line of " length($0) " columns")
     if (name == "OVERVIEW" && /^  /) {
@@ -41,7 +41,7 @@ FILENAME ~ /pages\.rt$/ && name {
     if (name != "OVERVIEW" && !ended) { text = $0; sub(/^sporc /, "", text); head = head ? head ", " text : text }
     next
 }
-FILENAME ~ /pages\.rt$/ { next }
+FILENAME ~ /\.rt$/ { next }
 
 # ---- the manual
 
@@ -65,6 +65,6 @@ END {
     for (file in seen) if (seen[file] != kinds) { print file ": " seen[file] " of " kinds " commands"; failed = 1 }
     if (shown != commands) { print "docs/MANUAL.md: " shown " of " commands " lines of the overview"; failed = 1 }
     if (!kinds) { print "no overview"; failed = 1 }
-    for (k = 1; k <= kinds; k++) if (!(order[k] in page)) { print "crates/sporc_help/src/pages.rt: no page of " order[k]; failed = 1 }
+    for (k = 1; k <= kinds; k++) if (!(order[k] in page)) { print "crates/sporc_words/src: no page of " order[k]; failed = 1 }
     exit failed
 }

@@ -10,6 +10,7 @@
 //!   the first of them.
 //! - [`list_entries`]: a line for each of its entries.
 //! - [`compare`]: how the saved history of one device stands to that of another.
+//! - [`help`] prints a page of the help, [`version`] the program's name and its version.
 //!
 //! ```text
 //! // plan.1.key, plan.1.leaf, and `key` with 112 digits
@@ -27,7 +28,8 @@
 //! ```
 //!
 //! Proved: of `keygen`, `found` and `public`, which files are asked for, which stand after each
-//! answer, of which words of the chance they are made, what is printed, and why a command failed.
+//! answer, of which words of the chance they are made, what is printed, and why a command failed;
+//! of `help` and `version`, that the text is written to the byte, or a prefix of it.
 //! For each other command one relation, in `specs/Outcomes.antt`, between its words, the folder and
 //! the sink as it found and left them, and its answer: what the files say is a function of their
 //! bytes (`Checking`, `Telling`, `Comparing`), whose first fault is answered, unless memory runs
@@ -43,6 +45,7 @@ mod comparing;
 mod entries;
 mod examining;
 mod founding;
+mod helping;
 mod key_making;
 mod key_showing;
 pub mod laws;
@@ -54,6 +57,7 @@ mod texts;
 pub use checking::check;
 pub use comparing::compare;
 pub use founding::found;
+pub use helping::{help, version};
 pub use key_making::keygen;
 pub use key_showing::public;
 pub use listing::list_entries;

@@ -26,7 +26,7 @@ pub use Rattle.sporc_outside.specs.Streams.{IsUnwritten, StreamTold}
 pub use Rattle.sporc_outside.specs.Uses.{Use}
 pub use Rattle.sporc_outside.specs.declared.named_file.NamedFile.{NamedFile}
 pub use Rattle.sporc_member.specs.declared.device.Device.{Device}
-pub use Rattle.sporc_clients.specs.Lives.{AreRuns, ClientRun, all_signed, life_of as life_of_client}
+pub use Rattle.lms_leaf.specs.Lives.{AreLives, GoesOn, IsLife, LeafLife, all_given}
 pub use Rattle.sporc_clients.specs.Uses.{from, until}
 pub use Rattle.sporc_top.specs.LeafFiles.{AreProgramRuns, FindsLeafFile, GoesOnOver, LeavesLeafFile, MakesLeafFile, ProgramRun, SignOnceOverRuns, all_signed_over, behind_then, by_command, by_end}
 pub use Rattle.sporc_top.specs.LeafFiles.{by_outcome, file_at, if_over, leaf_name, life_of, over_its_disk, over_leaf_file, signed_over}

@@ -1,8 +1,8 @@
 -- What each command of the program leaves of a leaf file.
-use Rattle.std.proofs.Common.{◌≡◌, ◌⊎◌, inl, inr, ℕ, ◌+◌, List, [], ◌∷◌, Bool, true, false, Option, Some, None, IsSome, option_map, Result, Ok, Err, refl, ap, sym, subst, ◌∙◌}
+use Rattle.std.proofs.Common.{◌≡◌, ◌⊎◌, inl, inr, ℕ, ◌+◌, List, [], ◌∷◌, Bool, true, false, Option, Some, None, IsSome, option_map, Result, Ok, Err, refl, ap, sym, subst, ◌∙◌, IfSome}
 use Rattle.sporc_top.proofs.Common.{⊤, AllByRecursion, ChangesFile, HasNoFile, IsDiskOf, with_file, NamedFile, StreamTold, DiskTold, Device, Client, Command, Keygen, Fault, FileNames}
 use Rattle.sporc_top.proofs.Common.{file_name, names_of_document, FoundOutcome, IsStoreFault, founding_files, by_command, file_at, if_over, leaf_name, over_its_disk, Performs, OutsideUse, client_use}
-use Rattle.sporc_top.proofs.Common.{bytes_eq, bytes_eq-Decides, Use, FolderTold, key_file_bytes, Found, StoresFirst, StoresPrefix, file_with, ClientRun, needs_of}
+use Rattle.sporc_top.proofs.Common.{bytes_eq, bytes_eq-Decides, Use, FolderTold, key_file_bytes, Found, StoresFirst, StoresPrefix, file_with, IsLife, LeafLife, disk_images, needs_of}
 use Rattle.std.proofs.lemmas.Bool.{cases_Bool}
 use Rattle.sporc_outside.specs.Chances.{ChanceTold}
 use Rattle.sporc_outside.specs.Nets.{NetTold}
@@ -26,6 +26,8 @@ use Rattle.sporc_hosting.specs.OpenLogModel.{OpenLogModel}
 use Rattle.sporc_hosting.specs.Saving.{KeepsLogs}
 use Rattle.sporc_clients.specs.Concluding.{SaveOutcome}
 use Rattle.sporc_clients.specs.declared.member_files.MemberFiles.{MemberFiles}
+use Rattle.sporc_clients.specs.Lives.{signed_in}
+use Rattle.sporc_clients.proofs.Lives.{run_is_life}
 use Rattle.sporc_clients.specs.Outcome.{ClientOutcome, ClientUse, DiskOutcome, names_of, no_disk, no_member, not_worked, over_disk, with_folder, worked}
 use Rattle.sporc_top.proofs.LeafFiles.{Keeps, kept_back, kept_changes, kept_first, kept_made, kept_prefix, kept_removed, kept_stores, kept_taken, kept_with, not_genesis, not_history, not_key, not_log, not_tail, own_back, own_is, own_tells, rings_others, told_by}
 
@@ -304,38 +306,41 @@ module _ (document : List ℕ) (device : Device) where
     ]
 
     -- over this one: the disk that was handed out had the file's bytes, and the file those of the one that came back
-    pub record HasBeenOver (before after : Option (List NamedFile)) (run : ClientRun disks) : Type 0 where
-      pub tells : IsSome (disks run.first).stored
-      pub first : (disks run.first).stored ≡ file_at name before
-      pub last : IsSome (disks run.last).stored → file_at name after ≡ (disks run.last).stored
+    pub record HasBeenOver (before after : Option (List NamedFile)) (life : LeafLife D) : Type 0 where
+      pub tells : IsSome (disks life.lent).stored
+      pub first : (disks life.lent).stored ≡ file_at name before
+      pub last : IsSome (disks life.last).stored → file_at name after ≡ (disks life.last).stored
+      pub is_life : ((disk : D) → IfSome (disks disk).stored (disk_images (disks disk))) → IsLife disks life
 
-    client_has : (words : Client) (did : ClientUse) (answer : Result ⊤ Fault) (outcome : ClientOutcome disks words did answer) (run : ClientRun disks)
-        → IsSome did.folder.before.files → IsSome did.folder.before.lent → if_over disks name (over_its_disk disks words did answer outcome) ≡ Some run
-        → HasBeenOver did.folder.before.files did.folder.after.files run
-    client_has words did answer (over_disk m first last during say lends over) run told lent some = go (bytes_eq (leaf_name words.name words.device) name) refl
+    client_has : (words : Client) (did : ClientUse) (answer : Result ⊤ Fault) (outcome : ClientOutcome disks words did answer) (life : LeafLife D)
+        → IsSome did.folder.before.files → IsSome did.folder.before.lent → if_over disks name (over_its_disk disks words did answer outcome) ≡ Some life
+        → HasBeenOver did.folder.before.files did.folder.after.files life
+    client_has words did answer (over_disk m first last during say lends over) life told lent some = go (bytes_eq (leaf_name words.name words.device) name) refl
       where
-        own : ClientRun disks
-        own = record { words = words; member = m; did = with_folder did during; first = first; last = last; answer = answer; outcome = over }
+        own : LeafLife D
+        own = record { lent = first; last = last; given = signed_in disks words m (with_folder did during) over }
 
         has : leaf_name words.name words.device ≡ name → HasBeenOver did.folder.before.files did.folder.after.files own
         has called =
             let (rest, is) = one_lent did.folder.before.lent lent in
             let stays = over_stays words m (with_folder did during) first last answer (told_same _ _ told lends.unchanged) over in
             let is_disk = subst (λ (n : List ℕ). IsDiskOf did.folder.before.files n (disks first).stored) called lends.is in
+            let tells = own_tells name did.folder.before.files (disks first).stored told is_disk in
             record {
-              tells = own_tells name did.folder.before.files (disks first).stored told is_disk;
+              tells = tells;
               first = own_is name did.folder.before.files (disks first).stored told is_disk;
               last = λ tells. own_back name during.after.lent during.after.files did.folder.after.files (disks last).stored rest
                   (lends.lent ∙ ap (option_map (λ names. leaf_name words.name words.device ∷ names)) is ∙ ap (λ (n : List ℕ). Some (n ∷ rest)) called) stays.1 tells lends.back;
+              is_life = λ images. run_is_life disks images words m (with_folder did during) first last answer over tells;
             }
 
-        go : (b : Bool) → bytes_eq (leaf_name words.name words.device) name ≡ b → HasBeenOver did.folder.before.files did.folder.after.files run
+        go : (b : Bool) → bytes_eq (leaf_name words.name words.device) name ≡ b → HasBeenOver did.folder.before.files did.folder.after.files life
         go true e =
             let both = rw e at some in
-            let same : own ≡ run = cc in
+            let same : own ≡ life = cc in
             subst (HasBeenOver did.folder.before.files did.folder.after.files) same (has ((bytes_eq-Decides (leaf_name words.name words.device) name).0 e))
         go false e = let clash = rw e at some in absurd cc
-    client_has words did answer outcome run told lent some = absurd cc
+    client_has words did answer outcome life told lent some = absurd cc
 
     -- ---- commands
 
@@ -354,23 +359,23 @@ module _ (document : List ℕ) (device : Device) where
         → ((needs_of asked).files ≡ false → outside.folder.after.files ≡ outside.folder.before.files)
         → IsSome outside.folder.before.files → IsSome outside.folder.before.lent → if_over disks name (by_command disks asked outside answer did) ≡ None
         → CommandLeaves asked outside.folder.before.files outside.folder.after.files answer
+    command_leaves commands.Play outside answer did unused told lent none = inl (ap (file_at name) (unused refl))
+    command_leaves (commands.Generate edits) outside answer did unused told lent none = inl (ap (file_at name) (unused refl))
+    command_leaves (commands.Help page) outside answer did unused told lent none = inl (ap (file_at name) (unused refl))
+    command_leaves commands.Version outside answer did unused told lent none = inl (ap (file_at name) (unused refl))
     command_leaves (commands.Keygen words) outside answer did unused told lent none =
         by_key words outside.folder.before.files outside.folder.after.files answer (keygen_leaves words outside.folder outside.chance outside.out answer told did.outcome)
     command_leaves (commands.Found words) outside answer did unused told lent none = inl (found_keeps words outside.folder outside.chance answer told did.outcome)
     command_leaves (commands.Serve words) outside answer did unused told lent none =
         inl (serve_keeps (names_of_document words.name) words.sessions words.times outside.folder outside.out _ _ answer told did.outcome)
-    command_leaves (commands.Client words) outside answer did unused told lent none = inl (client_keeps words (client_use outside) answer did.outcome told lent none)
-    command_leaves (commands.Check words) outside answer did unused told lent none = inl (ap (file_at name) did.reads.files)
-    command_leaves (commands.Compare words) outside answer did unused told lent none = inl (ap (file_at name) did.reads.files)
-    command_leaves (commands.Public words) outside answer did unused told lent none = inl (ap (file_at name) did.unchanged)
-    command_leaves (commands.Text words) outside answer did unused told lent none = inl (ap (file_at name) did.reads.files)
-    command_leaves (commands.Entries words) outside answer did unused told lent none = inl (ap (file_at name) did.reads.files)
     command_leaves (commands.ServeAll words) outside answer did unused told lent none =
         inl (serve_all_keeps words.names words.sessions words.times outside.folder outside.out _ _ answer told did.outcome)
-    command_leaves asked outside answer did unused told lent none = inl (ap (file_at name) (unused refl))
+    command_leaves (commands.Client words) outside answer did unused told lent none = inl (client_keeps words (client_use outside) answer did.outcome told lent none)
+    -- the others only read
+    command_leaves asked outside answer did unused told lent none = inl (ap (file_at name) did.reads.files)
 
-    pub command_has : (asked : Command) (outside : OutsideUse) (answer : Result ⊤ Fault) (did : Performs disks asked outside answer) (run : ClientRun disks)
-        → IsSome outside.folder.before.files → IsSome outside.folder.before.lent → if_over disks name (by_command disks asked outside answer did) ≡ Some run
-        → HasBeenOver outside.folder.before.files outside.folder.after.files run
-    command_has (commands.Client words) outside answer did run told lent some = client_has words (client_use outside) answer did.outcome run told lent some
-    command_has asked outside answer did run told lent some = absurd cc
+    pub command_has : (asked : Command) (outside : OutsideUse) (answer : Result ⊤ Fault) (did : Performs disks asked outside answer) (life : LeafLife D)
+        → IsSome outside.folder.before.files → IsSome outside.folder.before.lent → if_over disks name (by_command disks asked outside answer did) ≡ Some life
+        → HasBeenOver outside.folder.before.files outside.folder.after.files life
+    command_has (commands.Client words) outside answer did life told lent some = client_has words (client_use outside) answer did.outcome life told lent some
+    command_has asked outside answer did life told lent some = absurd cc

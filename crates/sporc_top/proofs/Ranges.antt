@@ -22,9 +22,9 @@ use Rattle.sporc_words.specs.declared.command.Verb.TheVariants as verbs
 use Rattle.sporc_words.specs.declared.standing.Participant.{Participant}
 use Rattle.sporc_words.specs.declared.defaults.TheConstants.{DEFAULT_ROUNDS, DEFAULT_TIMES, DEFAULT_UNTIL}
 use Rattle.sporc_words.specs.Arguments.{taken}
-use Rattle.sporc_words.specs.Commands.{app_for, check_in, client_in, command_by, command_in, command_of, compare_in, documents_of, entries_in, found_in, found_or, keygen_in, play_by, public_in, scripts_of, serve_all_in, serve_in, text_in, work_in}
+use Rattle.sporc_words.specs.Commands.{command_by, command_of, found_or, work_in}
 use Rattle.sporc_words.specs.Help.{help_in}
-use Rattle.sporc_words.specs.Verbs.{verb_of}
+use Rattle.sporc_words.specs.Verbs.{app_for, client_in, command_in, documents_of, found_in, keygen_in, play_by, scripts_of, serve_all_in, serve_in, verb_of}
 use Rattle.sporc_words.proofs.HelpLines.{told_by_help}
 use Rattle.sporc_words.specs.Values.{all_participants, is_between, is_colon, may_found, number_between, participant_by, participant_of, participants_of, standing_of, read_or, times_of, tree_of, value_of, value_or, values_of, width_named}
 use Rattle.sporc_top.specs.Ranges.{IsInRange}
@@ -181,18 +181,20 @@ module _ {A : Type 0} (read : List Row → Option A) (as_command : A → Command
       let made = map_some (read rows) as_command c is in
       subst IsInRange made.2 (ranges rows made.0 made.1)
 
+-- where none is told
+unranged : {A : Type 0} (found : Option A) (as_command : A → Command) (c : Command) → option_map as_command found ≡ Some c → ((asked : A) → IsInRange (as_command asked)) → IsInRange c
+unranged found as_command c is any =
+    let made = map_some found as_command c is in
+    subst IsInRange made.2 (any made.0)
+
 rows_ranges : (verb : Verb) (rows : List Row) (c : Command) → command_in verb rows ≡ Some c → IsInRange c
 rows_ranges verbs.Play rows c is = play_ranges (first_of (codes "generate") rows) c is
 rows_ranges verbs.Keygen rows c is = read_ranges keygen_in commands.Keygen keygen_ranges rows c is
 rows_ranges verbs.Found rows c is = read_ranges found_in commands.Found found_ranges rows c is
 rows_ranges verbs.Serve rows c is = read_ranges serve_in commands.Serve serve_ranges rows c is
 rows_ranges verbs.Client rows c is = read_ranges client_in commands.Client client_ranges rows c is
-rows_ranges verbs.Check rows c is = read_ranges check_in commands.Check (λ rows asked read. tt) rows c is
-rows_ranges verbs.Compare rows c is = read_ranges compare_in commands.Compare (λ rows asked read. tt) rows c is
-rows_ranges verbs.Public rows c is = read_ranges public_in commands.Public (λ rows asked read. tt) rows c is
-rows_ranges verbs.Text rows c is = read_ranges text_in commands.Text (λ rows asked read. tt) rows c is
-rows_ranges verbs.Entries rows c is = read_ranges entries_in commands.Entries (λ rows asked read. tt) rows c is
 rows_ranges verbs.ServeAll rows c is = read_ranges serve_all_in commands.ServeAll serve_all_ranges rows c is
+rows_ranges verb rows c is = unranged _ _ c is (λ asked. tt)
 
 verb_ranges : (verb : Verb) (words : List Text) (c : Command) → command_by verb words ≡ Some c → IsInRange c
 verb_ranges verb words c is =

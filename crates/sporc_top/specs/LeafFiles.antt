@@ -5,6 +5,7 @@ use Rattle.std.specs.Prelude.{IsSome, AllPairs, Result, Ok, Err, ⊤, bytes_eq, 
 use Rattle.sporc_outside.specs.Files.{HasNoFile, file_in}
 use Rattle.sporc_outside.specs.declared.named_file.NamedFile.{NamedFile}
 use Rattle.sporc_outside.specs.LeafDisk.{DiskTold, disk_images}
+use Rattle.lms_leaf.specs.Lives.{LeafLife}
 use Rattle.sporc_member.specs.declared.device.Device.{Device}
 use Rattle.sporc_words.specs.declared.client.Client.{Client}
 use Rattle.sporc_words.specs.declared.command.Command.{Command}
@@ -14,7 +15,7 @@ use Rattle.sporc_words.specs.Commands.{command_of}
 use Rattle.sporc_files.specs.declared.fault.Fault.{Fault}
 use Rattle.sporc_files.specs.declared.file.File.TheVariants.{Leaf}
 use Rattle.sporc_files.specs.Names.{file_name, names_of_document}
-use Rattle.sporc_clients.specs.Lives.{ClientRun, signed_in}
+use Rattle.sporc_clients.specs.Lives.{signed_in}
 use Rattle.sporc_clients.specs.Outcome.{ClientOutcome, ClientUse, no_disk, no_member, over_disk}
 use Rattle.sporc_clients.specs.Outcome.{with_folder}
 use Rattle.sporc_top.specs.Needs.{needs_by}
@@ -43,68 +44,58 @@ module _ {D : Type 0} (disks : D → DiskTold) where
     pub files : (needs_by (command_of words)).files ≡ false
         → outside.folder.after.files ≡ outside.folder.before.files
 
-  -- what `client` did over the disk of its leaf file, if that was handed out
+  -- a leaf file whose disk a command had handed out, and what was signed over that disk
+  pub record OverLeafFile : Type 0 where
+    pub name : List ℕ
+    pub life : LeafLife D
+
+  -- that of `client`, if its leaf file's disk was handed out
   abbrev pub over_its_disk : (words : Client) (did : ClientUse) (answer : Result ⊤ Fault)
-      → ClientOutcome disks words did answer → Option (ClientRun disks)
+      → ClientOutcome disks words did answer → Option OverLeafFile
   over_its_disk words did answer (no_member why same untouched) = None
   over_its_disk words did answer (no_disk m say why same untouched) = None
   over_its_disk words did answer (over_disk m first last during say lends over) = Some (record {
-    words = words;
-    member = m;
-    did = with_folder did during;
-    first = first;
-    last = last;
-    answer = answer;
-    outcome = over;
+    name = leaf_name words.name words.device;
+    life = record {
+      lent = first;
+      last = last;
+      given = signed_in disks words m (with_folder did during) over;
+    };
   })
 
-  -- no command but `client` has a disk handed out
+  -- a command that signs has a row here; no other one has a disk handed out
   abbrev pub by_command : (asked : Command) (outside : OutsideUse) (answer : Result ⊤ Fault)
-      → Performs disks asked outside answer → Option (ClientRun disks)
-  by_command commands.Play outside answer did = None
-  by_command (commands.Generate edits) outside answer did = None
-  by_command (commands.Keygen words) outside answer did = None
-  by_command (commands.Found words) outside answer did = None
-  by_command (commands.Serve words) outside answer did = None
+      → Performs disks asked outside answer → Option OverLeafFile
   by_command (commands.Client words) outside answer did =
       over_its_disk words (client_use outside) answer did.outcome
-  by_command (commands.Check words) outside answer did = None
-  by_command (commands.Compare words) outside answer did = None
-  by_command (commands.Help page) outside answer did = None
-  by_command commands.Version outside answer did = None
-  by_command (commands.Public words) outside answer did = None
-  by_command (commands.Text words) outside answer did = None
-  by_command (commands.Entries words) outside answer did = None
-  by_command (commands.ServeAll words) outside answer did = None
+  by_command asked outside answer did = None
 
   abbrev pub by_end : (asked : Command) (outside : OutsideUse) (status : ℕ)
       → Ends (λ out. Performs disks asked (record outside { out = out }))
-      (names_of asked) outside.out status → Option (ClientRun disks)
+      (names_of asked) outside.out status → Option OverLeafFile
   by_end asked outside status (done did) = by_command asked outside (Ok tt) did
   by_end asked outside status (stopped {fault} {between} did since line till) =
       by_command asked _ (Err fault) did
 
   abbrev pub by_outcome : (words : List (List ℕ)) (outside : OutsideUse) (status : ℕ)
-      → RunOutcome disks words outside status → Option (ClientRun disks)
+      → RunOutcome disks words outside status → Option OverLeafFile
   by_outcome words outside status (no_command asks unused line) = None
   by_outcome words outside status (unread unused line) = None
   by_outcome words outside status (command {asked} asks ends) = by_end asked outside status ends
 
   -- those over the leaf file with this name
-  abbrev pub if_over : List ℕ → Option (ClientRun disks) → Option (ClientRun disks)
+  abbrev pub if_over : List ℕ → Option OverLeafFile → Option (LeafLife D)
   if_over name None = None
-  if_over name (Some run) =
-      if bytes_eq (leaf_name run.words.name run.words.device) name then Some run else None
+  if_over name (Some over) = if bytes_eq over.name name then Some over.life else None
 
-  -- what a run of the program did over the disk of the leaf file with a name, if it had it handed
-  -- out: then it is one of `client`
-  abbrev pub over_leaf_file : List ℕ → ProgramRun → Option (ClientRun disks)
+  -- the life of the leaf file with a name in a run of the program, if that had its disk handed out
+  abbrev pub over_leaf_file : List ℕ → ProgramRun → Option (LeafLife D)
   over_leaf_file name run = if_over name (by_outcome run.words run.outside run.status run.outcome)
 
   -- the leaves that signed in that
-  abbrev pub signed_over : Option (ClientRun disks) → List ℕ
+  abbrev pub signed_over : Option (LeafLife D) → List ℕ
   signed_over None = []
-  signed_over (Some run) = signed_in disks run.words run.member run.did run.outcome
+  signed_over (Some life) = life.given
 
   -- and in several runs of the program, in their order
   abbrev pub all_signed_over : List ℕ → List ProgramRun → List ℕ
@@ -139,8 +130,8 @@ module _ {D : Type 0} (disk_told : D → DiskTold) (name : List ℕ) where
   abbrev pub Run : Type 0
   Run = ProgramRun disk_told
 
-  -- what it did over the leaf file
-  abbrev pub life_of : Run → Option (ClientRun disk_told)
+  -- the life of the leaf file in it
+  abbrev pub life_of : Run → Option (LeafLife D)
   life_of run = over_leaf_file disk_told name run
 
   -- The leaf file as the next run finds it: the one before left it so, or a crash did, of the disk
@@ -152,16 +143,16 @@ module _ {D : Type 0} (disk_told : D → DiskTold) (name : List ℕ) where
 
   -- a disk that is handed out tells its bytes to its end, and no crash leaves of it what it could
   -- not leave of the one before it
-  abbrev pub GoesOnOver : Option D → Option (ClientRun disk_told) → Type 0
+  abbrev pub GoesOnOver : Option D → Option (LeafLife D) → Type 0
   GoesOnOver behind None = ⊤
-  GoesOnOver None (Some run) = IsSome (disk_told run.last).stored
-  GoesOnOver (Some last) (Some run) = IsSome (disk_told run.last).stored × ((image : List ℕ)
-      → disk_images (disk_told run.first) image → disk_images (disk_told last) image)
+  GoesOnOver None (Some life) = IsSome (disk_told life.last).stored
+  GoesOnOver (Some last) (Some life) = IsSome (disk_told life.last).stored × ((image : List ℕ)
+      → disk_images (disk_told life.lent) image → disk_images (disk_told last) image)
 
   -- the disk that was behind the file last
-  abbrev pub behind_then : Option D → Option (ClientRun disk_told) → Option D
+  abbrev pub behind_then : Option D → Option (LeafLife D) → Option D
   behind_then behind None = behind
-  behind_then behind (Some run) = Some run.last
+  behind_then behind (Some life) = Some life.last
 
   -- Runs whatever their words and their ends. Once a disk was behind the file, none of them is a
   -- `keygen` that makes it at which something outside failed

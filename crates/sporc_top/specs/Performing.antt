@@ -12,9 +12,11 @@ use Rattle.sporc_words.specs.declared.command.Command.{Command}
 use Rattle.sporc_words.specs.declared.command.Command.TheVariants as commands
 use Rattle.sporc_words.specs.declared.found.Found.{Found}
 use Rattle.sporc_words.specs.declared.keygen.Keygen.{Keygen}
+use Rattle.sporc_words.specs.declared.pages.TheConstants.{VERSION}
 use Rattle.sporc_words.specs.declared.public.Public.{Public}
 use Rattle.sporc_words.specs.declared.serve.Serve.{Serve}
 use Rattle.sporc_words.specs.declared.serve_all.ServeAll.{ServeAll}
+use Rattle.sporc_words.specs.Pages.{page_text}
 use Rattle.sporc_play.specs.declared.fault.PlayFault.{PlayFault}
 use Rattle.sporc_play.specs.declared.fault.PlayFault.TheVariants as playing
 use Rattle.sporc_play.specs.Playing.{GeneratedFault, PlayOutcome, PlaysGenerated}
@@ -23,12 +25,11 @@ use Rattle.sporc_files.specs.declared.fault.Fault.TheVariants as faults
 use Rattle.sporc_files.specs.declared.file.File.{File}
 use Rattle.sporc_files.specs.declared.file.File.TheVariants as files
 use Rattle.sporc_files.specs.Names.{FileNames, file_name, names_of_document, names_of_documents}
-use Rattle.sporc_files.specs.Uses.{AsksAtMost, AsksOnly}
+use Rattle.sporc_files.specs.Uses.{AsksAtMost, AsksOnly, OnlyReads}
 use Rattle.sporc_commands.specs.Founding.{FoundOutcome, found_files}
 use Rattle.sporc_commands.specs.KeyMaking.{KeygenOutcome}
 use Rattle.sporc_commands.specs.KeyShowing.{PublicOutcome}
-use Rattle.sporc_help.specs.Pages.{page_text, version_text}
-use Rattle.sporc_help.specs.Telling.{TellsText}
+use Rattle.sporc_commands.specs.Lines.{Prints}
 use Rattle.sporc_commands.specs.Outcomes.{CheckOutcome, CompareOutcome, EntriesOutcome}
 use Rattle.sporc_commands.specs.Outcomes.{TextOutcome}
 use Rattle.sporc_hosting.specs.Outcomes.{ServeOutcome}
@@ -103,12 +104,11 @@ pub record MakesKey (words : Keygen) (folder : Use FolderTold) (chance : Use Cha
   pub may_ask : AsksFor (names_of_document words.name)
       (files.Key words.device ∷ files.Leaf words.device ∷ []) folder
 
--- the public key of a key that is there was printed, of one file alone, and none was changed
+-- the public key of a key that is there was printed, and one file alone was read
 pub record ShowsKey (words : Public) (folder : Use FolderTold) (out : Use StreamTold)
     (answer : Result ⊤ Fault) : Type 0 where
   pub outcome : PublicOutcome words folder out answer
-  pub unchanged : folder.after.files ≡ folder.before.files
-  pub may_ask : AsksFor (names_of_document words.name) (files.Key words.device ∷ []) folder
+  pub reads : OnlyReads (names_of_document words.name) (files.Key words.device ∷ []) folder
 
 -- a document was founded, of the files alone that its words name, and nothing was written of that
 pub record FoundsDocument (words : Found) (folder : Use FolderTold) (chance : Use ChanceTold)
@@ -170,8 +170,8 @@ module _ {D : Type 0} (disks : D → DiskTold) where
       CheckOutcome (names_of_document words.name) words.device outside.folder outside.out answer
   Performs (commands.Compare words) outside answer = CompareOutcome
       (names_of_document words.name) words.first words.second outside.folder outside.out answer
-  Performs (commands.Help page) outside answer = TellsText (page_text page) outside.out answer
-  Performs commands.Version outside answer = TellsText version_text outside.out answer
+  Performs (commands.Help page) outside answer = Prints outside.out (page_text page) answer
+  Performs commands.Version outside answer = Prints outside.out VERSION.now answer
   Performs (commands.Public words) outside answer = ShowsKey words outside.folder outside.out answer
   Performs (commands.Text words) outside answer = TextOutcome
       (names_of_document words.name) words.device words.at outside.folder outside.out answer

@@ -9,20 +9,14 @@ use Rattle.sporc_words.specs.declared.command.Command.{Command}
 use Rattle.sporc_words.specs.declared.command.Command.TheVariants as commands
 use Rattle.sporc_commands.specs.Founding.{MayFound}
 
+-- those of most commands have none but that of their types
 abbrev pub IsInRange : Command → Type 0
-IsInRange commands.Play = ⊤
 IsInRange (commands.Generate edits) = edits ≤ MAX_GENERATED
 IsInRange (commands.Keygen asked) = IsLeafHeight (height_of asked.height) × IsKeyWidth asked.width
 IsInRange (commands.Found asked) = MayFound asked
 IsInRange (commands.Serve asked) =
     (1 ≤ asked.sessions) × (asked.sessions ≤ MAX_SESSIONS) × (1 ≤ asked.times)
-IsInRange (commands.Client asked) = length asked.scripts ≤ MAX_EDITORS
-IsInRange (commands.Check asked) = ⊤
-IsInRange (commands.Compare asked) = ⊤
-IsInRange (commands.Help page) = ⊤
-IsInRange commands.Version = ⊤
-IsInRange (commands.Public asked) = ⊤
-IsInRange (commands.Text asked) = ⊤
-IsInRange (commands.Entries asked) = ⊤
 IsInRange (commands.ServeAll asked) = (length asked.names ≤ MAX_DOCUMENTS) × (1 ≤ asked.sessions)
     × (asked.sessions ≤ MAX_SESSIONS) × (1 ≤ asked.times)
+IsInRange (commands.Client asked) = length asked.scripts ≤ MAX_EDITORS
+IsInRange command = ⊤

@@ -12,9 +12,8 @@ ghost use Rattle.sporc_top.specs.Ranges.{IsInRange};
 ghost use Rattle.sporc_top.specs.Uses.{uses};
 
 use sporc_clients::{Platform, client};
-use sporc_commands::{check, compare, found, keygen, list_entries, public, text};
+use sporc_commands::{check, compare, found, help, keygen, list_entries, public, text, version};
 use sporc_files::{Fault, Names};
-use sporc_help::{help, version};
 use sporc_hosting::{serve, serve_all};
 use sporc_outside::{Chance, Dial, Folder, Gate, Listen, Sink, Source};
 use sporc_play::{PlayFault, play, play_generated};

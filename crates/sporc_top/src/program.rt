@@ -23,17 +23,8 @@ use std::thread::Threads;
 /// docs/MANUAL.md has them all, and the line on `out` by which each fault is told behind what the
 /// command has written.
 ///
-/// | Command | Beside `out` it uses |
-/// |---|---|
-/// | `play` | `source` |
-/// | `play --generate` | nothing |
-/// | `keygen`, `found` | `files` and `chance` |
-/// | `serve`, `serve-all` | `files`, `net` and `gate` |
-/// | `client` | `files`, `net`, `chance` and `gate` |
-/// | `check`, `text`, `entries` | `files` and `gate` |
-/// | `compare` | `files` |
-/// | `help`, `version` | nothing |
-/// | `public` | `files` |
+/// Which objects beside `out` it uses, `needs_of` in `specs/Needs.antt` says: most commands use
+/// `files` alone.
 ///
 /// A fault's line is written as far as `out` takes it, and nothing goes anywhere else. The status
 /// is 0 if the command did all its work, and else that of the fault which was told ([`Fault`]).

@@ -6,10 +6,10 @@ pub use Rattle.clap.specs.declared.error.ErrorKind.TheVariants.{OutOfMemory}
 pub use Rattle.std.proofs.lemmas.List.{drop_all, drop_more}
 pub use Rattle.std.proofs.lemmas.Option.{same_Some}
 pub use Rattle.std.specs.Prelude.{if◌then◌else◌, ⊤}
-pub use Rattle.sporc_script.proofs.Exact.{IsExact, map_some, named_exact}
+pub use Rattle.sporc_script.proofs.Exact.{map_some}
 pub use Rattle.sporc_script.specs.Readers.{member_of, then_read}
 pub use Rattle.sporc_words.specs.Arguments.{grammar_of, named, rule_for, with_all}
-pub use Rattle.sporc_words.specs.Commands.{app_for, command_of}
+pub use Rattle.sporc_words.specs.Commands.{command_of}
 pub use Rattle.sporc_words.specs.Values.{all_participants, has_twice}
-pub use Rattle.sporc_words.specs.Verbs.{verb_name, verb_of}
+pub use Rattle.sporc_words.specs.Verbs.{app_for, row_of, verb_of}
 pub use Rattle.sporc_words.specs.declared.command.Verb.{Verb}

@@ -1,6 +1,6 @@
 -- Lines that ask for help ask no command for its work.
 use Rattle.std.proofs.Common.{◌≡◌, ◌⊎◌, Bool, true, false, ◌||◌, List, [], ◌∷◌, codes, Option, None, Some, option_map, refl, sym, ap, ◌∙◌, subst, inl, inr}
-use Rattle.sporc_words.proofs.Common.{if◌then◌else◌, Text, then_read, same_Some, map_some, Verb, verb_name}
+use Rattle.sporc_words.proofs.Common.{if◌then◌else◌, Text, then_read, same_Some, map_some, Verb, row_of}
 use Rattle.std.specs.Str.{bytes_eq}
 use Rattle.std.proofs.lemmas.Slice.Eq.{bytes_eq-Decides}
 use Rattle.sporc_words.specs.declared.command.Command.{Command}
@@ -12,7 +12,7 @@ use Rattle.sporc_words.specs.Commands.{command_by, command_of, found_or, work_in
 use Rattle.sporc_words.specs.Help.{asks_overview, asks_version, help_in, of_both, of_one, page_of}
 use Rattle.sporc_words.specs.Verbs.{verb_of}
 use Rattle.sporc_words.proofs.Literals.{words_on_literals}
-use Rattle.sporc_words.proofs.VerbReader.{verb_exact}
+use Rattle.sporc_words.proofs.VerbReader.{named_by}
 
 -- ---- no work
 
@@ -20,7 +20,7 @@ no_verb : (word : Text) (rest : List Text) → verb_of word ≡ None → work_in
 unfolding work_in
 no_verb word rest none = ap (λ (o : Option Verb). then_read o (λ verb. command_by verb (word ∷ rest))) none
 
-no_command : (verb : Verb) → work_in (verb_name verb ∷ codes "--help" ∷ []) ≡ None
+no_command : (verb : Verb) → work_in ((row_of verb).word ∷ codes "--help" ∷ []) ≡ None
 unfolding words_on_literals
 no_command verbs.Play = refl
 no_command _ = refl
@@ -66,8 +66,7 @@ one_word word = go (asks_overview word) (asks_version word) refl refl
 behind_option : (first : Text) (found : Option Verb) → verb_of first ≡ found → work_in (first ∷ codes "--help" ∷ []) ≡ None
 behind_option first None is = no_verb first (codes "--help" ∷ []) is
 behind_option first (Some verb) is =
-    let named = verb_exact.sound first verb is in
-    subst (λ (word : Text). work_in (word ∷ codes "--help" ∷ []) ≡ None) (sym named.1) (no_command verb)
+    subst (λ (word : Text). work_in (word ∷ codes "--help" ∷ []) ≡ None) (sym (named_by first verb is)) (no_command verb)
 
 two_words : (first second : Text) → (of_both first second ≡ None) ⊎ (work_in (first ∷ second ∷ []) ≡ None)
 two_words first second = go (bytes_eq second (codes "--help")) (bytes_eq first (codes "help")) refl refl

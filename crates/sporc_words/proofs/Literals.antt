@@ -5,7 +5,7 @@ use Rattle.clap.proofs.OnLiterals.{clap_on_literals}
 use Rattle.sporc_script.specs.Plain.{role_of}
 use Rattle.sporc_script.specs.Readers.{device_of, further_number_of, member_of, u32_of}
 use Rattle.sporc_script.specs.Words.{number_of, split_at}
-use Rattle.sporc_words.specs.Arguments.{check_app, client_app, compare_app, entries_app, found_app, keygen_app, named, needed, optional, play_app, positional, public_app, repeated, serve_all_app, serve_app, taken, text_app, with_argument}
+use Rattle.sporc_words.specs.Arguments.{named, needed, optional, positional, repeated, taken, with_argument}
 use Rattle.sporc_words.specs.Commands.{command_by, command_of, work_in}
 use Rattle.sporc_words.specs.Help.{help_in}
 use Rattle.sporc_words.specs.Values.{participant_of, participants_of}
@@ -13,7 +13,7 @@ use Rattle.sporc_words.specs.Verbs.{verb_of}
 
 -- the command of a first word
 unfoldable pub app_on_literals : ⊤
-unfolding clap_on_literals named with_argument positional repeated optional needed play_app keygen_app found_app serve_app client_app check_app compare_app public_app text_app entries_app serve_all_app
+unfolding clap_on_literals named with_argument positional repeated optional needed
 app_on_literals = tt
 
 unfoldable pub words_on_literals : ⊤

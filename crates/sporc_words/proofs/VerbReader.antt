@@ -1,11 +1,13 @@
--- The reader of the first word is exact.
-use Rattle.std.proofs.Common.{◌≡◌, [], ◌∷◌, Some, refl}
-use Rattle.sporc_words.proofs.Common.{Verb, verb_name, IsExact, named_exact}
-use Rattle.sporc_words.specs.declared.command.Verb.TheVariants as verbs
+-- A word that names a command is its first word.
+use Rattle.std.proofs.Common.{◌≡◌, Some, sym}
+use Rattle.sporc_base.proofs.ListLemmas.{found_passes}
+use Rattle.sporc_words.proofs.Common.{Text, Verb, row_of}
+use Rattle.std.specs.Str.{bytes_eq}
+use Rattle.std.proofs.lemmas.Slice.Eq.{bytes_eq-Decides}
+use Rattle.sporc_words.specs.declared.command.TheConstants.{VERBS}
 use Rattle.sporc_words.specs.Verbs.{verb_of}
 
-pub verb_exact : IsExact Verb (λ _. Unit {0}) verb_name verb_of
+pub named_by : (word : Text) (verb : Verb) → verb_of word ≡ Some verb → word ≡ (row_of verb).word
 unfolding verb_of
-verb_exact = named_exact Verb verb_name
-    (verbs.Play ∷ verbs.Keygen ∷ verbs.Found ∷ verbs.Serve ∷ verbs.Client ∷ verbs.Check ∷ verbs.Compare ∷ verbs.Public ∷ verbs.Text ∷ verbs.Entries ∷ verbs.ServeAll ∷ [])
-    (λ v. elim v as (λ v. verb_of (verb_name v) ≡ Some v) [ verbs.Play ↦ refl | verbs.Keygen ↦ refl | verbs.Found ↦ refl | verbs.Serve ↦ refl | verbs.Client ↦ refl | verbs.Check ↦ refl | verbs.Compare ↦ refl | verbs.Public ↦ refl | verbs.Text ↦ refl | verbs.Entries ↦ refl | verbs.ServeAll ↦ refl ])
+named_by word verb is =
+    sym ((bytes_eq-Decides (row_of verb).word word).0 (found_passes (λ (v : Verb). bytes_eq (row_of v).word word) VERBS verb is))

@@ -1,5 +1,5 @@
 -- The arguments of each command, as the crate `clap` reads them.
-use Rattle.std.specs.Prelude.{codes, List, [], ◌∷◌, fold, Bool, true, ◌||◌, Option, None, Some}
+use Rattle.std.specs.Prelude.{List, fold, Bool, true, ◌||◌, Option, None, Some}
 use Rattle.std.specs.Prelude.{if◌then◌else◌}
 use Rattle.clap.specs.Faults.{fault_of}
 use Rattle.clap.specs.Simple.{App, app_of, matches_of, new_app, new_rule, with_rule}
@@ -52,61 +52,6 @@ with_argument app rule = with_rule app rule
 -- a command with these arguments more, in this order
 abbrev pub with_all : App → List Rule → App
 with_all = fold with_argument
-
--- `play --generate N`, or `play`
-unfoldable pub play_app : App
-play_app = with_all (named (codes "play")) (optional (codes "generate") ∷ [])
-
--- `keygen NAME M HEIGHT W`
-unfoldable pub keygen_app : App
-keygen_app = with_all (named (codes "keygen")) (positional (codes "NAME") ∷ positional (codes "M")
-    ∷ positional (codes "HEIGHT") ∷ positional (codes "W") ∷ [])
-
--- `found NAME M:ROLE ..`
-unfoldable pub found_app : App
-found_app =
-    with_all (named (codes "found")) (positional (codes "NAME") ∷ repeated (codes "M:ROLE") ∷ [])
-
--- `serve NAME ADDRESS --sessions K --times T`
-unfoldable pub serve_app : App
-serve_app = with_all (named (codes "serve")) (positional (codes "NAME")
-    ∷ positional (codes "ADDRESS") ∷ needed (codes "sessions") ∷ optional (codes "times") ∷ [])
-
--- `client NAME M ADDRESS --rounds R --until P SCRIPT ..`
-unfoldable pub client_app : App
-client_app = with_all (named (codes "client"))
-    (positional (codes "NAME") ∷ positional (codes "M") ∷ positional (codes "ADDRESS")
-    ∷ optional (codes "rounds") ∷ optional (codes "until") ∷ repeated (codes "SCRIPT") ∷ [])
-
--- `check NAME M`
-unfoldable pub check_app : App
-check_app =
-    with_all (named (codes "check")) (positional (codes "NAME") ∷ positional (codes "M") ∷ [])
-
--- `compare NAME M N`
-unfoldable pub compare_app : App
-compare_app = with_all (named (codes "compare"))
-    (positional (codes "NAME") ∷ positional (codes "M") ∷ positional (codes "N") ∷ [])
-
--- `public NAME M`
-unfoldable pub public_app : App
-public_app =
-    with_all (named (codes "public")) (positional (codes "NAME") ∷ positional (codes "M") ∷ [])
-
--- `text NAME M --at POS`
-unfoldable pub text_app : App
-text_app = with_all (named (codes "text"))
-    (positional (codes "NAME") ∷ positional (codes "M") ∷ optional (codes "at") ∷ [])
-
--- `entries NAME M --from POS`
-unfoldable pub entries_app : App
-entries_app = with_all (named (codes "entries"))
-    (positional (codes "NAME") ∷ positional (codes "M") ∷ optional (codes "from") ∷ [])
-
--- `serve-all ADDRESS --sessions K --times T NAME ..`
-unfoldable pub serve_all_app : App
-serve_all_app = with_all (named (codes "serve-all")) (positional (codes "ADDRESS")
-    ∷ needed (codes "sessions") ∷ optional (codes "times") ∷ repeated (codes "NAME") ∷ [])
 
 -- ---- words
 

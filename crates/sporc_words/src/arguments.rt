@@ -25,7 +25,7 @@ pub enum Kind {
 pub fn command_with<'a>(
     alloc: Global,
     name: &'a str,
-    arguments: &[(Kind, &'a str)],
+    arguments: &[(Kind, &'static str)],
 ) -> Result<Command<'a>, Memory>
     ensures ok { IfOk result (λ c. grammar_of c
         ≡ with_all (named name.entry.now) (map (λ a. rule_for a.0 a.1.now) arguments.entry.now)) }

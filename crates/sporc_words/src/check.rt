@@ -2,17 +2,50 @@
 
 ghost use Rattle.std.specs.Prelude.{◌≡◌, IfOk};
 ghost use Rattle.clap.specs.Words.{found_of, rows_of};
-ghost use Rattle.sporc_words.specs.Arguments.{check_app, grammar_of};
-ghost use Rattle.sporc_words.specs.Commands.{check_in};
+ghost use Rattle.sporc_words.specs.Verbs.{check_in};
 
-use crate::arguments::{Kind, command_with};
+use crate::arguments::Kind;
 use crate::matches::value;
 use crate::values::device_value;
 use crate::word::Word;
-use clap::{ArgMatches, Command};
+use clap::ArgMatches;
 use sporc_base::Memory;
 use sporc_member::Device;
 use std::alloc::Global;
+
+/// Its first word.
+pub const WORD: &str = "check";
+
+/// Its arguments, in their order.
+pub const ARGUMENTS: &[(Kind, &str)] = &[(Kind::Positional, "NAME"), (Kind::Positional, "M")];
+
+/// Its page of the help.
+pub const PAGE: &str = "\
+sporc check NAME M
+
+Checks every entry of a device's saved history, signatures and keys too, as
+the device's client does, and prints how many entries there are.
+
+  NAME  the document's name: the path that its files' names begin with
+  M     the member's number, 1 to 65535, for its first device; M.D for a
+        further one, D from 1 to 255
+
+Files: reads NAME.genesis, NAME.M.key, NAME.M.ring and NAME.M.history; for
+M.D NAME.M.D.key and NAME.M.D.history in place of the device's two.
+
+Example:
+
+  sporc check trip 2
+
+Statuses:
+
+  0  every entry is right
+  1  memory ran out
+  2  the words are not these, or one is out of its range
+  3  a file is missing, too long or malformed
+  4  an entry fails a check, or the keys do not open the document
+  6  a file or standard output failed
+";
 
 /// What `check` is asked for.
 #[derive(Drop)]
@@ -21,18 +54,6 @@ pub struct Check {
     pub name: Word,
     /// The device.
     pub device: Device,
-}
-
-/// The command `check`.
-#[tactic(auto, unfolding(crate::specs::Arguments::check_app))]
-pub fn check_command<'a>(alloc: Global) -> Result<Command<'a>, Memory>
-    ensures ok { IfOk result (λ c. grammar_of c ≡ check_app) }
-{
-    command_with(
-        alloc,
-        "check",
-        &[(Kind::Positional, "NAME"), (Kind::Positional, "M")],
-    )
 }
 
 /// What is asked for, by the values of the arguments.

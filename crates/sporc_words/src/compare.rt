@@ -2,17 +2,55 @@
 
 ghost use Rattle.std.specs.Prelude.{◌≡◌, IfOk};
 ghost use Rattle.clap.specs.Words.{found_of, rows_of};
-ghost use Rattle.sporc_words.specs.Arguments.{compare_app, grammar_of};
-ghost use Rattle.sporc_words.specs.Commands.{compare_in};
+ghost use Rattle.sporc_words.specs.Verbs.{compare_in};
 
-use crate::arguments::{Kind, command_with};
+use crate::arguments::Kind;
 use crate::matches::value;
 use crate::values::device_value;
 use crate::word::Word;
-use clap::{ArgMatches, Command};
+use clap::ArgMatches;
 use sporc_base::Memory;
 use sporc_member::Device;
 use std::alloc::Global;
+
+/// Its first word.
+pub const WORD: &str = "compare";
+
+/// Its arguments, in their order.
+pub const ARGUMENTS: &[(Kind, &str)] = &[
+    (Kind::Positional, "NAME"),
+    (Kind::Positional, "M"),
+    (Kind::Positional, "N"),
+];
+
+/// Its page of the help.
+pub const PAGE: &str = "\
+sporc compare NAME M N
+
+Prints how the saved history of M stands to that of N, without checking
+their entries: same, prefix, longer, or forked after so many entries, if a
+server told the two of them two stories.
+
+  NAME  the document's name: the path that its files' names begin with
+  M, N  two members' numbers, 1 to 65535, for their first devices; M.D for
+        a further one, D from 1 to 255
+
+Files: reads NAME.genesis, NAME.M.history and NAME.N.history, or
+NAME.M.D.history in place of each.
+
+Examples:
+
+  sporc compare trip 1 2
+  sporc compare trip 1 1.1
+
+Statuses:
+
+  0  the line is printed
+  1  memory ran out
+  2  the words are not these, or one is out of its range
+  3  a file is missing, too long or malformed
+  6  a file or standard output failed
+";
 
 /// What `compare` is asked for. The two devices may be the same.
 #[derive(Drop)]
@@ -23,22 +61,6 @@ pub struct Compare {
     pub first: Device,
     /// The other device.
     pub second: Device,
-}
-
-/// The command `compare`.
-#[tactic(auto, unfolding(crate::specs::Arguments::compare_app))]
-pub fn compare_command<'a>(alloc: Global) -> Result<Command<'a>, Memory>
-    ensures ok { IfOk result (λ c. grammar_of c ≡ compare_app) }
-{
-    command_with(
-        alloc,
-        "compare",
-        &[
-            (Kind::Positional, "NAME"),
-            (Kind::Positional, "M"),
-            (Kind::Positional, "N"),
-        ],
-    )
 }
 
 /// What is asked for, by the values of the arguments.

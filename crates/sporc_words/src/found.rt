@@ -2,17 +2,51 @@
 
 ghost use Rattle.std.specs.Prelude.{◌≡◌, IfOk};
 ghost use Rattle.clap.specs.Words.{found_of, rows_of};
-ghost use Rattle.sporc_words.specs.Arguments.{found_app, grammar_of};
-ghost use Rattle.sporc_words.specs.Commands.{found_in};
+ghost use Rattle.sporc_words.specs.Verbs.{found_in};
 
-use crate::arguments::{Kind, command_with};
+use crate::arguments::Kind;
 use crate::matches::value;
 use crate::participants::participants_value;
 use crate::standing::Participant;
 use crate::word::Word;
-use clap::{ArgMatches, Command};
+use clap::ArgMatches;
 use sporc_base::{Items, Memory};
 use std::alloc::Global;
+
+/// Its first word.
+pub const WORD: &str = "found";
+
+/// Its arguments, in their order.
+pub const ARGUMENTS: &[(Kind, &str)] = &[(Kind::Positional, "NAME"), (Kind::Repeated, "M:ROLE")];
+
+/// Its page of the help.
+pub const PAGE: &str = "\
+sporc found NAME M:ROLE ..
+
+Makes a document of its founders and of those who may be added later. Files
+of these names are replaced: found over a document in use makes another.
+
+  NAME  the document's name: the path that its files' names begin with
+  M     a member's number, 1 to 65535; each once, and at most 64
+  ROLE  reader, editor, admin or joiner; at least one is an admin. A joiner
+        has no right before an admin adds it, and needs no key yet
+
+Files: reads NAME.M.key of each founder, the key of its first device; makes
+NAME.genesis, which everyone needs, and NAME.M.ring, a secret of M, for
+each number that is named.
+
+Example:
+
+  sporc found trip 1:admin 2:editor 3:reader 4:joiner
+
+Statuses:
+
+  0  the document is made
+  1  memory ran out
+  2  the words are not these, or one is out of its range
+  3  a founder's key file is missing, too long or malformed
+  6  a file or the system's random bytes failed
+";
 
 /// What `found` is asked for.
 #[derive(Drop)]
@@ -22,18 +56,6 @@ pub struct Found {
     /// Those who are named, in the order of the words: at most `sporc_member::MAX_MEMBERS`, each
     /// number once, and an admin among them.
     pub participants: Items<Participant>,
-}
-
-/// The command `found`.
-#[tactic(auto, unfolding(crate::specs::Arguments::found_app))]
-pub fn found_command<'a>(alloc: Global) -> Result<Command<'a>, Memory>
-    ensures ok { IfOk result (λ c. grammar_of c ≡ found_app) }
-{
-    command_with(
-        alloc,
-        "found",
-        &[(Kind::Positional, "NAME"), (Kind::Repeated, "M:ROLE")],
-    )
 }
 
 /// What is asked for, by the values of the arguments.

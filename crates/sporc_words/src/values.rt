@@ -4,7 +4,7 @@ ghost use Rattle.std.specs.Prelude.{◌≡◌, IfOk};
 ghost use Rattle.clap.specs.Walk.{texts};
 ghost use Rattle.clap.specs.Words.{found_of, rows_of};
 ghost use Rattle.sporc_script.specs.Readers.{device_of, u32_of};
-ghost use Rattle.sporc_words.specs.Commands.{documents_of, scripts_of};
+ghost use Rattle.sporc_words.specs.Verbs.{documents_of, scripts_of};
 ghost use Rattle.sporc_words.specs.Values.{number_between, number_if, times_of, tree_of, value_of};
 ghost use Rattle.sporc_words.specs.Values.{value_or, values_of, width_named};
 

@@ -1,4 +1,4 @@
-use Rattle.sporc_top.proofs.Working.{by_client, by_serve, by_serve_all}
+use Rattle.sporc_top.proofs.Working.{by_client, by_public, by_serve, by_serve_all}
 use Rattle.sporc_top.proofs.performing.perform.Goals as goal
 
 pub returns-in-Serve-clause-outcome : goal.returns-in-Serve-clause-outcome
@@ -8,6 +8,13 @@ returns-in-Serve-clause-outcome g c =
       files_may_ask = c.serve.ensures.files_may_ask;
       net_may_ask = c.serve.ensures.net_may_ask;
       shut = c.serve.ensures.shut;
+    })
+
+pub returns-in-Public-clause-outcome : goal.returns-in-Public-clause-outcome
+returns-in-Public-clause-outcome g c =
+    by_public _ _ c.args.command.now c.in-Public.words c.public.result c.in-Public.is (record {
+      outcome = c.public.ensures.outcome;
+      reads = record { files = c.public.ensures.files; lent = c.public.ensures.lent; may_ask = c.public.ensures.may_ask; kept = c.public.ensures.files_kept };
     })
 
 pub returns-in-Client-clause-outcome : goal.returns-in-Client-clause-outcome
