@@ -1,8 +1,8 @@
 //! The tests of what stands below histories: of the outside (`sporc_outside`, and `sporc_real` over
 //! the files, the connections and the random bytes of this machine), of signatures (`lms_ots`,
 //! `lms_tree`, `lms_leaf`, `lms_sign`) and of texts (`sporc_delta`, `sporc_xform`, `sporc_text`,
-//! `sporc_suffix`). They stand in a crate of their own, since a crate with tests is proved twice.
-//! No program stands on it.
+//! `sporc_suffix`, `sporc_screen`). They stand in a crate of their own, since a crate with tests is
+//! proved twice. No program stands on it.
 //!
 //! - `outside`: a file in memory that is appended to, and what a stop leaves of it. The other
 //!   objects in memory are those of the tests of the crates above.
@@ -11,7 +11,7 @@
 //! - `signatures`: keys and signatures are compared with those of Bouncy Castle; a file of leaves
 //!   with the calls that reach its disk.
 //! - `texts`: deltas are compared with the format's examples, and transforms with worked rows and
-//!   with the rules on single marks.
+//!   with the rules on single marks; an editor that types ahead comes to the text shown.
 #![tactic(auto)]
 
 #[cfg(test)]

@@ -3,4 +3,5 @@
 mod chunks;
 mod deltas;
 mod forms;
+mod screens;
 mod transforms;
