@@ -1,5 +1,5 @@
-//! The tests of `sporc_client`. They stand in a crate of their own, since a crate with tests is
-//! proved twice. No program stands on it.
+//! The tests of `sporc_client` and `sporc_evidence`. They stand in a crate of their own, since a
+//! crate with tests is proved twice. No program stands on it.
 //!
 //! Clients sign by real keys, whose leaf files are in memory. What several clients do stands in
 //! rows, which one loop reads.
@@ -11,6 +11,8 @@ mod checks;
 mod devices;
 #[cfg(test)]
 mod editing;
+#[cfg(test)]
+mod evidence;
 #[cfg(test)]
 mod filling;
 #[cfg(test)]

@@ -48,8 +48,13 @@ fn seed_and_identifier(me: Device) -> ([u8; 32], [u8; 16]) {
     (seed, id)
 }
 
-// A signer with the key of a device of a member of the cast, on a disk some of whose calls fail.
-fn signer(rt: &impl Abort, alloc: Global, me: Device, calls: Calls) -> Signer<MemoryDisk> {
+/// A signer with the key of a device of a member of the cast, on a disk some of whose calls fail.
+pub(crate) fn signer(
+    rt: &impl Abort,
+    alloc: Global,
+    me: Device,
+    calls: Calls,
+) -> Signer<MemoryDisk> {
     let (seed, id) = seed_and_identifier(me);
     let tree = Tree::build(alloc, &seed, &id, LmsType::H5, OtsType::W4).expect(rt, "memory");
     let file = blank(alloc, 5).expect(rt, "memory");
