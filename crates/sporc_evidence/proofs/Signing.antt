@@ -1,6 +1,6 @@
 -- A summary that is signed: the draw behind it, and its file.
-use Rattle.std.proofs.Common.{◌≡◌, ℕ, ◌^◌, ◌<◌, ◌≤◌, List, ◌++◌, Result, Ok, Err, refl, sym, ap, subst, arith}
-use Rattle.std.specs.Prelude.{IfErr}
+use Rattle.std.proofs.Common.{◌≡◌, ℕ, ◌^◌, ◌<◌, ◌≤◌, List, ◌++◌, Result, Ok, Err, refl, sym, ap, subst, ◌∙◌, arith}
+use Rattle.std.specs.Prelude.{IfErr, IfOk}
 use Rattle.lms_ots.specs.declared.ots_type.OtsType.{OtsType}
 use Rattle.lms_ots.specs.declared.ots_type.OtsType.TheVariants.{W1}
 use Rattle.lms_ots.specs.OtsType.{ots_signature_len_of}
@@ -44,9 +44,13 @@ leaf_is next leaf (Err LeafFault) e h = absurd cc
 
 -- ---- the file
 
-pub signed_is : (key now : LmsPrivate) (next leaf : ℕ) (c message file : List ℕ) (x : SummaryModel) → now ≡ key → leaf ≡ next → message ≡ signed_string x → file ≡ summary_bytes x
-    → file ++ counted (lms_signature_of now leaf c message) ≡ signed_by key next c x
-signed_is key now next leaf c message file x one two three four = rw (one, two, three, four) refl
+-- what a leaf that was drawn signed so is the file of a summary
+pub signed_is : {X : Type 0} (r : Result X SummaryFault) (items : X → List ℕ) (key now : LmsPrivate) (next leaf : ℕ) (c message file : List ℕ) (x : SummaryModel) → now ≡ key → leaf ≡ next → message ≡ signed_string x → file ≡ summary_bytes x
+    → IfOk r (λ made. items made ≡ file ++ counted (lms_signature_of now leaf c message)) → IfOk r (λ made. items made ≡ signed_by key next c x)
+signed_is (Ok made) items key now next leaf c message file x one two three four h =
+    let e : file ++ counted (lms_signature_of now leaf c message) ≡ signed_by key next c x = rw (one, two, three, four) refl in
+    h ∙ e
+signed_is (Err fault) items key now next leaf c message file x one two three four h = tt
 
 -- ---- how long a signature is
 

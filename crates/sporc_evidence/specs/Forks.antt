@@ -13,7 +13,8 @@ IsChainPrefix genesis entries hashes =
 -- no two different strings that are hashed for two histories have one digest
 abbrev pub AreApart : Genesis → List (List ℕ) → List (List ℕ) → Type 0
 AreApart genesis x y =
-    CollisionFree (chain_strings (genesis_bytes genesis) x ++ chain_strings (genesis_bytes genesis) y)
+    CollisionFree
+    (chain_strings (genesis_bytes genesis) x ++ chain_strings (genesis_bytes genesis) y)
 
 -- two histories have their first k entries in common, and both go on, with different entries: two
 -- were offered for one position

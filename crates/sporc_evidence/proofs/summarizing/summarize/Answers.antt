@@ -1,5 +1,4 @@
-use Rattle.std.proofs.Common.{rules, ◌≡◌, Err, Ok, inr, ap, ◌∙◌}
-use Rattle.std.proofs.lemmas.Result.{IfOk-weaker}
+use Rattle.std.proofs.Common.{rules, ◌≡◌, Err, Ok, inr, ap}
 use Rattle.sporc_evidence.specs.Summary.{summary_of}
 use Rattle.sporc_evidence.specs.Summarizing.{draw_fault}
 use Rattle.sporc_evidence.proofs.Signing.{drew_once, fault_is, leaf_is, signed_is}
@@ -25,6 +24,5 @@ returns-clause-ok g c =
     let ticket = c.in_ok-ticket in
     let draft = c.in_ok-draft in
     let x = summary_of c.args.line.now.genesis c.args.line.now.entries c.args.me c.args.device in
-    IfOk-weaker c.sign_draft.result _ _
-    (λ file h. h ∙ signed_is c.args.signer.now.key c.draw.new.self.key c.args.signer.now.leaves.next ticket.ticket c.args.c.now draft.draft.message draft.draft.file x ticket.ensures.key ticket.ensures.draws.given draft.ensures.message draft.ensures.file)
-    c.sign_draft.ensures.ok
+    signed_is c.sign_draft.result (λ made. made.items) c.args.signer.now.key c.draw.new.self.key c.args.signer.now.leaves.next ticket.ticket c.args.c.now draft.draft.message draft.draft.file x ticket.ensures.key ticket.ensures.draws.given
+    draft.ensures.message draft.ensures.file c.sign_draft.ensures.ok
