@@ -1,1 +1,2 @@
 pub mod AskedReaders
+pub mod AuthorLemmas

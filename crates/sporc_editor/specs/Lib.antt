@@ -1,1 +1,3 @@
 pub mod AskedLines
+pub mod Authors
+pub mod SaidLines
