@@ -1,2 +1,3 @@
 pub mod AskedReaders
 pub mod AuthorLemmas
+mod Examples
