@@ -1,7 +1,9 @@
-//! The tests of foundings and key rings (`sporc_keys`, `sporc_commands`), and of saved histories
-//! (`sporc_store`, `sporc_commands`). They stand in a crate of their own, since a crate with tests
-//! is proved twice. No program stands on it.
+//! The tests of foundings and key rings (`sporc_keys`, `sporc_commands`), of saved histories
+//! (`sporc_store`, `sporc_commands`), and of the lines between the program and an editor
+//! (`sporc_editor`). They stand in a crate of their own, since a crate with tests is proved twice.
+//! No program stands on it.
 //!
+//! - [`editor`]: lines that are spelled out by hand.
 //! - [`founding`]: files of rings, and commands over a folder, a chance and a sink in memory. Files
 //!   are spelled out by hand. The first public key is one that Bouncy Castle made. The second is of
 //!   a Python program that makes the first too, and the commitment a digest of Python's hashlib.
@@ -17,6 +19,8 @@
 mod bytes;
 #[cfg(test)]
 mod checks;
+#[cfg(test)]
+mod editor;
 #[cfg(test)]
 mod founding;
 #[cfg(test)]

@@ -1,0 +1,4 @@
+//! The lines between the program and an editor.
+
+mod asking;
+mod telling;
