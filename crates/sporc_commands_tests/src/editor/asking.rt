@@ -67,8 +67,8 @@ const INSIDE: [(&[u8], Asks); 15] = [
     (b"save", Asks::Save),
 ];
 
-// Lines outside the grammar. Those that are skipped are the caller's, and no line asks by a script's
-// words for edits, which name no line.
+// Lines outside the grammar. Those that are skipped are the caller's, and an edit as scripts have it
+// names no line.
 const OUTSIDE: [&[u8]; 41] = [
     b"",
     b"# pull",
@@ -146,22 +146,30 @@ const KEYED: [(&[u8], Change); 2] = [
     ),
 ];
 
-fn inserts(insertion: &Insertion, at: u64, text: &str) -> bool {
-    insertion.at == at && is_same(insertion.text.as_str().as_bytes(), text.as_bytes())
+fn inserts(seen: u64, insertion: &Insertion, asks: Asks) -> bool {
+    match asks {
+        Asks::Insert(line, at, text) => {
+            seen == line
+                && insertion.at == at
+                && is_same(insertion.text.as_str().as_bytes(), text.as_bytes())
+        }
+        _ => false,
+    }
 }
 
-fn removes(removal: &Removal, at: u64, count: u64) -> bool {
-    removal.at == at && removal.count == count
+fn removes(seen: u64, removal: &Removal, asks: Asks) -> bool {
+    match asks {
+        Asks::Remove(line, at, count) => {
+            seen == line && removal.at == at && removal.count == count
+        }
+        _ => false,
+    }
 }
 
 fn is_asked(asked: &Asked, asks: Asks) -> bool {
     match asked {
-        Asked::Insert { seen, insertion } => {
-            matches!(asks, Asks::Insert(line, at, text) if line == *seen && inserts(insertion, at, text))
-        }
-        Asked::Remove { seen, removal } => {
-            matches!(asks, Asks::Remove(line, at, count) if line == *seen && removes(removal, at, count))
-        }
+        Asked::Insert { seen, insertion } => inserts(*seen, insertion, asks),
+        Asked::Remove { seen, removal } => removes(*seen, removal, asks),
         Asked::Change(change) => matches!(asks, Asks::Change(other) if other == *change),
         Asked::Pull => matches!(asks, Asks::Pull),
         Asked::Sync => matches!(asks, Asks::Sync),

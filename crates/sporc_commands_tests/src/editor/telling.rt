@@ -52,18 +52,10 @@ const CAUSES: [(Cause, &[u8]); 8] = [
     (Cause::Screen(ScreenFault::TooLong), b"refused 3 too-long\n"),
 ];
 
-// The lines that tell of what is outside the text.
-const STATES: &[u8] =
-    b"at 0 pending 0\nat 16384 pending 18446744073709551615\ndropped same-role\naway\nremoved\nsaved 16384\n";
-
 fn is_told(rt: &impl Abort, alloc: Global, said: &Said, line: &[u8]) {
     let mut out = String::new(alloc);
     push_said(&mut out, said).expect(rt, "memory");
     check_same(rt, "a line", out.as_str().as_bytes(), line);
-}
-
-fn tell(rt: &impl Abort, out: &mut String, said: Said) {
-    push_said(out, &said).expect(rt, "memory");
 }
 
 fn delta(rt: &impl Abort, alloc: Global) -> Delta {
@@ -128,32 +120,30 @@ fn a_text_is_told(rt: HostRuntime) {
     is_told(&rt, alloc, &said, line.as_bytes());
 }
 
-fn tell_states(rt: &impl Abort, out: &mut String) {
-    tell(
-        rt,
-        out,
-        Said::At {
-            entries: 0,
-            pending: 0,
-        },
-    );
-    tell(
-        rt,
-        out,
-        Said::At {
-            entries: 16_384,
-            pending: u64::MAX,
-        },
-    );
-    tell(rt, out, Said::Dropped(ChangeFault::SameRole));
-    tell(rt, out, Said::Away);
-    tell(rt, out, Said::Removed);
-    tell(rt, out, Said::Saved { entries: 16_384 });
+fn places_are_told(rt: &impl Abort, alloc: Global) {
+    let none = Said::At {
+        entries: 0,
+        pending: 0,
+    };
+    is_told(rt, alloc, &none, b"at 0 pending 0\n");
+    let most = Said::At {
+        entries: 300,
+        pending: u64::MAX,
+    };
+    is_told(rt, alloc, &most, b"at 300 pending 18446744073709551615\n");
 }
 
 #[test]
 fn states_are_told(rt: HostRuntime) {
-    let mut out = String::new(rt.alloc());
-    tell_states(&rt, &mut out);
-    check_same(&rt, "lines", out.as_str().as_bytes(), STATES);
+    let alloc = rt.alloc();
+    places_are_told(&rt, alloc);
+    is_told(
+        &rt,
+        alloc,
+        &Said::Dropped(ChangeFault::SameRole),
+        b"dropped same-role\n",
+    );
+    is_told(&rt, alloc, &Said::Away, b"away\n");
+    is_told(&rt, alloc, &Said::Removed, b"removed\n");
+    is_told(&rt, alloc, &Said::Saved { entries: 300 }, b"saved 300\n");
 }
