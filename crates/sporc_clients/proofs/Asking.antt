@@ -1,11 +1,9 @@
 -- Files that are asked for, one call after another.
-use Rattle.std.proofs.Common.{◌≡◌, ℕ, zero, suc, ◌+◌, ◌<◌, inl, inr, ⊎_elim, List, [], ◌∷◌, ◌++◌, length, map, Option, Some, None, sym, ap, ◌∙◌, subst, arith, append-nil}
-use Rattle.sporc_clients.proofs.Common.{drop, option_map, map-append, MayAppend, Words, Script, Leaf, History, FileNames, file_name, AsksOnly, own_files, script_files, client_files}
-use Rattle.sporc_clients.proofs.Common.{names_of, All-contains, All-nil, All-push, Contains-append_left, Contains-push, File}
+use Rattle.std.proofs.Common.{◌≡◌, ℕ, ◌+◌, inl, inr, List, [], ◌∷◌, ◌++◌, length, map, Option, Some, None, sym, ap, ◌∙◌, subst, append-nil}
+use Rattle.sporc_clients.proofs.Common.{drop, option_map, map-append, MayAppend, Words, Leaf, History, FileNames, file_name, AsksOnly, own_files, client_files}
+use Rattle.sporc_clients.proofs.Common.{names_of, All-nil, All-push, Contains-push, File}
 use Rattle.std.specs.List.{Contains}
-use Rattle.std.proofs.lemmas.Bool.{cases_lt}
-use Rattle.sporc_base.specs.Numbers.{up_to}
-use Rattle.sporc_files.proofs.Asking.{Among, AsksOnly-trans, asks_first as names_first, asks_then as names_then}
+use Rattle.sporc_files.proofs.Asking.{AsksOnly-trans, asks_first as names_first, asks_then as names_then}
 
 module _ (names : FileNames) where
   -- some of the first files are some of all
@@ -20,27 +18,6 @@ module _ (names : FileNames) where
   asks_then first rest a b c asks more =
       subst (λ (all : List (List ℕ)). AsksOnly all a c) (sym (map-append (file_name names) first rest))
       (names_then (map (file_name names) first) (map (file_name names) rest) a b c asks more)
-
-  -- ---- scripts
-
-  -- one of the scripts of so many editors
-  among_scripts : (count read : ℕ) → read < count → Contains (map (file_name names) (script_files count)) (file_name names (Script (read + 1)))
-  among_scripts zero read less = absurd (omega (arith, less))
-  among_scripts (suc count) read less =
-      let some = map (file_name names) (script_files count) in
-      let last = file_name names (Script (suc count)) in
-      let all : map (file_name names) (script_files (suc count)) ≡ some ++ last ∷ [] =
-      ap (map (file_name names)) (map-append Script (up_to count) (suc count ∷ [])) ∙ map-append (file_name names) (script_files count) (Script (suc count) ∷ []) in
-      subst (λ (l : List (List ℕ)). Contains l (file_name names (Script (read + 1)))) (sym all)
-      (⊎_elim (λ (before : read < count). Contains-append_left some (last ∷ []) _ (among_scripts count read before))
-      (λ past. let at : read ≡ count = omega (arith, past, less) in subst (λ (n : ℕ). Contains (some ++ last ∷ []) (file_name names (Script n))) (omega (arith, at)) (Contains-push some last))
-      (cases_lt read count))
-
-  pub script_among : (count read : ℕ) → read < count → Among names (Script (read + 1) ∷ []) (script_files count)
-  script_among count read less =
-      let all = map (file_name names) (script_files count) in
-      let one = file_name names (Script (read + 1)) in
-      λ name. All-contains (Contains all) (one ∷ []) name (All-push (Contains all) [] one (All-nil (Contains all)) (among_scripts count read less))
 
 -- one name may have been asked for
 one_name : (name : List ℕ) (a b : Option (List (List ℕ))) → MayAppend a b name → AsksOnly (name ∷ []) a b

@@ -6,7 +6,7 @@ use Rattle.sporc_outside.specs.Files.{ChangesFile, with_file}
 use Rattle.sporc_files.specs.declared.fault.Fault.TheVariants as faults
 use Rattle.sporc_files.specs.Reading.{IsFileFault, SaysFileIfThere, any_bytes}
 use Rattle.sporc_clients.specs.Concluding.{history_bytes}
-use Rattle.sporc_clients.specs.declared.member_files.MemberFiles.{MemberFiles}
+use Rattle.sporc_device.specs.declared.member_files.MemberFiles.{MemberFiles}
 
 -- with other words for its names, its files, and the count of the member's editors
 module _ (names : FileNames) (words : Words) (named : names ≡ names_of words) where

@@ -1,15 +1,10 @@
 pub mod Report
-pub mod Resuming
 pub mod Uses
 pub mod Sessions
 pub mod Nets
 pub mod Counts
 pub mod Causes
-pub mod Fetching
-pub mod Opening
 pub mod Concluding
 pub mod Attending
-pub mod MemberFiles
-pub mod LeafFile
 pub mod Outcome
 pub mod Lives

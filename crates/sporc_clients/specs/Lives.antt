@@ -5,7 +5,7 @@ use Rattle.lms_leaf.specs.Lives.{GoesOn, LeafLife, all_given}
 use Rattle.sporc_client.specs.ClientModel.{leaves_of}
 use Rattle.sporc_words.specs.declared.client.Client.{Client as Words}
 use Rattle.sporc_files.specs.declared.fault.Fault.{Fault}
-use Rattle.sporc_clients.specs.declared.member_files.MemberFiles.{MemberFiles}
+use Rattle.sporc_device.specs.declared.member_files.MemberFiles.{MemberFiles}
 use Rattle.sporc_clients.specs.Outcome.{ClientUse, DiskOutcome, not_worked, worked}
 
 module _ {D : Type 0} (disks : D → DiskTold) where

@@ -23,12 +23,12 @@ use Rattle.sporc_files.specs.Reading.{IsFileFault, SaysFileIfThere, any_bytes}
 use Rattle.sporc_clients.specs.Attending.{IsAttended, NotAttended, Signs}
 use Rattle.sporc_clients.specs.Counts.{CountedIfFailed, CountsAround, RoseIfFailed, counts_around}
 use Rattle.sporc_clients.specs.Concluding.{LeavesAreTaken, PrintOutcome, SaveOutcome}
-use Rattle.sporc_clients.specs.Opening.{Begin, begin_with}
+use Rattle.sporc_device.specs.Opening.{Begin, begin_with}
 use Rattle.sporc_clients.specs.declared.session.Wanted.{Wanted}
-use Rattle.sporc_clients.specs.declared.member_files.MemberFiles.{MemberFiles}
+use Rattle.sporc_device.specs.declared.member_files.MemberFiles.{MemberFiles}
 use Rattle.sporc_clients.specs.Causes.{ended}
-use Rattle.sporc_clients.specs.LeafFile.{IsLeafFileFault, IsOpened, KeepsPassed}
-use Rattle.sporc_clients.specs.MemberFiles.{IsMemberFault, SayMember, own_files}
+use Rattle.sporc_device.specs.LeafFile.{IsLeafFileFault, IsOpened, KeepsPassed}
+use Rattle.sporc_device.specs.MemberFiles.{IsMemberFault, SayMember, own_files}
 
 -- ---- what a call found and left
 

@@ -7,35 +7,21 @@ ghost use Rattle.sporc_client.specs.ClientModel.{Rise, leaves_of};
 ghost use Rattle.sporc_entry.specs.Genesis.{IsGenesis};
 ghost use Rattle.sporc_script.specs.declared.limits.TheConstants.{MAX_EDITORS};
 ghost use Rattle.sporc_shared.specs.Items.{disk_faults, past_of};
-ghost use Rattle.sporc_clients.specs.Attending.{IsAttended, NotAttended, begin_at, saved_of};
+ghost use Rattle.sporc_clients.specs.Attending.{IsAttended, NotAttended};
+ghost use Rattle.sporc_device.specs.Resuming.{begin_at, saved_of};
 ghost use Rattle.sporc_clients.specs.Attending.{signs_of};
 ghost use Rattle.sporc_clients.specs.Counts.{CountedIfFailed, RoseIfFailed, counts_around};
 ghost use Rattle.sporc_files.specs.Uses.{AsksAtMost};
-ghost use Rattle.sporc_clients.specs.Opening.{links_for_hints};
+ghost use Rattle.sporc_device.specs.Opening.{links_for_hints};
 
-use crate::platform::Platform;
-use crate::resuming::{resume_client, resume_line};
 use crate::session::{Ended, Wanted};
 use crate::working::work;
 use lms_sign::Signer;
-use sporc_entry::Genesis;
+use sporc_device::{Member, Platform, resume_client, resume_line};
 use sporc_files::Fault;
-use sporc_keys::RingFile;
-use sporc_member::Device;
 use sporc_outside::{Chance, Dial, Gate, LeafDisk};
 use std::sync::Wait;
 use std::thread::Threads;
-
-/// A member of a document, at one of its devices.
-#[derive(Drop)]
-pub struct Member {
-    pub genesis: Genesis,
-    pub device: Device,
-    /// The keys that the member has from the beginning: its devices share them.
-    pub ring: RingFile,
-    /// The bytes of the history that the device saved, if it did.
-    pub saved: Option<Vec<u8>>,
-}
 
 /// Opens a member's line, loads the history that it saved, if it did, and has its client work with
 /// the server at an address. A joiner's hints are fetched over a link of their own before, unless

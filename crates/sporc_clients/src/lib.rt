@@ -10,6 +10,8 @@
 //! 4 hash 5e..
 //! ```
 //!
+//! What a session begins with, from the files of its device to its client, `sporc_device` makes.
+//!
 //! Proved: [`client`] does what `ClientOutcome` says, by its answer. The genesis, the device's key,
 //! the member's ring and the scripts are what their files say; a joiner's keys are the hints of
 //! exactly the entries that were fetched; the device's client goes on with all entries of its saved
@@ -36,16 +38,10 @@ mod attending;
 mod causes;
 mod command;
 mod concluding;
-mod fetching;
 pub mod laws;
-mod leaf_file;
-mod member_files;
-mod opening;
-mod platform;
 mod reporting;
-mod resuming;
 mod session;
 mod working;
 
 pub use crate::command::client;
-pub use crate::platform::Platform;
+pub use sporc_device::Platform;

@@ -8,9 +8,9 @@ ghost use Rattle.sporc_shared.specs.Items.{disk_faults, past_of};
 ghost use Rattle.sporc_clients.specs.Counts.{CountedIfFailed, RoseIfFailed, counts_around};
 ghost use Rattle.sporc_clients.specs.Sessions.{IsSessionOf, link_use};
 
-use crate::platform::Platform;
 use sporc_base::{Items, Memory};
 use sporc_client::Client;
+use sporc_device::Platform;
 use sporc_outside::{Chance, Gate, LeafDisk, Link};
 use sporc_script::EditorScript;
 use sporc_session::{SessionFault, session};

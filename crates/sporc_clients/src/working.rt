@@ -10,9 +10,9 @@ ghost use Rattle.sporc_shared.specs.Items.{disk_faults, past_of};
 ghost use Rattle.sporc_clients.specs.Counts.{CountedIfFailed, RoseIfFailed, counts_around};
 ghost use Rattle.sporc_clients.specs.Nets.{IsWork, NotBegun};
 
-use crate::platform::Platform;
 use crate::session::{Ended, Wanted, run_session};
 use sporc_client::Client;
+use sporc_device::Platform;
 use sporc_files::Fault;
 use sporc_outside::{Chance, Dial, Gate, LeafDisk, Link};
 use std::sync::Wait;

@@ -25,7 +25,7 @@ use Rattle.sporc_hosting.specs.Loading.{ChangesTails, IsNoTail, with_tail_made, 
 use Rattle.sporc_hosting.specs.OpenLogModel.{OpenLogModel}
 use Rattle.sporc_hosting.specs.Saving.{KeepsLogs}
 use Rattle.sporc_clients.specs.Concluding.{SaveOutcome}
-use Rattle.sporc_clients.specs.declared.member_files.MemberFiles.{MemberFiles}
+use Rattle.sporc_device.specs.declared.member_files.MemberFiles.{MemberFiles}
 use Rattle.sporc_clients.specs.Lives.{signed_in}
 use Rattle.sporc_clients.proofs.Lives.{run_is_life}
 use Rattle.sporc_clients.specs.Outcome.{ClientOutcome, ClientUse, DiskOutcome, names_of, no_disk, no_member, not_worked, over_disk, with_folder, worked}

@@ -1,7 +1,8 @@
 use Rattle.std.proofs.Common.{arith}
 use Rattle.sporc_clients.proofs.Common.{shut_then, not_begun, not_resumed}
 use Rattle.sporc_files.proofs.Asking.{asks_less, asks_more}
-use Rattle.sporc_clients.proofs.Resumed.{begun_later, no_client}
+use Rattle.sporc_clients.proofs.WorkedFrom.{begun_later}
+use Rattle.sporc_device.proofs.Resumed.{no_client}
 use Rattle.sporc_clients.proofs.CountsRose.{rose_since}
 use Rattle.sporc_clients.proofs.WorkedFrom.{past_resumed, work_from}
 use Rattle.sporc_clients.proofs.attending.attend.Goals as goal

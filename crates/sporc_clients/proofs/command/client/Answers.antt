@@ -1,6 +1,6 @@
 use Rattle.std.proofs.Common.{List, Option, ℕ, length, map, refl, sym, ap, subst, ◌∙◌, arith}
 use Rattle.sporc_clients.proofs.Common.{err_from_is_err_and, drop, option_map, shut_none, use_of, Leaf, file_name, file_within, AsksOnly, client_files, names_of, no_disk, no_member, over_disk}
-use Rattle.sporc_clients.proofs.Addresses.{one_for_hints}
+use Rattle.sporc_device.proofs.Addresses.{one_for_hints}
 use Rattle.sporc_files.specs.Reading.{any_bytes}
 use Rattle.sporc_files.proofs.Asking.{asks_less, asks_never}
 use Rattle.sporc_clients.proofs.Asking.{asks_all, asks_leaf, asks_member, taken_off}

@@ -3,7 +3,7 @@ use Rattle.sporc_clients.proofs.Common.{shut_none, use_of, ended, file_name, His
 use Rattle.sporc_files.proofs.Asking.{AsksOnly-none, asks_never}
 use Rattle.sporc_clients.specs.Counts.{CountedIfFailed}
 use Rattle.sporc_clients.proofs.Asking.{asks_history, asks_history_again}
-use Rattle.sporc_clients.proofs.LeafFiles.{kept_to}
+use Rattle.sporc_device.proofs.LeafFiles.{kept_to}
 use Rattle.sporc_clients.proofs.Outcomes.{attended_at, file_fault, history_says, not_attended_at, saved_as}
 use Rattle.sporc_clients.proofs.command.with_disk.Goals as goal
 

@@ -2,7 +2,8 @@ use Rattle.std.proofs.Common.{◌≤◌, ℕ, refl, rules, subst, ap, ◌∙◌,
 use Rattle.sporc_clients.proofs.Common.{count_of_both, shut_none, shut_one, out_of_memory, unreached, link_told}
 use Rattle.sporc_clients.proofs.CountsRose.{rose_at_net}
 use Rattle.sporc_clients.proofs.Counting.{as_many, both_kept, one_is_out}
-use Rattle.sporc_clients.proofs.Sessioning.{over_same_link, told_again, link_used}
+use Rattle.sporc_clients.proofs.Sessioning.{over_same_link}
+use Rattle.sporc_device.proofs.LinksUsed.{told_again, link_used}
 use Rattle.sporc_clients.proofs.working.work.Goals as goal
 
 pub take_back-requires : goal.take_back-requires

@@ -1,0 +1,9 @@
+pub mod Addresses
+pub mod LeafFiles
+pub mod LinksUsed
+pub mod Scripts
+pub mod ScriptFiles
+pub mod Members
+pub mod OpenedLines
+pub mod Resumed
+pub mod Common
