@@ -7,8 +7,8 @@
 //!
 //! Proved: which messages are sent and which come; that the client's log grows by an accept by 0 of
 //! each entry, up to one that removes its device, and that the first that it refuses decides; why
-//! it stops. Only tested: that it doesn't run out of memory if there is ample. Neither: that an
-//! answer comes, and how long a call takes.
+//! it stops. Neither proved nor tested: that memory suffices if there is ample, that an answer
+//! comes, and how long a call takes.
 #![tactic(auto)]
 
 mod fault;
